@@ -59,32 +59,33 @@ pub fn check_by<'a, R: Files + AllocGlobal>(
     ensures same { ◌≡◌ {A = Asked → Bool} (λ q. is_among answers.new q) (λ q. is_among answers.old q) }
 {
     let mut passing = Pass::new();
-    let mut hashed = Hashed::new();
-    check_by_with(rt, words, trust, answers, &mut passing, &mut hashed)
+    let mut hashed = Hashed::of(trust);
+    check_by_with(rt, words, answers, &mut passing, &mut hashed)
 }
 
-/// The same with a window and digests that serve for another file afterwards, too. What they hold of earlier files
-/// changes nothing of what is said of this one.
+/// The same under the trust list of `hashed`, with a window and digests that serve for another file afterwards, too. What
+/// they hold of earlier files changes nothing of what is said of this one.
 ///
 /// Errors: those of `check` after its lists were read: a file cannot be opened or read, memory is refused, or the file
 /// is refused.
-pub fn check_by_with<'a, 'l, R: Files + AllocGlobal>(
+pub fn check_by_with<'a, R: Files + AllocGlobal>(
     rt: &R,
     words: &CheckWords<'a>,
-    trust: &'l Trust,
     answers: &mut Answers,
     passing: &mut Pass,
-    hashed: &mut Hashed<'l>,
+    hashed: &mut Hashed,
 ) -> Result<Vec<u8>, Failure<'a>>
     // If the lists are those of files, the line and the failure are those of `check`.
-    ensures accepted { IsTrustOf R.File.remaining trust.now → IsAnswersOf R.File.remaining answers.old
+    ensures accepted { IsTrustOf R.File.remaining hashed.old → IsAnswersOf R.File.remaining answers.old
         → IfOk result (λ line. (file : R.File) × ShowsAccepted R.File.remaining words.now
         (R.File.remaining file) line.items) }
     // The same of the failure.
-    ensures refused { IsTrustOf R.File.remaining trust.now → IsAnswersOf R.File.remaining answers.old
+    ensures refused { IsTrustOf R.File.remaining hashed.old → IsAnswersOf R.File.remaining answers.old
         → IfErr result (ShowsRefused R.File.remaining words.now) }
     // What the answers list vouches for stays the same.
     ensures same { ◌≡◌ {A = Asked → Bool} (λ q. is_among answers.new q) (λ q. is_among answers.old q) }
+    // The trust list stays the same.
+    ensures listed { hashed.new ≡ hashed.old }
 {
     let mut content = files::content_of(rt, words.content)?;
     let mut file = Rereadable {
@@ -100,7 +101,6 @@ pub fn check_by_with<'a, 'l, R: Files + AllocGlobal>(
         &mut content,
         stated,
         limit,
-        trust,
         &policy,
         answers,
         passing,
@@ -117,24 +117,25 @@ pub fn check_by_with<'a, 'l, R: Files + AllocGlobal>(
 /// be read again, and about nothing else.
 ///
 /// Errors: the verdicts of `verdict_of`; memory that is refused.
-fn verdict_within<'l, F: Read + Seek, S: Source>(
+fn verdict_within<F: Read + Seek, S: Source>(
     alloc: Global,
     file: &mut Rereadable<F>,
     content: &mut Option<S>,
     stated: Option<u64>,
     limit: u64,
-    trust: &'l Trust,
     policy: &Policy,
     answers: &mut Answers,
     passing: &mut Pass,
-    hashed: &mut Hashed<'l>,
+    hashed: &mut Hashed,
 ) -> Result<Result<Accepted, Refused>, AllocError>
     // The verdict is that of one pass with as much room as the limit: a pass with less gives the same, unless it is X3.
     ensures judged { IfOk result (λ verdict. OfReading F.stream_position F.remaining (λ octets. ChecksStream
-        (facts_of S.tells S.rest S.failures) (terms_of policy.now trust.now (λ q. is_among answers.old q)) octets
+        (facts_of S.tells S.rest S.failures) (terms_of policy.now hashed.old (λ q. is_among answers.old q)) octets
         content.old content.new) file.old.file limit file.old.failed file.new.failed content.old content.new verdict) }
     // What the answers list vouches for stays the same.
     ensures same { ◌≡◌ {A = Asked → Bool} (λ q. is_among answers.new q) (λ q. is_among answers.old q) }
+    // The trust list stays the same.
+    ensures listed { hashed.new ≡ hashed.old }
 {
     let again = stated.is_some();
     let mut rooms = Rooms::first(stated, limit);
@@ -145,7 +146,6 @@ fn verdict_within<'l, F: Read + Seek, S: Source>(
             again,
             content,
             buffer.as_mut_slice(),
-            trust,
             policy,
             answers,
             passing,
@@ -165,7 +165,6 @@ fn verdict_within<'l, F: Read + Seek, S: Source>(
         again,
         content,
         buffer.as_mut_slice(),
-        trust,
         policy,
         answers,
         passing,
@@ -186,75 +185,71 @@ fn is_too_long(verdict: &Result<Accepted, Refused>) -> bool
 /// algorithms; and a content that is handed in is read when the file's signers are known, so it needs no hint.
 ///
 /// Errors: as `check_stream`; X1 also if a regular file can't go back to its front.
-fn verdict_of<'l, F: Read + Seek, S: Source>(
+fn verdict_of<F: Read + Seek, S: Source>(
     file: &mut Rereadable<F>,
     again: bool,
     content: &mut Option<S>,
     buffer: &mut [u8],
-    trust: &'l Trust,
     policy: &Policy,
     answers: &mut Answers,
     passing: &mut Pass,
-    hashed: &mut Hashed<'l>,
+    hashed: &mut Hashed,
 ) -> Result<Accepted, Refused>
     // The verdict is that of one pass over the file, independent of the algorithms that the file names: X1 if that pass
     // failed or could not begin, X3 if it had too little room, otherwise the verdict about the octets that the file had
     // left as it began.
     ensures judged { OfReading F.stream_position F.remaining (λ octets. ChecksStream
-        (facts_of S.tells S.rest S.failures) (terms_of policy.now trust.now (λ q. is_among answers.old q)) octets
+        (facts_of S.tells S.rest S.failures) (terms_of policy.now hashed.old (λ q. is_among answers.old q)) octets
         content.old content.new) file.old.file (length buffer.old) file.old.failed file.new.failed
         content.old content.new result }
     // After X3 the content was not read, and no device failed.
     ensures untouched { IsTooLong result → (content.new ≡ content.old) × (file.new.failed ≡ file.old.failed) }
     // What the answers list vouches for stays the same.
     ensures same { ◌≡◌ {A = Asked → Bool} (λ q. is_among answers.new q) (λ q. is_among answers.old q) }
+    // The trust list stays the same.
+    ensures listed { hashed.new ≡ hashed.old }
 {
     if content.is_none() && again {
-        verdict_by_hint(
-            file, content, buffer, trust, policy, answers, passing, hashed,
-        )
+        verdict_by_hint(file, content, buffer, policy, answers, passing, hashed)
     } else {
-        check_stream_with(
-            passing, hashed, file, content, buffer, trust, policy, answers,
-        )
+        check_stream_with(passing, hashed, file, content, buffer, policy, answers)
     }
 }
 
 /// The same for a file that can go back to its front. Its content is hashed by the algorithms that its digestAlgorithms
 /// name; if a signer needs another one, which is no fault, the file is read again, and hashed by all.
-fn verdict_by_hint<'l, F: Read + Seek, S: Source>(
+fn verdict_by_hint<F: Read + Seek, S: Source>(
     file: &mut Rereadable<F>,
     content: &mut Option<S>,
     buffer: &mut [u8],
-    trust: &'l Trust,
     policy: &Policy,
     answers: &mut Answers,
     passing: &mut Pass,
-    hashed: &mut Hashed<'l>,
+    hashed: &mut Hashed,
 ) -> Result<Accepted, Refused>
     ensures judged { OfReading F.stream_position F.remaining (λ octets. ChecksStream
-        (facts_of S.tells S.rest S.failures) (terms_of policy.now trust.now (λ q. is_among answers.old q)) octets
+        (facts_of S.tells S.rest S.failures) (terms_of policy.now hashed.old (λ q. is_among answers.old q)) octets
         content.old content.new) file.old.file (length buffer.old) file.old.failed file.new.failed
         content.old content.new result }
     // After X3 the content was not read, and no device failed.
     ensures untouched { IsTooLong result → (content.new ≡ content.old) × (file.new.failed ≡ file.old.failed) }
     // What the answers list vouches for stays the same.
     ensures same { ◌≡◌ {A = Asked → Bool} (λ q. is_among answers.new q) (λ q. is_among answers.old q) }
+    // The trust list stays the same.
+    ensures listed { hashed.new ≡ hashed.old }
 {
     let Ok(listed) = file.listed(passing) else {
         return Err(Refused::Device(DeviceFault::ReadFailed));
     };
     if let Some(verdict) = check_stream_by_with(
-        passing, hashed, file, content, buffer, trust, policy, answers, listed,
+        passing, hashed, file, content, buffer, policy, answers, listed,
     ) {
         return verdict;
     }
     let Ok(()) = file.rewind() else {
         return Err(Refused::Device(DeviceFault::ReadFailed));
     };
-    check_stream_with(
-        passing, hashed, file, content, buffer, trust, policy, answers,
-    )
+    check_stream_with(passing, hashed, file, content, buffer, policy, answers)
 }
 
 /// The line of a verdict, if there is memory: writing to a vector fails only if it is refused.

@@ -41,7 +41,7 @@ where
     let trust = trust_in(rt, each.trust)?;
     let mut answers = answers_in(rt, each.answers)?;
     let mut passing = Pass::new();
-    let mut hashed = Hashed::new();
+    let mut hashed = Hashed::of(&trust);
     let mut worst = Status::Done;
     for path in paths {
         let words = CheckWords {
@@ -52,7 +52,7 @@ where
             buffer: each.buffer,
             file: path,
         };
-        let said = check_by_with(rt, &words, &trust, &mut answers, &mut passing, &mut hashed);
+        let said = check_by_with(rt, &words, &mut answers, &mut passing, &mut hashed);
         worst = worse(worst, put_said(rt.alloc(), path, &said, out)?);
     }
     Ok(worst)

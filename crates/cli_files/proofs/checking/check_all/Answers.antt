@@ -1,6 +1,8 @@
-use Rattle.std.proofs.Common.{◌+◌, ℕ, List, [], get_or, refl, inl, inr, arith}
+use Rattle.std.proofs.Common.{◌+◌, ℕ, List, [], get_or, refl, sym, subst, inl, inr, arith}
 use Rattle.std.specs.Borrow.{Bor}
 use Rattle.std.proofs.lemmas.Result.{err_from_is_err_and}
+use Rattle.trust_lists.specs.Entries.{EntryValue}
+use Rattle.cli_commands.specs.Lists.{IsTrustOf}
 use Rattle.cli_files.specs.Lines.{IsLine, none, check_of}
 use Rattle.cli_files.specs.Names.{line_of}
 use Rattle.cli_files.proofs.Taking.{appends_none}
@@ -15,6 +17,7 @@ returns-in_err-answers-clause-refused g c =
 pub loop-path-init : goal.loop-path-init
 loop-path-init g c = record {
   told = ([], none, appends_none (g.O.Write.contents c.args.out.now));
+  trusted = subst (λ (es : List EntryValue). IsTrustOf g.R.File.Read.remaining es) (sym c.of-hashed.ensures) c.in_ok-trust.ensures.found;
   answers = c.in_ok-answers.ensures.found;
 }
 
@@ -34,13 +37,14 @@ loop-path-preserved g c =
               text,
               said_by (λ (v : _). v.items) g.R.File.Read.remaining (check_of c.args.each.now path) c.check_by_with-said.result text
                   c.in_ok-put_said.field-0 said
-                  (c.check_by_with-said.ensures.accepted c.in_ok-trust.ensures.found h.answers)
-                  (c.check_by_with-said.ensures.refused c.in_ok-trust.ensures.found h.answers),
+                  (c.check_by_with-said.ensures.accepted h.trusted h.answers)
+                  (c.check_by_with-said.ensures.refused h.trusted h.answers),
               refl,
             );
             takes = took;
             worse = c.worse-worst.ensures;
           });
+      trusted = subst (λ (es : List EntryValue). IsTrustOf g.R.File.Read.remaining es) (sym c.check_by_with-said.ensures.listed) h.trusted;
       answers = still_answers g.R.File.Read.remaining _ _ c.check_by_with-said.ensures.same h.answers;
     }
 
@@ -57,8 +61,8 @@ returns-in_err-put_said-clause-refused g c =
           (g.O.Write.contents c.put_said.new.out) c.loop-path.worst ends (line_of path.now text) c.loop-path-test.true h.told (
             text,
             said_by (λ (v : _). v.items) g.R.File.Read.remaining (check_of c.args.each.now path) c.check_by_with-said.result text ends said
-                (c.check_by_with-said.ensures.accepted c.in_ok-trust.ensures.found h.answers)
-                (c.check_by_with-said.ensures.refused c.in_ok-trust.ensures.found h.answers),
+                (c.check_by_with-said.ensures.accepted h.trusted h.answers)
+                (c.check_by_with-said.ensures.refused h.trusted h.answers),
             refl,
           ) begun,
     ))

@@ -36,6 +36,7 @@ pub fn ask<'a, R: Files + AllocGlobal, O: Write>(
 }
 
 /// The same under a list that was read, and that serves for another file afterwards.
+#[inline(never)]
 pub fn ask_by<'a, R: Files + AllocGlobal, O: Write>(
     rt: &R,
     words: &QuestionsWords<'a>,

@@ -42,6 +42,7 @@ pub fn check<'a, R: Files + AllocGlobal>(
 }
 
 /// The same under lists that were read, and that serve for another file afterwards.
+#[inline(never)]
 pub fn check_by<'a, R: Files + AllocGlobal>(
     rt: &R,
     words: &CheckWords<'a>,

@@ -33,6 +33,7 @@ const COMMENT: &[u8] = b"# ";
 ///
 /// Errors: those of the list; memory that is refused for a line; an output that fails. After them no other file is
 /// opened.
+#[inline(never)]
 pub fn ask_all<'a, R, O>(
     rt: &R,
     each: &QuestionsEach<'a>,

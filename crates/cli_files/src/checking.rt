@@ -21,6 +21,7 @@ use std::rt::Files;
 ///
 /// Errors: those of a list; memory that is refused for a line; an output that fails. After them no other file is
 /// opened.
+#[inline(never)]
 pub fn check_all<'a, R, O>(
     rt: &R,
     each: &CheckEach<'a>,

@@ -3,10 +3,11 @@ ghost use Rattle.std.specs.Io.KnownBytes.{Appends, Keeps};
 ghost use Rattle.check_questions_stream.specs.StreamQuestions.{CountsReads};
 ghost use Rattle.cli_commands.specs.Asking.{AsksReading, ShowsQuestions, AsksNot, KeepsUnlessFailed, failure_of};
 ghost use Rattle.cli_commands.specs.Lists.{IsTrustOf};
+ghost use Rattle.cli_commands.specs.Rereading.{IsLimitFor};
 
 use crate::lists;
 use crate::output::put_questions;
-use crate::rereading::Rereadable;
+use crate::rereading::{Describes, Rereadable};
 use crate::room::{Rooms, limit_of};
 use cli_failures::{Failure, files};
 use cli_tasks::QuestionsWords;
@@ -79,12 +80,34 @@ pub fn ask_by_with<'a, R: Files + AllocGlobal, O: Write>(
         file: files::open(rt, words.file)?,
         failed: 0,
     };
-    let stated = file.stated();
-    let limit = limit_of(words.buffer, stated.is_some());
-    match asked_within(rt.alloc(), &mut file, stated, limit, trust, out, passing)? {
+    match asked_as_stated(rt.alloc(), &mut file, words.buffer, trust, out, passing)? {
         Ok(()) => Ok(()),
         Err(fault) => Err(failure_of(words.file, fault)),
     }
+}
+
+/// Prints the text of the questions of a file from which nothing was read, and of which no more octets may be kept than
+/// the words say, if they do. What the file says of itself decides otherwise, and only that.
+///
+/// Errors: those of `asked_within`.
+fn asked_as_stated<F: Read + Seek + Describes, O: Write>(
+    alloc: Global,
+    file: &mut Rereadable<F>,
+    said: Option<u64>,
+    trust: &Trust,
+    out: &mut O,
+    passing: &mut Pass,
+) -> Result<Result<(), StreamQuestionsFault>, AllocError>
+    // It is one pass with as much room as the limit of this file.
+    ensures asked { IfOk result (λ asked. (limit : ℕ) × IsLimitFor F.says file.old.file said limit
+        × AsksReading F.stream_position F.remaining trust.now file.old.file limit asked (O.contents out.old)
+        (O.contents out.new)) }
+    // If memory is refused, nothing was printed.
+    ensures kept { OnErr result (Keeps (O.contents out.old) (O.contents out.new)) }
+{
+    let stated = file.stated();
+    let limit = limit_of(said, stated.is_some());
+    asked_within(alloc, file, stated, limit, trust, out, passing)
 }
 
 /// Prints the text of the questions of a file from which nothing was read, which says that it is this long if it can be

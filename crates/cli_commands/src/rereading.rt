@@ -1,10 +1,31 @@
-ghost use Rattle.std.specs.Prelude.{unwrap_or, [], OnOk};
+ghost use Rattle.std.specs.Prelude.{Option, unwrap_or, [], OnOk};
+ghost use Rattle.std.specs.declared.fs.Metadata.{Metadata};
 ghost use Rattle.devices.specs.Device.{Counts};
-ghost use Rattle.cli_commands.specs.Rereading.{IsAtFront, IsKnown};
+ghost use Rattle.cli_commands.specs.Rereading.{IsAtFront, IsKnown, States};
 
 use cmsproof_api::{Algs, Pass, Source, SourceFault};
-use std::fs::OpenFile;
+use std::fs::{Metadata, OpenFile};
 use std::io::{Read, Seek};
+
+/// An open file that says of itself what it is.
+pub(crate) trait Describes {
+    // What it may say. No contract of `OpenFile` says so of a file: here a name stands for it.
+    ghost says: { Self → Option Metadata → Type 0 };
+
+    /// What it says, if it says something.
+    fn about(&self) -> Option<Metadata>
+        ensures { says self.now result };
+}
+
+impl<F: OpenFile> Describes for F {
+    ghost use Rattle.std.specs.Prelude.{⊤};
+
+    ghost says = { λ _ _. ⊤ };
+
+    fn about(&self) -> Option<Metadata> {
+        self.metadata().ok()
+    }
+}
 
 /// An open file as a source, which can be read again from its front.
 ///
@@ -75,11 +96,13 @@ impl<F: Read + Seek> Rereadable<F> {
     }
 }
 
-impl<F: OpenFile> Rereadable<F> {
+impl<F: Describes> Rereadable<F> {
     /// How many octets it says that it has, if it is a regular file, which can be read more than once; a pipe isn't.
-    pub fn stated(&self) -> Option<u64> {
-        match self.file.metadata() {
-            Ok(about) if about.is_file() => Some(about.len()),
+    pub fn stated(&self) -> Option<u64>
+        ensures { States F.says self.now.file result }
+    {
+        match self.file.about() {
+            Some(about) if about.is_file() => Some(about.len()),
             _ => None,
         }
     }

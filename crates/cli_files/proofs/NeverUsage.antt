@@ -144,6 +144,13 @@ module _ {F : Type 0} (holds : F → Option (List ℕ)) where
   all_not_usage (each.Questions words) paths text worst (trust, asked, is, told, same) =
       lines_not_usage (IsAsked holds words) (asked_line words) paths asked worst told
 
+  -- a failure was reported by its status, or its line was lost
+  pub ends_so : (f : Failure) (result : Status)
+      → (result ≡ status_of f) ⊎ ((status_of f ≡ status.Malformed) × (result ≡ status.Failed))
+      → (result ≡ status_of f) ⊎ (result ≡ status.Failed)
+  ends_so f result (inl same) = inl same
+  ends_so f result (inr (malformed, failed)) = inr failed
+
   -- a failure that was reported: of a list, before which nothing was printed, or of a line that was not printed
   fails_so : {X Y : Type 0} (e : Each) (f : Failure) → (IsFailureOfList holds e f × X) ⊎ (IsLost f × Y)
       → (status_of f ≡ status.Malformed) ⊎ (status_of f ≡ status.Failed)

@@ -5,8 +5,11 @@ use Rattle.std.proofs.Math.Seq.{take-append_seam, take-append-add}
 use Rattle.std.proofs.lemmas.Bool.{cases_lt}
 use Rattle.std.proofs.lemmas.List.{take-append-drop, take-append-le, take_all, length-drop}
 use Rattle.std.proofs.KnownBytes.{Appends-kept}
+use Rattle.std.proofs.Common.{Result, Ok, Err}
+use Rattle.std.specs.Prelude.{IfErr, OnOk}
 use Rattle.std.specs.Io.KnownBytes.{Appends, Keeps}
-use Rattle.cli_files.specs.Lines.{Begins}
+use Rattle.cli_failures.specs.declared.failure.Failure.{Failure}
+use Rattle.cli_files.specs.Lines.{Begins, IsLost}
 
 -- the octets up to those that are left
 pub record UpTo (octets left : List ℕ) (before after : Option (List ℕ)) : Type 0 where
@@ -36,6 +39,12 @@ begins_whole a b text took = (
   length text,
   subst (λ (bs : List ℕ). Appends a b bs) (sym (take_all (length text) text (omega arith))) took,
 )
+
+-- the whole text, or a beginning of one that was lost
+pub begins_either : {T : Type 0} (a b : Option (List ℕ)) (text : List ℕ) (printed : Result T Failure)
+    → OnOk printed (Appends a b text) → IfErr printed (λ f. IsLost f × Begins a b text) → Begins a b text
+begins_either a b text (Ok u) whole cut = begins_whole a b text whole
+begins_either a b text (Err f) whole (lost, cut) = cut
 
 -- a beginning behind a text
 pub begins_behind : (a b c : Option (List ℕ)) (s t : List ℕ) → Appends a b s → Begins b c t → Begins a c (s ++ t)

@@ -33,7 +33,7 @@ use Rattle.cli_commands.specs.Asking.{AsksNot, ShowsQuestions}
 use Rattle.cli_commands.specs.Lists.{IsFailureOfAnswers, IsFailureOfTrust, IsTrustOf}
 use Rattle.cli_commands.specs.Tasks.{MakesText, MakesNoText}
 use Rattle.cli_files.specs.Names.{heading_of, line_of}
-use Rattle.cli_files.specs.Paths.{end_of, path_of_name, names_of}
+use Rattle.cli_files.specs.Paths.{ListsNone, end_of, path_of_name, names_of}
 
 -- the check of one of the files alone
 abbrev pub check_of : CheckEach → (path : Bor (List ℕ)) → TextTask
@@ -141,13 +141,18 @@ abbrev pub EndsFiles : {F : Type 0} → (holds : F → Option (List ℕ)) → Ea
 EndsFiles holds e paths ends before after = TellsFiles holds e paths ends before after
     ⊎ ((ends ≡ status.Failed) × Stops holds e paths before after)
 
--- these are the files: those that the words name, or those that a file names
+-- these are the files: those that the words name, or those that a file names, which names some, all in UTF-8
 abbrev pub AreFiles : {F : Type 0} → (holds : F → Option (List ℕ)) → Several → List (Bor (List ℕ)) → Type 0
 AreFiles holds (several.Words words) paths = paths ≡ words.items
 AreFiles holds (several.Listed words) paths = (text : List ℕ) × IsHeld holds text
-    × (map (λ p. p.now) paths ≡ map path_of_name (names_of (end_of words.null) text))
+    × ¬ (ListsNone (end_of words.null) text) × (map (λ p. p.now) paths ≡ map path_of_name (names_of (end_of words.null) text))
 
--- the same of the files that a command is asked of
+-- the files are in a list that names none, or in which a name isn't UTF-8
+abbrev pub AreUnlisted : {F : Type 0} → (holds : F → Option (List ℕ)) → Several → Type 0
+AreUnlisted holds (several.Words words) = ⊥
+AreUnlisted holds (several.Listed words) = (text : List ℕ) × IsHeld holds text × ListsNone (end_of words.null) text
+
+-- a writer took all that is printed of the files that a command is asked of, as TellsFiles says
 abbrev pub TellsMany : {F : Type 0} → (holds : F → Option (List ℕ)) → Many → Status
     → (before after : Option (List ℕ)) → Type 0
 TellsMany holds many ends before after = (paths : List (Bor (List ℕ))) × AreFiles holds many.files paths

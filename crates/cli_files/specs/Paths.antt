@@ -1,5 +1,5 @@
 -- The paths in a list of files.
-use Rattle.std.specs.Prelude.{ℕ, Bool, true, false, if◌then◌else◌, List, [], ◌∷◌, bytes_eq, codes}
+use Rattle.std.specs.Prelude.{◌≡◌, ⊤, ◌⊎◌, ℕ, Bool, true, false, if◌then◌else◌, List, [], ◌∷◌, IsUtf8, bytes_eq, codes}
 use Rattle.list_texts.specs.Texts.{parts}
 
 -- behind the last octet that ends a name there is one more, if there are octets
@@ -24,3 +24,12 @@ path_of_name name = if bytes_eq name (codes "-") then codes "./-" else name
 abbrev pub end_of : (null : Bool) → ℕ
 end_of true = 0
 end_of false = 10
+
+-- each name is UTF-8, as a path is
+abbrev pub AreUtf8 : (names : List (List ℕ)) → Type 0
+AreUtf8 [] = ⊤
+AreUtf8 (name ∷ names) = IsUtf8 name × AreUtf8 names
+
+-- a text that lists no files: it names none, or a name isn't UTF-8
+abbrev pub ListsNone : (end : ℕ) → (text : List ℕ) → Type 0
+ListsNone end text = (names_of end text ≡ []) ⊎ ¬ (AreUtf8 (names_of end text))

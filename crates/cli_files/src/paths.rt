@@ -1,6 +1,6 @@
 //! The paths in a list of files.
-ghost use Rattle.std.specs.Prelude.{◌≡◌, ◌∷◌, ◌<◌, IfOk, IfSome, length, map};
-ghost use Rattle.cli_files.specs.Paths.{names_of, path_of_name};
+ghost use Rattle.std.specs.Prelude.{◌≡◌, ◌∷◌, ◌<◌, IfOk, MatchOption, length, map};
+ghost use Rattle.cli_files.specs.Paths.{AreUtf8, names_of, path_of_name};
 
 use std::alloc::{AllocError, Global};
 use std::str;
@@ -27,8 +27,10 @@ fn path_of(name: &str) -> &str
 
 /// The paths of a text in which each name ends in this octet, if they are UTF-8; the last may be without it.
 pub fn paths_in(alloc: Global, text: &[u8], end: u8) -> Result<Option<Vec<&str>>, AllocError>
-    ensures { IfOk result (λ paths. IfSome paths (λ ps.
-        map (λ p. p.now) ps.items ≡ map path_of_name (names_of end text.now))) }
+    // They are there exactly if each name is UTF-8.
+    ensures { IfOk result (λ paths. MatchOption paths (¬ (AreUtf8 (names_of end text.now)))
+        (λ ps. AreUtf8 (names_of end text.now)
+        × (map (λ p. p.now) ps.items ≡ map path_of_name (names_of end text.now)))) }
 {
     let mut paths = Vec::new(alloc);
     let mut left = text;

@@ -1,9 +1,9 @@
 //! What a command does that is asked of several files.
-ghost use Rattle.std.specs.Prelude.{◌≡◌, ◌≢◌, ◌⊎◌, ℕ, List, IfErr, IfOk, map};
+ghost use Rattle.std.specs.Prelude.{◌≡◌, ◌≢◌, ◌⊎◌, ℕ, List, IfErr, IfOk, OnOk, codes, map};
 ghost use Rattle.std.specs.Io.KnownBytes.{Appends};
-ghost use Rattle.cli_failures.specs.Failures.{status_of};
-ghost use Rattle.cli_files.specs.Lines.{AreAll, EndsFiles, EndsMany, IsCut, IsFailureOfList, IsLost};
-ghost use Rattle.cli_files.specs.Paths.{end_of, names_of, path_of_name};
+ghost use Rattle.cli_failures.specs.Failures.{failure_text, said, status_of};
+ghost use Rattle.cli_files.specs.Lines.{AreAll, AreUnlisted, EndsFiles, EndsMany, IsCut, IsFailureOfList, IsLost};
+ghost use Rattle.cli_files.specs.Paths.{ListsNone, end_of, names_of, path_of_name};
 
 use crate::asking::ask_all;
 use crate::checking::check_all;
@@ -28,11 +28,13 @@ where
     R: Files + AllocGlobal,
     O: Write,
     E: Write,
-    // The output took what is printed of all the files, and the status is the worst of theirs; or it took the line of a
-    // list that isn't as it must be; or the command failed and stopped, and the output took a beginning of that, if it
-    // is known what it takes.
+    // With a status other than `Usage` the output took what is printed of all the files, and the status is the worst of
+    // theirs; or it took the line of a list that isn't as it must be; or the command failed and stopped, and the output
+    // took a beginning of that, if it is known what it takes. A list of the files names some, all in UTF-8.
     ensures told { result ≢ Status.Usage → EndsMany R.File.remaining many.now.each many.now.files result
         (O.contents out.old) (O.contents out.new) }
+    // With `Usage` the files are in a list that names none, or in which a name isn't UTF-8.
+    ensures usage { result ≡ Status.Usage → AreUnlisted R.File.remaining many.now.files }
     // If the list of files isn't as it must be, nothing is printed on the standard output.
     ensures silent { result ≡ Status.Usage → out.new ≡ out.old }
     // Only that, and what stops the command, is printed on the other output.
@@ -58,6 +60,7 @@ where
     E: Write,
     ensures told { result ≢ Status.Usage → EndsMany R.File.remaining each.now (Several.Listed words.now) result
         (O.contents out.old) (O.contents out.new) }
+    ensures usage { result ≡ Status.Usage → AreUnlisted R.File.remaining (Several.Listed words.now) }
     ensures silent { result ≡ Status.Usage → out.new ≡ out.old }
     ensures quiet { (result ≡ Status.Usage) ⊎ ((result ≡ Status.Failed) ⊎ (err.new ≡ err.old)) }
 {
@@ -84,7 +87,11 @@ fn end_of(null: bool) -> u8
 fn named_in(alloc: Global, text: &[u8], null: bool) -> Result<Vec<&str>, Failure<'static>>
     ensures named { IfOk result (λ paths.
         map (λ p. p.now) paths.items ≡ map path_of_name (names_of (end_of null) text.now)) }
-    ensures refused { IfErr result (λ f. (status_of f ≡ Status.Failed) ⊎ (status_of f ≡ Status.Usage)) }
+    // They are some, each in UTF-8.
+    ensures some { OnOk result (¬ (ListsNone (end_of null) text.now)) }
+    // Only then it is a usage fault, of the option that names the list.
+    ensures refused { IfErr result (λ f. (f ≡ Failure.Memory) ⊎ ((status_of f ≡ Status.Usage)
+        × (failure_text f ≡ said (codes "usage") (codes "files-from")) × ListsNone (end_of null) text.now)) }
 {
     match paths_in(alloc, text, end_of(null))? {
         Some(paths) if !paths.is_empty() => Ok(paths),

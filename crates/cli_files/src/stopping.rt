@@ -1,5 +1,5 @@
 //! What is reported when a command stops.
-ghost use Rattle.std.specs.Prelude.{◌≡◌, ◌⊎◌, IfErr, OnOk};
+ghost use Rattle.std.specs.Prelude.{◌≡◌, ◌⊎◌, IfErr, MatchResult, OnOk};
 ghost use Rattle.std.specs.Io.KnownBytes.{Appends};
 ghost use Rattle.cli_failures.specs.Failures.{failure_text, status_of};
 ghost use Rattle.cli_files.specs.Lines.{Begins, IsLost};
@@ -17,7 +17,9 @@ pub fn stop<O: Write, E: Write>(
     out: &mut O,
     err: &mut E,
 ) -> Status
-    ensures status { (result ≡ status_of failure.now) ⊎ (result ≡ Status.Failed) }
+    // It is the status of the failure, but for a line on the standard output that was lost.
+    ensures status { (result ≡ status_of failure.now)
+        ⊎ ((status_of failure.now ≡ Status.Malformed) × (result ≡ Status.Failed)) }
     ensures told { result ≡ Status.Malformed → Appends (O.contents out.old) (O.contents out.new)
         (failure_text failure.now) }
     ensures cut { Begins (O.contents out.old) (O.contents out.new) (failure_text failure.now) }
@@ -25,11 +27,24 @@ pub fn stop<O: Write, E: Write>(
     ensures quiet { (result ≡ Status.Malformed) → err.new ≡ err.old }
 {
     match failure.status() {
-        Status::Malformed => match put_text(alloc, failure, out) {
-            Ok(()) => Status::Malformed,
-            Err(lost) => lost.report_error(err),
-        },
+        Status::Malformed => ended(failure, put_text(alloc, failure, out), err),
         _ => failure.report_error(err),
+    }
+}
+
+/// How a command ended that printed the line of a failure, or lost it, which it reports on the standard error.
+fn ended<E: Write>(
+    failure: &Failure<'_>,
+    printed: Result<(), Failure<'_>>,
+    err: &mut E,
+) -> Status
+    // It is the status of the failure, unless its line was lost.
+    ensures status { MatchResult printed.entry (λ _. result ≡ status_of failure.now) (λ lost. result ≡ status_of lost) }
+    ensures quiet { OnOk printed.entry (err.new ≡ err.old) }
+{
+    match printed {
+        Ok(()) => failure.status(),
+        Err(lost) => lost.report_error(err),
     }
 }
 

@@ -1,5 +1,5 @@
 use Rattle.std.proofs.Common.{inl}
-use Rattle.cli_files.proofs.NeverUsage.{all_not_usage, reported_so, reported_ends, so_not_usage, so_quiet}
+use Rattle.cli_files.proofs.NeverUsage.{all_not_usage, ends_so, reported_so, reported_ends, so_not_usage, so_quiet}
 use Rattle.cli_files.proofs.running.tell.Goals as goal
 
 pub returns-in-Ok-clause-told : goal.returns-in-Ok-clause-told
@@ -12,14 +12,14 @@ returns-in-Ok-clause-silent g c =
 
 pub returns-in-Err-clause-told : goal.returns-in-Err-clause-told
 returns-in-Err-clause-told g c = reported_ends g.R.File.Read.remaining g.O.Write.contents c.args.each.now c.args.paths.now c.in-Err.failure
-    c.stop.result c.args.out.now c.all.new.out c.stop.new.out c.in-Err.ensures.refused c.stop.ensures.status c.stop.ensures.told
+    c.stop.result c.args.out.now c.all.new.out c.stop.new.out c.in-Err.ensures.refused (ends_so g.R.File.Read.remaining c.in-Err.failure c.stop.result c.stop.ensures.status) c.stop.ensures.told
     c.stop.ensures.cut c.stop.ensures.kept
 
 pub returns-in-Err-clause-silent : goal.returns-in-Err-clause-silent
 returns-in-Err-clause-silent g c = so_not_usage g.R.File.Read.remaining c.stop.result
-    (reported_so g.R.File.Read.remaining c.args.each.now c.in-Err.failure c.stop.result c.in-Err.ensures.refused c.stop.ensures.status)
+    (reported_so g.R.File.Read.remaining c.args.each.now c.in-Err.failure c.stop.result c.in-Err.ensures.refused (ends_so g.R.File.Read.remaining c.in-Err.failure c.stop.result c.stop.ensures.status))
 
 pub returns-in-Err-clause-quiet : goal.returns-in-Err-clause-quiet
 returns-in-Err-clause-quiet g c = so_quiet g.R.File.Read.remaining c.stop.result
-    (reported_so g.R.File.Read.remaining c.args.each.now c.in-Err.failure c.stop.result c.in-Err.ensures.refused c.stop.ensures.status)
+    (reported_so g.R.File.Read.remaining c.args.each.now c.in-Err.failure c.stop.result c.in-Err.ensures.refused (ends_so g.R.File.Read.remaining c.in-Err.failure c.stop.result c.stop.ensures.status))
     c.stop.ensures.quiet

@@ -145,7 +145,8 @@ EndsFiles holds e paths ends before after = TellsFiles holds e paths ends before
 abbrev pub AreFiles : {F : Type 0} → (holds : F → Option (List ℕ)) → Several → List (Bor (List ℕ)) → Type 0
 AreFiles holds (several.Words words) paths = paths ≡ words.items
 AreFiles holds (several.Listed words) paths = (text : List ℕ) × IsHeld holds text
-    × ¬ (ListsNone (end_of words.null) text) × (map (λ p. p.now) paths ≡ map path_of_name (names_of (end_of words.null) text))
+    × ¬ (ListsNone (end_of words.null) text)
+    × (map (λ p. p.now) paths ≡ map path_of_name (names_of (end_of words.null) text))
 
 -- the files are in a list that names none, or in which a name isn't UTF-8
 abbrev pub AreUnlisted : {F : Type 0} → (holds : F → Option (List ℕ)) → Several → Type 0

@@ -33,11 +33,7 @@ pub fn stop<O: Write, E: Write>(
 }
 
 /// How a command ended that printed the line of a failure, or lost it, which it reports on the standard error.
-fn ended<E: Write>(
-    failure: &Failure<'_>,
-    printed: Result<(), Failure<'_>>,
-    err: &mut E,
-) -> Status
+fn ended<E: Write>(failure: &Failure<'_>, printed: Result<(), Failure<'_>>, err: &mut E) -> Status
     // It is the status of the failure, unless its line was lost.
     ensures status { MatchResult printed.entry (λ _. result ≡ status_of failure.now) (λ lost. result ≡ status_of lost) }
     ensures quiet { OnOk printed.entry (err.new ≡ err.old) }

@@ -1,6 +1,6 @@
 ghost use Rattle.std.specs.Prelude.{◌≡◌, []};
 ghost use Rattle.digests.specs.declared.set.Algs.{Algs};
-ghost use Rattle.digests.specs.Reading.{every_alg};
+ghost use Rattle.digests.specs.Sets.{every_alg};
 ghost use Rattle.digests.specs.Selection.{FedWanted, set_of};
 
 use cms_stream::Taker;

@@ -143,7 +143,8 @@ fn verdict_as_stated<F: Read + Seek + Describes, S: Source>(
 ///
 /// A file that can be read again is first read with little room. If that is too little, the file goes back to its front
 /// and is read with more, up to the limit. What the file says of its length decides about the room, and whether it can
-/// be read again, and about nothing else.
+/// be read again, and about nothing else: a file that states more than its length, or that grew after it was asked, is
+/// read once more, and the hint too.
 ///
 /// Errors: the verdicts of `verdict_of`; memory that is refused.
 fn verdict_within<F: Read + Seek, S: Source>(

@@ -75,7 +75,7 @@ impl Rooms {
 
     /// Those of the pass after this one: it has the room of the next step, or as much as the file says that it is long,
     /// if that is less, since no more octets can be kept than there are. If even that is too little, the file is
-    /// shorter than its elements state, or it grows: then the pass after it has the whole step.
+    /// shorter than its elements state, or it grew after it was asked: then the pass after it has the whole step.
     pub fn next(self, stated: Option<u64>, limit: u64) -> Rooms
         requires now { self.now < limit }
         requires step { self.step ≤ limit }

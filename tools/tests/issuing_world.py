@@ -33,7 +33,8 @@ class World:
         return h.signed(who, [(self.clock, at) for at in times], bag, **rest)
 
     def made(self, files, issuers=None, tsa_issuers=None, lists=(), between=(), given=(), responses=(), **rest):
-        """The entries of the list for these files, as role, certificate and period, and the lines that were told."""
+        """The entries of the list for these files, as role, certificate and period, and the lines that were told. Those for no time, which
+        trust nobody, are in `barred`, as role and certificate."""
         from cmsproof_tools import issuing
         from cmsproof_tools.issuer_words import Asked
 
@@ -51,7 +52,10 @@ class World:
         words["responses"] = paths["response"]
         self.text, self.status = issuing.list_text(Asked(**{**words, **rest}), given, named, told.append)
         lines = [line.split(" ") for line in self.text.decode().split("\n")[1:] if line and not line.startswith("#")]
-        return [(role, first, last, bytes.fromhex(octets)) for role, first, last, octets in lines], told
+        found = [(role, first, last, bytes.fromhex(octets)) for role, first, last, octets in lines]
+        no_time = [row for row in found if row[1] == row[2] and row[1].endswith(".999999999Z")]
+        self.barred = [(role, octets) for role, *_, octets in no_time]
+        return [row for row in found if row not in no_time], told
 
     def periods(self, who, *words, role="signer", **rest):
         """The periods that a certificate has in the list, and the lines."""

@@ -7,6 +7,7 @@ from pathlib import Path
 from making import PROGRAM, REAL, openssl, run_tool, without_library
 
 STAMPING = "extendedKeyUsage=critical,timeStamping"
+STAMPER = "for time-stamping alone (RFC 3161 2.3): it is an authority's, and signs no files: --tsa lists it"
 WARNING = "not for time-stamping alone (RFC 3161 2.3): tokens under it are refused"
 # the rows are parted by |
 NO_TIMES = (
@@ -77,6 +78,7 @@ class Trusting(unittest.TestCase):
     def made(self, *words, err=""):
         """The list of these words, which the program reads, with this on standard error."""
         status, out, told = run_tool("cmsproof-trust", *words)
+        told = "".join(line for line in told.splitlines(True) if STAMPER not in line)
         self.assertEqual((status, told), (0, err))
         if PROGRAM.exists():
             (self.folder / "list").write_bytes(out)
@@ -229,6 +231,12 @@ class Trusting(unittest.TestCase):
             text = self.made("--tsa", path, "--signer", path, err=err)
             self.assertEqual(text.count(f"# warning: {WARNING}\n"), 0 if good else 1)
             self.as_the_program_says(self.folder / f"{name}.der", good)
+
+    def test_an_authority_is_no_signer(self):
+        """A certificate for time-stamping alone that is listed as a signer's has a warning."""
+        for name, role, warned in (("authority", "signer", 1), ("authority", "tsa", 0), ("alice", "signer", 0)):
+            status, out, told = run_tool("cmsproof-trust", "--" + role, self.folder / f"{name}.pem")
+            self.assertEqual((status, told.count(STAMPER), out.decode().count(f"# warning: {STAMPER}\n")), (0, warned, warned))
 
     def test_names_that_the_library_does_not_know(self):
         """An x400Address as an alternative name (RFC 5280 4.2.1.6)."""

@@ -5,7 +5,7 @@ from typing import Iterable, Iterator, NamedTuple
 
 from cmsproof import ListRefused, TrustList
 from cmsproof_tools.certificates import Certificate
-from cmsproof_tools.listing import HEAD
+from cmsproof_tools.listing import HEAD, is_for_no_time
 from cmsproof_tools.periods import OPEN, Period
 from cmsproof_tools.running import FAILED, MALFORMED, Stop, one_line, read, shown
 from cmsproof_tools.texts import numbered_lines, trust_entries
@@ -26,6 +26,10 @@ class Row(NamedTuple):
     def key(self) -> Key:
         """What it trusts."""
         return self.role, self.certificate.octets
+
+    def is_for_no_time(self) -> bool:
+        """Whether it trusts nobody, and only lets a check name a rule."""
+        return is_for_no_time(self.period.first, self.period.last, self.certificate.time_text("not_valid_after"))
 
     def subject(self) -> str:
         """Whose certificate it is."""
@@ -126,6 +130,12 @@ def merged(paths: Iterable[str]) -> tuple[bytes, list[str]]:
             rows.setdefault(row.key, []).append(row)
         for key, found in rows.items():
             known = whole.get(key)
+            # (which a list has of somebody of whom it trusts nothing, as if it left him out)
+            if all(row.is_for_no_time() for row in found):
+                whole.setdefault(key, found)
+                continue
+            if known is not None and all(row.is_for_no_time() for row in known):
+                known = None
             whole[key] = found if known is None else in_both(known, found)
             if known is not None and {row.period[:2] for row in known} != {row.period[:2] for row in found}:
                 told.append(

@@ -10,13 +10,14 @@ import hashlib
 from collections import defaultdict
 from typing import Callable, Iterable, NamedTuple, Union
 
-from cmsproof import TrustList, questions
+from cmsproof import TrustList, questions, show
 from cmsproof.octets import Buffer
 from cmsproof.tokens import token_time
 from cmsproof_tools import der
 from cmsproof_tools.certificates import Certificate
 from cmsproof_tools.finding import again_in_der
 from cmsproof_tools.found import Found
+from cmsproof_tools.listing import is_for_no_time, no_time
 from cmsproof_tools.paths import MOST_OF_FILE, Broken, Judge, Path, Pool, Unsigned
 from cmsproof_tools.periods import Period
 from cmsproof_tools.revocation import Revocation
@@ -29,6 +30,13 @@ HEAD = "cmsproof trust 2\n"
 # how many certificates of a file are judged, and how many its signers and each of them may name: whoever made it can have put in
 # any number
 MOST_JUDGED, MOST_ASKED, MOST_NAMED = 500, 2500, 20
+# how many certificates of a file are judged that get an entry for no time at most
+MOST_BARRED = 20
+# why such an entry is there
+BARRED = {
+    "signer": "for no time: no stamp passes, and it is here so that a check names the stamp's rule",
+    "tsa": "for no time: no token under it passes, or no path of it holds then; it is here so that a check names the rule",
+}
 # the longest certificate that is read: one of extensions alone takes 80 times its length in memory, and two seconds for a megabyte
 LONGEST = 1 << 18
 # how many signers wait until OpenSSL judges them in one run, and how many certificates their file may have for that
@@ -126,12 +134,19 @@ class Growing:
         self.clocks: list[Entry] = []
         self.authorities: Union[TrustList, None] = None
         self.by_certificate: dict[tuple[str, bytes], list[Entry]] = defaultdict(list)
+        # entries for no time, by what they do not trust
+        self.barred: dict[tuple[str, bytes], Entry] = {}
         for entry in given:
-            self.put(entry)
+            until = entry.certificate.time_text("not_valid_after")
+            if is_for_no_time(entry.period.first, entry.period.last, until):
+                self.barred[entry.role, entry.certificate.octets] = entry
+            else:
+                self.put(entry)
         self.failed: set[tuple[str, bytes, str, int]] = set()
+        self.unissued: set[tuple[str, bytes, int]] = set()
         self.waiting: list[Waiting] = []
         self.pools: dict[tuple[bytes, ...], Pool] = {}
-        self.left, self.asked = 0, 0
+        self.left, self.asked, self.left_to_bar = 0, 0, 0
 
     def put(self, entry: Entry) -> None:
         """Puts an entry into it."""
@@ -159,7 +174,7 @@ class Growing:
                 return self.found_in(name, again)
             self.told(f"{name}: it is no SignedData in DER: no entry")
             return Pool([]), [], found
-        self.left, self.asked = MOST_JUDGED, 0
+        self.left, self.asked, self.left_to_bar = MOST_JUDGED, 0, MOST_BARRED
         return self.pool_of(tuple(dict.fromkeys(octets))), signers, found
 
     def pool_of(self, octets: tuple[bytes, ...]) -> Pool:
@@ -220,6 +235,7 @@ class Growing:
             moment = token_time(token.octets, token.stamped, trust=trust, vouched=held, sha1=self.trusted.sha1)
             if moment is not None and self.may_judge("tsa", name, certificate, moment):
                 self.judge("tsa", name, certificate, pool, moment)
+            self.bar("tsa", name, certificate, pool)
         return self.all_hold("tsa", named, token.time)
 
     def all_hold(self, role: str, named: list[Certificate], moment: Union[str, None]) -> bool:
@@ -249,6 +265,8 @@ class Growing:
         moments = {moment for token in signer.tokens if (moment := self.passing(token)) is not None}
         if not moments:
             self.told(f"{name}: no stamp passes under a listed authority")
+            for certificate, _ in under_which(signed, named):
+                self.bar("signer", name, certificate, pool)
             return
         for certificate, _ in under_which(signed, named):
             for moment in sorted(moments):
@@ -295,6 +313,33 @@ class Growing:
         except Broken as fault:
             self.failed.add(key)
             self.told(f"{name}: no path for {certificate.name_text('subject')}, {role}, at {moment}: {fault}")
+
+    def bar(self, role: str, name: str, certificate: Certificate, pool: Pool) -> None:
+        """Puts an entry for no time behind the list for a certificate that an issuer issued, unless another entry has it: it trusts
+        nobody, and lets a check name the rule by which no stamp passes, and not S7, or K10, of somebody who is known."""
+        place, key = (role, certificate.octets), (role, hashlib.sha256(certificate.octets).digest(), pool.mark)
+        if place in self.by_certificate or place in self.barred or key in self.unissued or self.left_to_bar == 0:
+            return
+        self.left_to_bar -= 1
+        path, until = self.issued(role, certificate, pool), show("certificate", certificate.octets).get("until", ".")
+        if path is None or "." in until:
+            self.unissued.add(key)
+        else:
+            self.barred[place] = Entry(role, no_time(until, BARRED[role]), certificate, name, path)
+
+    def issued(self, role: str, certificate: Certificate, pool: Pool) -> Union[Path, None]:
+        """A path of a certificate to an issuer that is trusted, which holds when all of it is valid; whether it was revoked, or the issuer
+        is trusted then, is not looked at."""
+        stamping = role == "tsa"
+        if not stamping and not signs_documents(certificate):
+            return None
+        judge = self.trusted.authorities if stamping else self.trusted.signers
+        return judge.ever(certificate, pool, "timestampsign" if stamping else "any")
+
+    def listed(self) -> list[Entry]:
+        """All entries, authorities first; those for no time only where no other one has the certificate."""
+        more = [entry for place, entry in self.barred.items() if place not in self.by_certificate]
+        return sorted([*self.entries, *more], key=lambda entry: entry.role != "tsa")
 
     def path_of(self, role: str, certificate: Certificate, pool: Pool, moment: str) -> tuple[Path, Period]:
         """A path of a certificate that holds at a moment, and its period. Raises Broken with the first reason why none does, rather one

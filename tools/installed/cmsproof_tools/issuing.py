@@ -14,7 +14,7 @@ from cmsproof_tools.found import Found
 from cmsproof_tools.issuer_words import Asked
 from cmsproof_tools.issuers import Entry, Growing, Trusted
 from cmsproof_tools.paths import Judge, OpenSSL, Statuses, private_folder
-from cmsproof_tools.listing import HEAD, warnings_of
+from cmsproof_tools.listing import HEAD, JUDGED, warnings_of
 from cmsproof_tools.periods import Period
 from cmsproof_tools.responses import Response
 from cmsproof_tools.revocation import Revocation, is_meant
@@ -187,12 +187,12 @@ def grown(trusted: Trusted, given: Iterable[Entry], names: list[str], told: Told
     again, worst = look(names, growing.take, unread)
     _, later = look(again, growing.take_again, unread)
     growing.settle()
-    return sorted(growing.entries, key=lambda entry: entry.role != "tsa"), max(worst, later)
+    return growing.listed(), max(worst, later)
 
 
 def head_of(trusted: Trusted, lists: list[TrustedList]) -> Iterator[str]:
     """What the list stands on, as comments at its head."""
-    yield f"paths were judged by {trusted.signers.openssl.version}, at the times of stamps; this list is not proved"
+    yield f"{JUDGED}{trusted.signers.openssl.version}, at the times of stamps; this list is not proved"
     yield from (found.about() for found in lists)
     for role, judge in (("signers", trusted.signers), ("authorities", trusted.authorities)):
         for issuer in {issuer.octets: issuer for issuer in judge.issuers.certificates}.values():

@@ -3,15 +3,43 @@ from __future__ import annotations
 
 from typing import TYPE_CHECKING
 
+from cmsproof_tools.periods import OPEN, Period
+
 if TYPE_CHECKING:
     from cmsproof_tools.certificates import Certificate
 
 HEAD = "cmsproof trust 2"
 WARNING = "not for time-stamping alone (RFC 3161 2.3): tokens under it are refused"
+STAMPER = "for time-stamping alone (RFC 3161 2.3): it is an authority's, and signs no files: --tsa lists it"
 ISSUER = "an issuer's certificate (CA:TRUE): those that it issued are not trusted by it"
+# how the comment begins at the head of a list that is made of what issuers issued
+JUDGED = "paths were judged by "
+# what ends the moment that an entry for no time has as its period: a second's last nanosecond
+LAST_NANOSECOND = ".999999999Z"
 
 
 def warnings_of(role: str, certificate: Certificate) -> list[str]:
     """What a reader should know before trusting a certificate in a role."""
-    stamping = role == "tsa" and not certificate.stamping_only()
-    return [*([WARNING] if stamping else []), *([ISSUER] if certificate.is_issuer() else [])]
+    stamping = certificate.stamping_only()
+    found = [WARNING] if role == "tsa" and not stamping else [STAMPER] if role == "signer" and stamping else []
+    return [*found, *([ISSUER] if certificate.is_issuer() else [])]
+
+
+def no_time(until: str, why: str) -> Period:
+    """A period of one moment at which a certificate is no longer valid, whose validity ends so: an entry for it never counts, for the
+    checker demands both (RFC 5280 4.1.2.5), and only lets a check name the rule that fails. Raises ValueError where the end has a fraction.
+    """
+    if "." in until:
+        raise ValueError("a validity with a fraction of a second")
+    moment = until[:-1] + LAST_NANOSECOND
+    return Period(moment, moment, why)
+
+
+def is_for_no_time(first: str, last: str, until: str) -> bool:
+    """Whether an entry with this period is one that `no_time` makes, for a certificate whose validity ends so."""
+    return OPEN != first == last == until[:-1] + LAST_NANOSECOND
+
+
+def is_by_issuers(trusted: bytes) -> bool:
+    """Whether a list says that it was made of what issuers issued."""
+    return b"\n# " + JUDGED.encode() in trusted

@@ -336,6 +336,20 @@ class Judge:
             period = period if held is None else period.cut(held)
         return period
 
+    def ever(self, leaf: Certificate, pool: Pool, purpose: str) -> Path | None:
+        """The first path of a certificate that holds at a moment at which all of it is valid, or None; OpenSSL judges MOST_PATHS at most."""
+        for row in islice(rows(leaf, pool, self.issuers), MOST_PATHS):
+            path = Path(row)
+            period = path.period()
+            try:
+                if not period.is_none():
+                    check_row(row, purpose)
+                    self.openssl.verify(row, self.options(period.first, purpose))
+                    return path
+            except Broken:
+                pass
+        return None
+
     def paths(self, leaf: Certificate, pool: Pool, moment: str, purpose: str) -> Iterator[Path | Broken]:
         """The paths of a certificate that hold at a moment, and why others do not; OpenSSL judges MOST_PATHS at most."""
         count, faults = 0, 0

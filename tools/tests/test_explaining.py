@@ -99,9 +99,22 @@ class Explanations(unittest.TestCase):
             self.assertEqual(fault_at(entry, Certificate(entry.octets), time), fault, time)
             self.assertTrue(fault is None or CURES[fault])
 
-    def test_other_refusals_have_none(self):
-        for code in ("C4", "S1", "S6", "S9", "S10", "K9", "K14", "Q2"):
-            self.assertEqual(self.explained("rsa_attached_ts", b"cmsproof trust 2\n", code, signer="1", token="1"), "")
+    def test_other_refusals_have_cause_and_cure(self):
+        for code in ("C4", "S1", "S6", "S9", "S10", "K9", "K14", "Q2", "M6", "F6", "X3"):
+            said = self.explained("rsa_attached_ts", b"cmsproof trust 2\n", code, signer="1", token="1")
+            self.assertRegex(said, "^Cause: .+\\. Cure: .+ \\(REFUSALS.md, section [0-9]+\\)\\.$")
+        self.assertEqual(self.explained("rsa_attached_ts", b"cmsproof trust 2\n", "Z1"), "")
+
+    def test_the_fault_behind(self):
+        from cmsproof_tools.explaining import of_code
+
+        self.assertIn(
+            " Behind it: a length is left open: BER", of_code("K1", "refused signer 1 token 1 K1 M3 Indefinite at 16")
+        )
+        self.assertIn(
+            " Behind it: its digest algorithm is SHA-1", of_code("K5", "refused signer 1 token 1 K5 S5 DigestAlgorithm")
+        )
+        self.assertNotIn("Behind it", of_code("K1", "refused signer 1 token 1 K1 NotSignedData"))
 
 
 # those that a front end reads
@@ -171,7 +184,7 @@ class Real(unittest.TestCase):
             ("rsa_attached_ts", ((0, "20270101000000Z", "-"), (5, "-", "-")), "S7", "it names line 2 of the list"),
             ("rsa_attached_ts", ((0, "-", "-"),), "K10", f"no tsa of the list is the one that is named (serial {serial}30"),
             ("rsa_attached_ts", ((0, "-", "-"), (5, "20270101000000Z", "-")), "K13", "it names line 3 of the list"),
-            ("rsa_attached", ((0, "-", "-"),), "S10", None),
+            ("rsa_attached", ((0, "-", "-"),), "S10", "Cause: no unsigned attribute has a time-stamp token."),
         ]
         with tempfile.TemporaryDirectory() as folder:
             for name, entries, code, begin in rows:

@@ -98,13 +98,14 @@ def opened_now(path: str) -> int | Exception:
         return error
 
 
-def trust_list(path: str) -> TrustList:
+def trust_list(path: str, explain: bool) -> TrustList:
     """The trust list, which the library judges before a file is read. Ends the tool where it is none, or there is no library."""
     octets = contents_of(path)
     try:
         return TrustList(octets)
     except ListRefused as error:
-        raise Stop(MALFORMED, f"{shown(path)}: {error}") from error
+        more = f". {module('cures').said_of(error.code)}" if explain else ""
+        raise Stop(MALFORMED, f"{shown(path)}: {error}{more}") from error
     except ImportError as error:
         raise Stop(FAILED, str(error)) from error
 
@@ -214,7 +215,7 @@ def parser_of(tool: str) -> Words:
         help="files that are checked at a time; as many as there are processors by default",
     )
     parser.add_argument("--json", action="store_true", help="a line of JSON for each file, and a last one about all")
-    parser.add_argument("--explain", action="store_true", help="a second line for some refusals: what was compared, and a cure")
+    parser.add_argument("--explain", action="store_true", help="a second line for each refusal: its cause and cure")
     parser.add_argument("--files-from", action="append", default=[], metavar="FILE", help="a list of names, one on each line")
     parser.add_argument(
         "--pair",
@@ -374,12 +375,12 @@ def main(tool: str, words: list[str]) -> int:
     check_words(parser, given)
     check_issuers(parser, given)
     # A missing library ends the tool here, and not in a worker; and what each of them would read is read once.
-    for name in ("verifying", "containers.twofold", *(["explaining"] if given.explain else [])):
+    for name in ("verifying", "containers.twofold", *(["explaining", "cures"] if given.explain else [])):
         module(name)
     if not os.path.isdir(path_of("")):
         raise Stop(FAILED, f"failed open {path_of('')}: the files are read by descriptors there")
     # (a list that is none is told before a name is read)
-    named = None if given.trust is None else trust_list(given.trust)
+    named = None if given.trust is None else trust_list(given.trust, given.explain)
     content = None if given.content is None else content_named(given.content)
     pairs = pairs_of(given)
     names, contents = names_of(tool, given, pairs)

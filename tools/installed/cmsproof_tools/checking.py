@@ -13,7 +13,7 @@ from cmsproof_tools import descriptors
 from cmsproof_tools.descriptors import path_of
 from cmsproof_tools.finding import again_in_der, found_in
 from cmsproof_tools.found import Found, Unfound
-from cmsproof_tools.kinds import BEGINNING, kind_of
+from cmsproof_tools.kinds import kind_of_signed
 from cmsproof_tools.lines import parts_of
 from cmsproof_tools.outcomes import Outcome
 from cmsproof_tools.pairs import Pairs
@@ -197,14 +197,20 @@ def content_beside(work: Work, name: str) -> ContextManager[Union[File, None]]:
 def explained(work: Work, outcome: Outcome, octets: Buffer) -> Outcome:
     """The outcome with what a reader may want to know of it. A fault in that leaves the outcome as it is."""
     try:
-        if outcome.status == MALFORMED:
-            return outcome._replace(kind=kind_of(bytes(octets[:BEGINNING])))
-        if outcome.status == REFUSED and work.explain:
-            parts = parts_of(REFUSED, outcome.line) or {}
-            return outcome._replace(explanation=module("explaining").explanation(octets, work.trust.text, parts))
+        if outcome.status in (MALFORMED, REFUSED):
+            outcome = outcome._replace(kind=kind_of_signed(octets, outcome.status == MALFORMED))
+        if outcome.status != DONE and work.explain:
+            parts = parts_of(outcome.status, outcome.line) or {}
+            text = module("explaining").explanation(octets, work.trust.text, parts, outcome.line)
+            return outcome._replace(explanation=text)
     except Exception:  # an explanation is read by an own reader, of octets that anybody can write
         pass
     return outcome
+
+
+def with_cure(work: Work, outcome: Outcome, code: str) -> Outcome:
+    """The outcome of a front end's refusal, with its cause and cure if these are wanted."""
+    return outcome._replace(explanation=module("cures").said_of(code)) if work.explain else outcome
 
 
 # what a valid time-stamp is said to be, which is not `accepted`: it says when octets were there, and not whose they are
@@ -292,6 +298,7 @@ def outcome_of(work: Work, reading: Reading, found: Union[Found, Unfound], name:
     beside = reading.beside
     if isinstance(found, Unfound):
         said = Outcome(name, found.status, found.line, part=found.part, notes=(found.reason,), container=found.container)
+        said = with_cure(work, said, found.code)
         return said if work.noting is None else said._replace(record=Draft(reading))
     if found.content is not None and beside is not None:
         # (which of the two is meant nobody can know)
@@ -330,13 +337,14 @@ def stamps_judged(work: Work, outcomes: list[Outcome]) -> list[Outcome]:
     """The outcomes of a file, in which a time-stamp is refused where no signature is accepted: anybody gets one for any octets."""
     if work.stamps or any(outcome.line.startswith("accepted ") for outcome in outcomes):
         return outcomes
-    return [alone(outcome) if outcome.line.startswith(STAMPED) else outcome for outcome in outcomes]
+    return [alone(work, outcome) if outcome.line.startswith(STAMPED) else outcome for outcome in outcomes]
 
 
-def alone(stamp: Outcome) -> Outcome:
+def alone(work: Work, stamp: Outcome) -> Outcome:
     """The outcome of a time-stamp without a signature."""
     refusal = Unfound(stamp.part, "F15", f"a time-stamp of {stamp.line[len(STAMPED) :]}, and no signature that is accepted")
-    return stamp._replace(status=refusal.status, line=refusal.line, notes=(*stamp.notes, refusal.reason))
+    said = stamp._replace(status=refusal.status, line=refusal.line, notes=(*stamp.notes, refusal.reason))
+    return with_cure(work, said, refusal.code)
 
 
 def failed(name: str, error: Exception) -> Outcome:

@@ -1,15 +1,21 @@
-"""What stands behind some refusals: which certificate a signer names, when it was good and trusted, and when it was stamped.
+"""What stands behind a refusal: its cause and its cure (cures.py), and of some which certificate a signer names, when it was good and
+trusted, and when it was stamped.
 
-It is for a reader, and no part of a verdict. It reads the file again, and takes for granted that `check` found it well formed.
+It is for a reader, and no part of a verdict. It reads the file again, and takes for granted that `check` found it well formed. Nothing
+in a file says whom to trust: each cure that lists somebody has the fingerprint compared elsewhere first.
 """
 from __future__ import annotations
 
+import re
 from typing import Iterator, NamedTuple
 
 from cmsproof.octets import Buffer
 from cmsproof_tools import der
 from cmsproof_tools.certificates import Certificate
+from cmsproof_tools.cures import known_cures, plain, said_of
+from cmsproof_tools.listing import is_by_issuers, is_for_no_time
 from cmsproof_tools.running import shown
+from cmsproof_tools.signed_parts import TST_INFO, content_type_of
 from cmsproof_tools.texts import TrustEntry, in_order, is_moment, trust_entries
 
 TOKEN = "1.2.840.113549.1.9.16.2.14"
@@ -18,17 +24,41 @@ SHORT_NAMES = {"2.5.4.3": "CN", "2.5.4.5": "SERIALNUMBER", "2.5.4.6": "C", "2.5.
 # more is not read: the elements in them take much more memory, and whoever made the file can have put in any number
 LONGEST = 1 << 20
 LIST_IT = (
-    "find the certificate under which the {} verifies, compare its SHA-256 with what its owner told you in another way, and "
+    "find the certificate under which the {} verifies, compare its SHA-256 with what its owner told you in another way, and only then "
     "list it as {}, if it is the right one (REFUSALS.md, {})"
 )
+# what helps where the list was made of what issuers issued, and has no entry: no path held
+ISSUE_IT = (
+    "no path from it to an issuer of the list held at the time of a stamp, as standard error said when the list was made. {}: name its "
+    "issuer by {}, once you compared the SHA-256 of that with what its owner told you in another way than by this file; "
+)
+STAMP_AGAIN = "or have the signature stamped by an authority that you trust (REFUSALS.md, K10)"
 CURES = {
     "S7": LIST_IT.format("signature", "signer", "S7"),
     "K10": LIST_IT.format("token", "tsa", "K10"),
+    "S7 by issuers": ISSUE_IT.format("It is about the signer", "--issuer") + "else leave the file refused (REFUSALS.md, S7)",
+    "K10 by issuers": ISSUE_IT.format("It is about the time-stamping authority, and not about the signer", "--tsa-issuer")
+    + STAMP_AGAIN,
     "period": "the certificate was valid then, but its entry is for another time: give it another period, if you trust it then",
     "early": "it was stamped before the certificate was valid: have the content signed and stamped again",
     "late": "it was stamped after the certificate had expired: only an earlier stamp helps",
     "tsa": "the certificate of the authority was not valid then: have the signature stamped again",
+    "no time of a signer": (
+        "the entry is for no time, and stays so: no stamp of this certificate's passed when the list was made. Make the list anew with the "
+        "issuer, once a stamp passes: the path is then judged at its time"
+    ),
+    "no time of a tsa": (
+        "the entry is for no time, and stays so: it only says who the authority is. No path of it to an issuer held at the token's time, or it "
+        "was revoked, as standard error said when the list was made: have the signature stamped again"
+    ),
 }
+# what is said of a time-stamp token that is checked as if it were a signed file
+TOKEN_ALONE = (
+    "the file is a time-stamp token by itself, and its signer is a time-stamping authority, which no list has as signer. Cure: check the "
+    "file whose signature it stamps, into which cmsproof attach puts it; nobody is to be listed for this"
+)
+# the code of a fault behind that of a token's rule, as in `K1 M6 Tag at 4`
+BEHIND = re.compile(r"\bK[0-9]+ ([MS][0-9]+) ")
 
 
 class Signer(NamedTuple):
@@ -116,6 +146,8 @@ def sid_text(sid: der.Element) -> str:
 
 def fault_at(entry: TrustEntry, certificate: Certificate, time: str) -> str | None:
     """Why an entry does not hold at a time: a word of CURES, or None where it holds."""
+    if is_for_no_time(entry.first, entry.last, certificate.time_text("not_valid_after")):
+        return f"no time of a {entry.role}"
     if not in_order(certificate.time_text("not_valid_before"), time):
         return "early"
     if not in_order(time, certificate.time_text("not_valid_after")):
@@ -138,7 +170,8 @@ def of_certificate(trusted: bytes, role: str, sid: der.Element, times: list[str]
     said = "the time in its token is " if len(times) == 1 else "the times in its tokens are "
     stamped = said + " and ".join(times) if times else "no time in a token can be read"
     if not listed:
-        return f"no {role} of the list is the one that is named ({sid_text(sid)}), {stamped}. Cure: {CURES[code]}"
+        cure = CURES[f"{code} by issuers" if is_by_issuers(trusted) else code]
+        return f"no {role} of the list is the one that is named ({sid_text(sid)}), {stamped}. Cure: {cure}"
     faults = {fault for pair in listed for time in times if (fault := fault_at(*pair, time)) is not None}
     if role == "tsa":
         faults = {"tsa" if fault in ("early", "late") else fault for fault in faults}
@@ -146,14 +179,35 @@ def of_certificate(trusted: bytes, role: str, sid: der.Element, times: list[str]
     return " ".join([f"it names {entry_texts}; {stamped}.", *(f"Cure: {CURES[fault]}." for fault in sorted(faults))])
 
 
-def explanation(octets: Buffer, trusted: bytes, parts: dict[str, str]) -> str:
-    """What explains a refusal with these parts of a line, or no text where nothing is known."""
-    code = parts.get("code")
-    if code not in ("S7", "K10", "K13"):
-        return ""
+def of_parties(octets: Buffer, trusted: bytes, parts: dict[str, str]) -> str:
+    """What is to be said of the certificate that is named, where the refusal is S7, K10 or K13."""
+    code = parts["code"]
+    if "signer" not in parts:
+        # (a time-stamp over a whole content)
+        (info,) = signer_infos(octets)
+        return of_certificate(trusted, "tsa", signer_of(info).sid, times_of(der.elements(bytes(octets))[0]), code)
     signer = signer_of(signer_infos(octets)[int(parts["signer"]) - 1])
     if code == "S7":
         times = [time for token in signer.tokens for time in times_of(token)]
         return of_certificate(trusted, "signer", signer.sid, times, code)
     signers, times = token_parts(signer.tokens[int(parts["token"]) - 1])
     return of_certificate(trusted, "tsa", signers[0].sid, times, code)
+
+
+def of_code(code: str, line: str) -> str:
+    """The cause and the cure of a code, and of the fault behind it that the line has."""
+    behind = known_cures().get(found[1]) if (found := BEHIND.search(line)) else None
+    return said_of(code) + (f" Behind it: {plain(behind.when)}." if behind else "")
+
+
+def explanation(octets: Buffer, trusted: bytes, parts: dict[str, str], line: str = "") -> str:
+    """What explains a refusal with these parts of a line: of each code the cause and the cure, in one line."""
+    code = parts.get("code", "")
+    if code.startswith("S") and content_type_of(octets) == TST_INFO:
+        return TOKEN_ALONE
+    try:
+        if code in ("S7", "K10", "K13"):
+            return of_parties(octets, trusted, parts)
+    except (ValueError, IndexError, KeyError):
+        pass  # octets that anybody can write: what holds of the code is said
+    return of_code(code, line)

@@ -1,11 +1,24 @@
-"""What kind of file it is, by its first octets, and what to do with it: for files that are no signed file in DER."""
+"""What kind of file it is, and what to do with it, for files that are no signed file: by its first octets, and if it is in DER by what the
+proved library reads in it."""
 from __future__ import annotations
 
+import importlib
 import re
+from typing import Any
 
 # how many octets show what kind of file it is
 BEGINNING = 4096
+# of how many octets the library is asked what they are
+MOST_SHOWN = 1 << 20
 CMS = "openssl cms -cmsout -inform {} -in FILE -outform DER -out FILE.der makes a file in DER of it"
+AUTHENTICODE = (
+    "a signature in it is Authenticode, in CMS whose content is no OCTET STRING (RFC 5652 5.2.1), which is not read: osslsigncode verify "
+    "checks it"
+)
+AUTHENTICODE_ALONE = (
+    "a signature of Authenticode, or a catalogue of Windows (.cat): its content is no OCTET STRING (RFC 5652 5.2.1), which is not read: "
+    "osslsigncode verify checks it with its file"
+)
 # the fields of a mail's head, up to one that only a mail has
 FIELDS = rb"(?:[!-9;-~]+:[^\n]*\n(?:[ \t][^\n]*\n)*)*?(?:MIME-Version|Content-Type|Received|Subject):"
 MAIL = re.compile(rb"\A(?:From |" + FIELDS + rb")", re.IGNORECASE)
@@ -24,10 +37,71 @@ KINDS = [
     (MAIL, "a mail, S/MIME: " + CMS.format("SMIME")),
     (re.compile(rb"\AM[A-Za-z0-9+/\s]{60,}"), "base64: openssl base64 -d -in FILE -out FILE.der decodes it"),
     (re.compile(rb"\Acmsproof (?:trust|questions|answers) [0-9]"), "a list of cmsproof and no signed file"),
+    (re.compile(rb"\AMZ"), "a program of Windows: " + AUTHENTICODE),
+    (re.compile(rb"\AMSCF"), "a cabinet of Windows: " + AUTHENTICODE),
+    (re.compile(rb"\A\xd0\xcf\x11\xe0\xa1\xb1\x1a\xe1"), "an MSI or an older office document, in OLE: " + AUTHENTICODE),
+    (re.compile(rb"# SIG # Begin signature block"), "a script of Windows: " + AUTHENTICODE),
     (re.compile(rb"\A\x30\x80"), "BER, with open lengths: " + CMS.format("DER")),
+]
+
+
+# what each kind of file in DER is that the library reads, in the words of its call `show`
+SHOWN = {
+    "request": "a request for a time-stamp (RFC 3161 2.4.1), and no signed file: `cmsproof match` compares it with the response",
+    "response": (
+        "a response of a time-stamping authority (RFC 3161 2.4.2), and no signed file: `cmsproof match` takes the token out, `cmsproof "
+        "attach` puts that into the file whose signature it stamps, and this one is checked"
+    ),
+    "tst": "the content of a time-stamp token (RFC 3161 2.4.2) alone: nobody signed it. `cmsproof show tst` shows it",
+    "certificate": "a certificate, and no signed file: `cmsproof cert` shows it",
+}
+TST_INFO, INDIRECT, TRUST_LIST = "1.2.840.113549.1.9.16.1.4", "1.3.6.1.4.1.311.2.1.4", "1.3.6.1.4.1.311.10.1"
+STAMP = (
+    "a time-stamp token by itself (RFC 3161 2.4.2), and no signed file: `cmsproof attach` puts it into the file whose signature it "
+    "stamps, and that one is checked"
+)
+BUNDLE = (
+    "a bundle of certificates or revocation lists, which nobody signed (PKCS #7 without signers): openssl pkcs7 -inform DER -in FILE "
+    "-print_certs lists it"
+)
+# how other files in DER begin: behind the first header (X.690 8.1)
+HEADER = rb"\A\x30(?:[\x00-\x7f]|\x81.|\x82..|\x83...|\x84....)"
+OTHERS = [
+    (
+        re.compile(HEADER + rb"\x02\x01\x03\x30", re.DOTALL),
+        "a file of PKCS #12, with a key: whoever signs needs it, and nobody who checks",
+    ),
+    (re.compile(HEADER + rb"\x02\x01[\x00\x01]", re.DOTALL), "a private key: whoever signs needs it, and nobody who checks"),
+    (re.compile(HEADER + rb"\x0a\x01", re.DOTALL), "a response of OCSP: cmsproof-trust --ocsp reads it"),
 ]
 
 
 def kind_of(beginning: bytes) -> str:
     """What a file with this beginning is, and what to do with it; no text where that is not known."""
     return next((f"it looks like {text}" for pattern, text in KINDS if pattern.search(beginning)), "")
+
+
+def kind_in_der(octets: Any) -> str:
+    """What octets are that the checker finds malformed, and what to do with them: first what the library reads in them; no text where that
+    is not known."""
+    if len(octets) > MOST_SHOWN:
+        return ""
+    show = importlib.import_module("cmsproof").show
+    whole = bytes(octets)
+    found = [f"it is {text}" for kind, text in SHOWN.items() if "line" not in show(kind, whole)]
+    return next(iter([*found, *(f"it looks like {text}" for pattern, text in OTHERS if pattern.search(whole))]), "")
+
+
+def kind_of_signed(octets: Any, malformed: bool) -> str:
+    """What a file is that is handed to the checker and not accepted, if it is no signed file, or one that is not read; no text of any
+    other."""
+    parts = importlib.import_module("cmsproof_tools.signed_parts")
+    named = parts.content_type_of(octets)
+    if named == TST_INFO:
+        return f"it is {STAMP}"
+    if named in (INDIRECT, TRUST_LIST):
+        return f"it is {AUTHENTICODE_ALONE}"
+    if named and not parts.signers_there(octets):
+        return f"it is {BUNDLE}"
+    beginning = bytes(octets[:BEGINNING])
+    return (kind_of(beginning) or ("" if named else kind_in_der(octets))) if malformed else ""

@@ -12,8 +12,8 @@ from cmsproof.octets import Buffer
 from cmsproof_tools import der
 from cmsproof_tools.texts import is_moment
 
-TOKEN = "1.2.840.113549.1.9.16.2.14"
-CONTEXT_0, CONTEXT_1, GENERALIZED_TIME = 0xA0, 0xA1, 0x18
+TOKEN, TST_INFO = "1.2.840.113549.1.9.16.2.14", "1.2.840.113549.1.9.16.1.4"
+CONTEXT_0, CONTEXT_1, GENERALIZED_TIME, SET = 0xA0, 0xA1, 0x18, 0x31
 # what is looked at in a file: whoever made it can have put in any number
 MOST_CERTIFICATES, MOST_TOKENS = 10000, 1000
 # how many parts there are at most in a ContentInfo, a SignedData, a SignerInfo, an EncapsulatedContentInfo, an Attribute (RFC 5652 3,
@@ -77,6 +77,25 @@ def parts_of(octets: Buffer, whole: int) -> list[Span]:
     _, (_, _, begin, end) = some(octets, begin, end, IN_INFO)
     ((_, _, begin, end),) = some(octets, begin, end, 1)
     return some(octets, begin, end, IN_SIGNED)
+
+
+def content_type_of(octets: Buffer) -> str:
+    """The type of the content of a SignedData (RFC 5652 5.2), or no text where that cannot be read."""
+    try:
+        _, _, begin, end = parts_of(octets, len(octets))[2]
+        kind, *_ = some(octets, begin, end, IN_CONTENT)
+        return der.oid_text(bytes(octets[kind[2] : kind[3]]))
+    except (ValueError, IndexError):
+        return ""
+
+
+def signers_there(octets: Buffer) -> bool:
+    """Whether a SignedData has a signer (RFC 5652 5.1); it has where that cannot be read."""
+    try:
+        *_, (identifier, _, begin, end) = parts_of(octets, len(octets))
+    except (ValueError, IndexError):
+        return True
+    return identifier != SET or begin != end
 
 
 def certificates_of(octets: Buffer, parts: list[Span]) -> list[bytes]:
@@ -152,6 +171,40 @@ def token_of(octets: bytes, stamped: bytes) -> Token:
         raise
     except (ValueError, IndexError):
         return Token(octets, stamped, tuple(bag))
+
+
+def header(identifier: int, length: int) -> bytes:
+    """The identifier and the length of an element in DER (X.690 10.1)."""
+    if length < 0x80:
+        return bytes([identifier, length])
+    found = length.to_bytes((length.bit_length() + 7) // 8, "big")
+    return bytes([identifier, 0x80 + len(found)]) + found
+
+
+def around(span: Span, pieces: list[Buffer]) -> list[Buffer]:
+    """An element in the place of another one, with the same identifier and these pieces as its contents."""
+    return [header(span[0], sum(map(len, pieces))), *pieces]
+
+
+def without_empty(octets: Buffer) -> tuple[Buffer, list[int]]:
+    """A SignedData without the unsigned attributes that are there and empty, `a1 00`, which RFC 5652 5.3 does not allow and no signature
+    covers (5.4), and the numbers of the signers who had them. All else is the same, but the lengths around. Raises ValueError where the
+    octets are no SignedData."""
+    view = memoryview(octets)
+    ((_, _, begin, end),) = infos = some(octets, 0, len(octets), 1)
+    kind, explicit = some(octets, begin, end, IN_INFO)
+    (signed,) = some(octets, *explicit[2:], 1)
+    *parts, last = some(octets, *signed[2:], IN_SIGNED)
+    found: list[int] = []
+    signers: list[Buffer] = []
+    for number, signer in enumerate(spans(octets, *last[2:]), 1):
+        fields = some(octets, *signer[2:], IN_SIGNER)
+        kept = fields[:-1] if len(fields) > 5 and fields[-1][0] == CONTEXT_1 and fields[-1][2] == fields[-1][3] else fields
+        found += [number] * (kept != fields)
+        signers += around(signer, [view[first:stop] for _, first, _, stop in kept])
+    inside = [*(view[first:stop] for _, first, _, stop in parts), *around(last, signers)]
+    whole = around(infos[0], [view[kind[1] : kind[3]], *around(explicit, around(signed, inside))])
+    return (b"".join(whole), found) if found else (octets, [])
 
 
 def everything_in(octets: Buffer) -> tuple[list[bytes], list[Signer]]:

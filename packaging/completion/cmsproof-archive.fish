@@ -35,7 +35,7 @@ complete -c cmsproof-archive -n '__cmsproof_archive_at -' -l content -r -F -d 'T
 complete -c cmsproof-archive -n '__cmsproof_archive_at -' -l sha1 -d 'Allow SHA-1 as a digest of contents and stamped signatures'
 complete -c cmsproof-archive -n '__cmsproof_archive_at -' -l jobs -x -d 'Files that are checked at a time'
 complete -c cmsproof-archive -n '__cmsproof_archive_at -' -l json -d 'A line of JSON for each file, and a last one about all'
-complete -c cmsproof-archive -n '__cmsproof_archive_at -' -l explain -d 'A second line for some refusals'
+complete -c cmsproof-archive -n '__cmsproof_archive_at -' -l explain -d 'A second line for each refusal'
 complete -c cmsproof-archive -n '__cmsproof_archive_at -' -l files-from -r -F -d 'A list of names, one on each line'
 complete -c cmsproof-archive -n '__cmsproof_archive_at -' -l pair -x -d 'The content of a file that ends in SUFFIX is beside it and ends in ENDING'
 complete -c cmsproof-archive -n '__cmsproof_archive_at -' -l no-pairs -d 'No file beside another one is its content, unless a list says so'

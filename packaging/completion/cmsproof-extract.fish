@@ -21,3 +21,4 @@ complete -c cmsproof-extract -n '__cmsproof_extract_at -' -l help -d 'Show this 
 complete -c cmsproof-extract -n '__cmsproof_extract_at -' -l version -d 'Show program’s version number and exit'
 complete -c cmsproof-extract -n '__cmsproof_extract_at -' -l to -r -F -d 'The folder to write into, by default the current one'
 complete -c cmsproof-extract -n '__cmsproof_extract_at -' -l partial -d 'Also write signatures that do not cover the whole file'
+complete -c cmsproof-extract -n '__cmsproof_extract_at -' -l mend -d 'Leave out unsigned attributes that are there and empty'

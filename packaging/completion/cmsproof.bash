@@ -16,7 +16,7 @@ _cmsproof_options() {
     'cmsproof migrate') echo '--help' ;;
     'cmsproof help') echo '' ;;
     'cmsproof-archive') echo '--help --version --trust --issuer --tsa-issuer --intermediate --crl --crl-dir --ocsp --trusted-list --scheme-operator --write-trust --content --sha1 --jobs --json --explain --files-from --pair --no-pairs --pairs-from --partial --stamps --null --state --since --only --recheck --dask --progress --log' ;;
-    'cmsproof-extract') echo '--help --version --to --partial' ;;
+    'cmsproof-extract') echo '--help --version --to --partial --mend' ;;
     'cmsproof-trust') echo '--help --version --signer --tsa --issuer --tsa-issuer --intermediate --crl --crl-dir --ocsp --trusted-list --scheme-operator --from-files --files-from --null --sha1 --explain --diff --merge --all --from --until' ;;
     'cmsproof-verify') echo '--help --version' ;;
     'cmsproof-archive report') echo '--help --version --html --csv --json --only' ;;

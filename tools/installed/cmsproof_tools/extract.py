@@ -6,7 +6,7 @@ import json
 import os
 import signal
 from functools import partial as partial_of
-from typing import Union
+from typing import NamedTuple, Union
 
 import cmsproof
 from cmsproof.octets import Buffer, File
@@ -16,6 +16,7 @@ from cmsproof_tools.finding import TOO_LONG, again_in_der, found_in
 from cmsproof_tools.found import Found, Unfound
 from cmsproof_tools.outcomes import lost, named
 from cmsproof_tools.running import DONE, FAILED, Started, Stop, Words, one_line, shown, tell, write
+from cmsproof_tools.signed_parts import without_empty
 from cmsproof_tools.workers import Workers
 from cmsproof_tools.writing import put_new
 
@@ -26,11 +27,22 @@ line of JSON for each.
     cmsproof questions --trust trust.txt signatures/contract.pdf.1.p7s | cmsproof-verify > answers.txt
     cmsproof check --trust trust.txt --answers answers.txt --content signatures/contract.pdf.1.content signatures/contract.pdf.1.p7s
 
+With --mend unsigned attributes that are there and empty (M15) are left out of what is written, which no signature covers:
+
+    cmsproof-extract --mend --to mended letter.p7s
+
 No file is replaced. Exit status: 0 all is written; 1 a file has nothing to write, or a signature is refused; 3 wrong words; 4 a file
 or a library failed.
 """
 ENDINGS = {"signed": "p7s", "token": "tst"}
 NO_TRUST = b"cmsproof trust 2\n"
+
+
+class Wanted(NamedTuple):
+    """What is written besides: signatures that do not cover the whole file; and whether empty unsigned attributes are left out."""
+
+    partial: bool
+    mend: bool
 
 
 def digest_of(octets: Buffer) -> str:
@@ -67,22 +79,39 @@ def in_der(found: Union[Found, Unfound]) -> Union[Found, Unfound]:
     return again_in_der(found, "M3") or found
 
 
-def extract(name: str, file: File, folder: str, partial: bool) -> int:
+def mended(found: Union[Found, Unfound]) -> Union[Found, Unfound]:
+    """The same without empty unsigned attributes, and with what was done; as it was, if there are none, or it is no SignedData."""
+    if isinstance(found, Unfound):
+        return found
+    try:
+        octets, signers = without_empty(found.signed)
+    except (ValueError, IndexError):
+        return found
+    if not signers:
+        return found
+    whose = ", ".join(map(str, signers))
+    done = f"left out the empty unsigned attributes (a1 00) of signer {whose}, which no signature covers, and wrote the lengths around again"
+    return found._replace(signed=octets, converted=", ".join(filter(None, [found.converted, done])))
+
+
+def extract(name: str, file: File, folder: str, wanted: Wanted) -> int:
     """Writes all that is found in a file, and answers the worst status."""
     worst = DONE
-    for number, found in enumerate(found_in(name, file, partial), 1):
-        status, members = extracted(name, folder, number, in_der(found))
+    for number, found in enumerate(found_in(name, file, wanted.partial), 1):
+        # (which the library finds malformed too, so that it would be taken for BER)
+        one = in_der(mended(found) if wanted.mend else found)
+        status, members = extracted(name, folder, number, mended(one) if wanted.mend else one)
         write("-", json.dumps(members).encode() + b"\n")
         worst = max(worst, status)
     return worst
 
 
-def outcome_of(tool: str, folder: str, partial: bool, name: str) -> tuple[int, str]:
+def outcome_of(tool: str, folder: str, wanted: Wanted, name: str) -> tuple[int, str]:
     """The status of one file, and the line that ends the tool if something fails that costs all files. What else fails is said on
     standard error."""
     try:
         with opened(name) as file:
-            status = extract(name, file, folder, partial)
+            status = extract(name, file, folder, wanted)
         return max(status, FAILED if Started.lost else DONE), ""
     except Stop as stop:
         return stop.status, stop.line
@@ -120,11 +149,11 @@ def keep_copies(names: list[str]) -> None:
                 pass  # which is said of the file
 
 
-def extract_all(tool: str, folder: str, partial: bool, names: list[str]) -> int:
+def extract_all(tool: str, folder: str, wanted: Wanted, names: list[str]) -> int:
     """Writes what is found in files, in a process of its own, which is replaced where one ends it, and answers the worst status."""
     keep_copies(names)
     worst = DONE
-    with Workers(1, partial_of(outcome_of, tool, folder, partial)) as workers:
+    with Workers(1, partial_of(outcome_of, tool, folder, wanted)) as workers:
         for name in names:
             # (one at a time, so that no file is read again because another one ended the process)
             for status, line in workers.results([name], lost_at):
@@ -139,6 +168,7 @@ def main(tool: str, words: list[str]) -> int:
     parser = Words(tool, description=ABOUT)
     parser.add_argument("--to", default=".", metavar="DIR", help="the folder to write into, by default the current one")
     parser.add_argument("--partial", action="store_true", help="also write signatures that do not cover the whole file")
+    parser.add_argument("--mend", action="store_true", help="leave out unsigned attributes that are there and empty (M15)")
     parser.add_argument("files", nargs="+", metavar="FILE", help="a file")
     given = parser.parse_args(words)
-    return extract_all(tool, given.to, given.partial, given.files)
+    return extract_all(tool, given.to, Wanted(given.partial, given.mend), given.files)

@@ -201,7 +201,7 @@ def explained(work: Work, outcome: Outcome, octets: Buffer) -> Outcome:
             outcome = outcome._replace(kind=kind_of_signed(octets, outcome.status == MALFORMED))
         if outcome.status != DONE and work.explain:
             parts = parts_of(outcome.status, outcome.line) or {}
-            text = module("explaining").explanation(octets, work.trust.text, parts, outcome.line)
+            text = module("explaining").explanation(octets, work.trust.text, parts, outcome.line, outcome.converted)
             return outcome._replace(explanation=text)
     except Exception:  # an explanation is read by an own reader, of octets that anybody can write
         pass

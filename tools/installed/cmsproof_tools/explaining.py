@@ -9,13 +9,14 @@ from __future__ import annotations
 import re
 from typing import Iterator, NamedTuple
 
+import cmsproof
 from cmsproof.octets import Buffer
 from cmsproof_tools import der
 from cmsproof_tools.certificates import Certificate
 from cmsproof_tools.cures import known_cures, plain, said_of
 from cmsproof_tools.listing import is_by_issuers, is_for_no_time
 from cmsproof_tools.running import shown
-from cmsproof_tools.signed_parts import TST_INFO, content_type_of
+from cmsproof_tools.signed_parts import IN_CONTENT, TST_INFO, content_type_of, parts_of, some, spans
 from cmsproof_tools.texts import TrustEntry, in_order, is_moment, trust_entries
 
 TOKEN = "1.2.840.113549.1.9.16.2.14"
@@ -200,11 +201,49 @@ def of_code(code: str, line: str) -> str:
     return said_of(code) + (f" Behind it: {plain(behind.when)}." if behind else "")
 
 
-def explanation(octets: Buffer, trusted: bytes, parts: dict[str, str], line: str = "") -> str:
-    """What explains a refusal with these parts of a line: of each code the cause and the cure, in one line."""
+def token_fault(token: bytes) -> str:
+    """What a time-stamp token lacks that `match` (P3) and `attach` (A3) take, by what the library reads in it (RFC 3161 2.4.2): no text
+    where nothing does."""
+    signed = cmsproof.show("signed", token)
+    if "line" in signed:
+        return f"it is {signed['line']}"
+    if signed["type"] != TST_INFO:
+        return f"its content has the type {signed['type']}, and not id-ct-TSTInfo, {TST_INFO}"
+    if signed["signers"] != 1:
+        return f"it has {signed['signers']} signers, and not one"
+    if not isinstance(signed["content"], int):
+        return "it has no content"
+    _, explicit = some(token, *parts_of(token, len(token))[2][2:], IN_CONTENT)
+    ((_, _, begin, end),) = some(token, *explicit[2:], 1)
+    info = cmsproof.show("tst", token[begin:end])
+    return f"its TSTInfo is {info['line']}" if "line" in info else ""
+
+
+def of_response(octets: Buffer) -> str:
+    """What is to be said of the token in a response of an authority (RFC 3161 2.4.2): no text if the octets are none, or have none."""
+    whole = bytes(octets)
+    if len(whole) > LONGEST or cmsproof.show("response", whole).get("token") != "present":
+        return ""
+    ((_, _, begin, end),) = some(whole, 0, len(whole), 1)
+    _, _, _, after = next(spans(whole, begin, end))
+    fault = token_fault(whole[after:end])
+    return f" Of the token in the response: {fault}." if fault else " The token in the response has its form."
+
+
+def of_token(octets: Buffer, converted: str) -> str:
+    """What is to be said of a time-stamp token that is checked as if it were a signed file."""
+    fault = f"it was not in DER ({converted})" if converted else token_fault(bytes(octets))
+    return TOKEN_ALONE + (f". What `match` (P3) and `attach` (A3) do not take of it: {fault}" if fault else "")
+
+
+def explanation(octets: Buffer, trusted: bytes, parts: dict[str, str], line: str = "", converted: str = "") -> str:
+    """What explains a refusal with these parts of a line: of each code the cause and the cure, in one line. `converted` is what was done
+    to get the octets."""
     code = parts.get("code", "")
-    if code.startswith("S") and content_type_of(octets) == TST_INFO:
-        return TOKEN_ALONE
+    if code[:1] in ("S", "C") and content_type_of(octets) == TST_INFO:
+        return plain(of_token(octets, converted))
+    if code[:1] == "M":
+        return of_code(code, line) + of_response(octets)
     try:
         if code in ("S7", "K10", "K13"):
             return of_parties(octets, trusted, parts)

@@ -44,6 +44,13 @@ PASSED_OVER = ("2.16.840.1.113730.1.1", "1.3.6.1.5.5.7.48.1.5")
 POLICIES, QUALIFIERS = "2.5.29.32", ("1.3.6.1.5.5.7.2.1", "1.3.6.1.5.5.7.2.2")
 # what the certificates between one and an issuer must be for, where they say what they are for
 PURPOSES = {"any": DOCUMENTS, "timestampsign": STAMPS}
+# the way round where issuers of real authorities are for documents alone, as by a purpose of Adobe's
+ROUND = {
+    "timestampsign": (
+        ". `cmsproof-trust --tsa FILE` lists the authority's own certificate, once you compared its SHA-256 with what its owner told you "
+        "in another way than by this file"
+    )
+}
 Row = tuple[Certificate, ...]
 # the periods in which trusted lists trust those who are in them, by their identities
 Statuses = dict[tuple[str, bytes], list[Period]]
@@ -239,7 +246,10 @@ def check_row(row: Row, purpose: str) -> None:
         except ValueError:
             good = False
         if not good:
-            raise Broken(f"{certificate.name_text('subject')}: it is for issuing other certificates (extendedKeyUsage)")
+            raise Broken(
+                f"{certificate.name_text('subject')}: it is for issuing other certificates (extendedKeyUsage)"
+                + ROUND.get(purpose, "")
+            )
 
 
 def rows(leaf: Certificate, pool: Pool, issuers: Pool) -> Iterator[Row]:

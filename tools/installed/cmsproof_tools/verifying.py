@@ -28,6 +28,8 @@ warnings.filterwarnings("ignore", category=CryptographyDeprecationWarning)
 
 SHA_2, PKCS_1, MGF_1 = "2.16.840.1.101.3.4.2.", "1.2.840.113549.1.1.", "1.2.840.113549.1.1.8"
 PSS_ALGORITHM = PKCS_1 + "10"
+# keys on elliptic curves, which name their curve by an object identifier (RFC 5480 2.1.1)
+ELLIPTIC = "1.2.840.10045.2.1"
 HASHES = {
     "SHA-1": hashes.SHA1(),
     "SHA-224": hashes.SHA224(),
@@ -191,6 +193,9 @@ def key_of(octets: bytes) -> Key:
     """The key that a SubjectPublicKeyInfo holds (RFC 5280 4.1.2.7)."""
     try:
         oid, parameters = der.algorithm(der.elements(der.only(der.SEQUENCE, octets))[0].whole)
+        # (which some versions of the library read, and others do not)
+        if oid == ELLIPTIC and parameters[:1] != bytes([der.OID]):
+            raise ValueError("its curve is not named by an object identifier, but spelled out or left out (RFC 5480 2.1.1)")
         public = load_der_public_key(octets)
     except Exception as error:  # whatever the library says here, it has no key
         raise Unjudged(f"the key cannot be read: {error}") from error

@@ -40,6 +40,7 @@ SIZES, OTHERWISE = 0x0001, (0x7075, 0x756E, 0x000D, 0x07C8, 0x334D, 0x2605, 0x27
 # the mark of a folder in the attributes of an entry (4.4.15)
 FOLDER_MARK = 0x10
 MIMETYPES = {b"application/vnd.etsi.asic-s+zip": "ASiC-S", b"application/vnd.etsi.asic-e+zip": "ASiC-E"}
+OPEN_DOCUMENT = b"application/vnd.oasis.opendocument."
 NAMESPACE = "http://uri.etsi.org/02918/v1.2.1# "
 DIGEST_SPACE = "http://www.w3.org/2000/09/xmldsig# "
 DIGESTS = {
@@ -283,15 +284,19 @@ class Archive:
         return self.digests[name, algorithm]
 
     def kind(self) -> str:
-        """What the file `mimetype` says that it is, which is the first and not packed, or "" if there is none."""
+        """What the file `mimetype` says that it is, which is the first and not packed in an ASiC, or "" if there is none."""
         entry = self.entries.get("mimetype")
         if entry is None:
             return ""
+        # (what is no ASiC is told by its type first, wherever that stands: one kind of file has one answer)
+        text = bytes(self.read("mimetype", 1000))
+        said = text[:80].decode("ascii", "replace").strip()
+        if text.startswith(OPEN_DOCUMENT):
+            raise Refused("F1", f"an office document of the type {said}: a signature in it is XML, which is no CMS")
+        if text not in MIMETYPES:
+            raise Refused("F1", f"a zip file of the type {said}, which is not read")
         if entry.header_offset != 0 or entry.compress_type != zipfile.ZIP_STORED:
             raise Refused("F12", "the file mimetype is not the first, or packed")
-        text = bytes(self.read("mimetype", 1000))
-        if text not in MIMETYPES:
-            raise Refused("F1", f"a zip file of the type {text[:80].decode('ascii', 'replace')}, which is not read")
         return MIMETYPES[text]
 
 

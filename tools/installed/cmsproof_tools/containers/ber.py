@@ -11,6 +11,7 @@ from typing import Any, Iterator, NamedTuple
 
 from cmsproof_tools.containers.refusals import Refused
 from cmsproof_tools.found import Found, Unfound
+from cmsproof_tools.signed_parts import header
 
 # what is longer is not converted, and no element is deeper, so that memory and time stay bounded
 LONGEST, DEEPEST, MOST_ELEMENTS = 256 << 20, 40, 200_000
@@ -18,6 +19,8 @@ SECONDS = 60
 INDEFINITE = 0x80
 SEQUENCE, SET, OCTET_STRING, CONTEXT_0, CONTEXT_1 = 0x30, 0x31, 0x04, 0xA0, 0xA1
 CONSTRUCTED = 0x20
+# id-signedData (RFC 5652 5.1)
+OBJECT_IDENTIFIER, SIGNED_DATA = 0x06, bytes.fromhex("2a864886f70d010702")
 CONVERTED = "BER to DER by openssl cms -cmsout"
 
 
@@ -140,11 +143,28 @@ def written_again(octets: memoryview) -> bytes:
     return done.stdout
 
 
+def is_of_other_type(element: Element) -> bool:
+    """Whether an element is a ContentInfo (RFC 5652 3) of another type than SignedData."""
+    kinds = [part.identifier for part in element.inside]
+    of_form = element.identifier == SEQUENCE and kinds == [OBJECT_IDENTIFIER, CONTEXT_0]
+    return of_form and bytes(element.inside[0].contents) != SIGNED_DATA
+
+
+def definite(element: Element) -> bytes:
+    """An element with the same parts, each length of which is the shortest one (X.690 10.1)."""
+    inside = element.identifier & CONSTRUCTED
+    contents = b"".join(definite(part) for part in element.inside) if inside else bytes(element.contents)
+    return header(element.identifier, len(contents)) + contents
+
+
 def in_der(octets: memoryview) -> bytes:
-    """The SignedData in DER, which the octets are in BER, all of them. Raises Refused where anything would be lost."""
+    """The SignedData in DER, which the octets are in BER, all of them. Raises Refused where anything would be lost. CMS of another type has
+    only its lengths written again, so that the checker says of it what it says of the same in DER (C2)."""
     before, length = first_element(octets)
     if length != len(octets):
         raise Refused("F3", f"octets behind the end of the signed data at {length}")
+    if is_of_other_type(before):
+        return definite(before)
     fixed = fixed_in(before)
     written = written_again(octets)
     after, end = first_element(memoryview(written))

@@ -194,6 +194,8 @@ def found_at(pikepdf: Any, found: Any, field: Field, octets: memoryview, left: R
     """The signature of a field. Raises Refused."""
     kind = field.value.get("/Type", pikepdf.Name("/Sig")), field.value.get("/SubFilter", "none")
     what = KINDS.get((str(kind[0]), str(kind[1])))
+    if what is None and str(kind[1]) == "/ETSI.RFC3161":
+        raise Refused("F1", f"a document time-stamp (ETSI.RFC3161) of /Type {kind[0]} and not /DocTimeStamp, which is not read")
     if what is None:
         raise Refused("F1", f"a signature of /Type {kind[0]} and /SubFilter {kind[1]}, which is not read")
     signed, converted = signed_of(contents_of(pikepdf, field, octets, left)[0])
@@ -255,7 +257,8 @@ def check_objects(pikepdf: Any, found: Any, fields: list[Field], octets: memoryv
 
 def notes_of(found: Any) -> tuple[str, ...]:
     """What a reader should know of the file: signatures that are no field's."""
-    return ("the signature of usage rights (/UR3) is not looked at",) if "/UR3" in found.Root.get("/Perms", {}) else ()
+    rights = found.Root.get("/Perms", {})
+    return tuple(f"the signature of usage rights ({key}) is not looked at" for key in ("/UR3", "/UR") if key in rights)
 
 
 def signatures_in(pikepdf: Any, octets: memoryview) -> Iterator[Found | Unfound]:
@@ -267,7 +270,8 @@ def signatures_in(pikepdf: Any, octets: memoryview) -> Iterator[Found | Unfound]
             fields, notes = list(fields_of(pikepdf, found)), notes_of(found)
             ranges = refusals_of(pikepdf, fields, octets)
         if not fields:
-            raise Refused("F1", "a PDF in which no signature field is signed")
+            rights = "; " + notes[0] + ": the maker of a program signs such rights, and no person" if notes else ""
+            raise Refused("F1", "a PDF in which no signature field is signed" + rights)
         with bounded(len(octets), TIMES):
             check_objects(pikepdf, found, fields, octets, ranges)
         whole = any(isinstance(left, Range) and left.end == len(octets) for left in ranges)

@@ -29,7 +29,7 @@ class Row(NamedTuple):
 
     def is_for_no_time(self) -> bool:
         """Whether it trusts nobody, and only lets a check name a rule."""
-        return is_for_no_time(self.period.first, self.period.last, self.certificate.time_text("not_valid_after"))
+        return is_for_no_time(self.period.first, self.period.last, self.certificate)
 
     def subject(self) -> str:
         """Whose certificate it is."""
@@ -41,6 +41,8 @@ class Row(NamedTuple):
 
     def why(self) -> str:
         """Why it ends when it ends: by its comment, which whoever wrote the list wrote."""
+        if self.is_for_no_time():
+            return self.period.ends
         expires = self.certificate.time_text("not_valid_after")
         if self.period.last == OPEN or not Period(last=expires).cut(self.period).ends:
             return f"the certificate expires {expires}"

@@ -49,8 +49,8 @@ CURES = {
         "issuer, once a stamp passes: the path is then judged at its time"
     ),
     "no time of a tsa": (
-        "the entry is for no time, and stays so: it only says who the authority is. No path of it to an issuer held at the token's time, or it "
-        "was revoked, as standard error said when the list was made: have the signature stamped again"
+        "the entry is for no time, and stays so: it only says who the authority is. No path of it to an issuer held at the token's time, "
+        "or it was revoked, which standard error says when the list is made: have the signature stamped again"
     ),
 }
 # what is said of a time-stamp token that is checked as if it were a signed file
@@ -147,12 +147,12 @@ def sid_text(sid: der.Element) -> str:
 
 def fault_at(entry: TrustEntry, certificate: Certificate, time: str) -> str | None:
     """Why an entry does not hold at a time: a word of CURES, or None where it holds."""
-    if is_for_no_time(entry.first, entry.last, certificate.time_text("not_valid_after")):
-        return f"no time of a {entry.role}"
     if not in_order(certificate.time_text("not_valid_before"), time):
         return "early"
     if not in_order(time, certificate.time_text("not_valid_after")):
         return "late"
+    if is_for_no_time(entry.first, entry.last, certificate):
+        return f"no time of a {entry.role}"
     first, last = entry.first, entry.last
     return None if (first == "-" or in_order(first, time)) and (last == "-" or in_order(time, last)) else "period"
 

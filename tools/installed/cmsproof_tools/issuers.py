@@ -137,8 +137,7 @@ class Growing:
         # entries for no time, by what they do not trust
         self.barred: dict[tuple[str, bytes], Entry] = {}
         for entry in given:
-            until = entry.certificate.time_text("not_valid_after")
-            if is_for_no_time(entry.period.first, entry.period.last, until):
+            if is_for_no_time(entry.period.first, entry.period.last, entry.certificate):
                 self.barred[entry.role, entry.certificate.octets] = entry
             else:
                 self.put(entry)

@@ -35,9 +35,14 @@ def no_time(until: str, why: str) -> Period:
     return Period(moment, moment, why)
 
 
-def is_for_no_time(first: str, last: str, until: str) -> bool:
-    """Whether an entry with this period is one that `no_time` makes, for a certificate whose validity ends so."""
-    return OPEN != first == last == until[:-1] + LAST_NANOSECOND
+def is_for_no_time(first: str, last: str, certificate: Certificate) -> bool:
+    """Whether an entry with this period is one that `no_time` makes for a certificate. It is not where its validity cannot be read."""
+    if not OPEN != first == last or not last.endswith(LAST_NANOSECOND):
+        return False
+    try:
+        return last == certificate.time_text("not_valid_after")[:-1] + LAST_NANOSECOND
+    except (ValueError, IndexError):
+        return False
 
 
 def is_by_issuers(trusted: bytes) -> bool:

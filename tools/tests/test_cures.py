@@ -89,8 +89,8 @@ class Table(unittest.TestCase):
 
     def test_fingerprints(self):
         """Two certificates of one session have two fingerprints."""
-        for page in ("docs/REFUSALS.md", "docs/GUIDE.md", "README.md"):
-            found = re.findall(r"^sha256 Fingerprint=(\S+)$", (TOP / page).read_text(), re.MULTILINE)
+        for page in ("docs/REFUSALS.md", "docs/GUIDE.md", "README.md", "man/cmsproof-trust.1"):
+            found = re.findall(r"^(?:sha256 Fingerprint=|# sha256 )(\S+)$", (TOP / page).read_text(), re.MULTILINE)
             self.assertEqual(len(set(found)), len(found), page)
 
 

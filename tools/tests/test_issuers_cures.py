@@ -110,7 +110,9 @@ class Rules(WithWorld):
         older = w.put("older.txt", w.text)
         self.assertEqual((entries, w.barred), ([], [("signer", w.anna.octets)]))
         status, table, _ = run_tool("cmsproof-trust", "--explain", older)
-        self.assertRegex(table.decode(), r"\nsigner +20400101000000\.999999999Z +20400101000000\.999999999Z .* for no time: no stamp passes")
+        self.assertRegex(
+            table.decode(), r"\nsigner +20400101000000\.999999999Z +20400101000000\.999999999Z .* for no time: no stamp passes"
+        )
         entries, _ = w.made([unstamped, w.file(), unstamped])
         newer = w.put("newer.txt", w.text)
         self.assertEqual(([role for role, *_ in entries], w.barred), (["tsa", "signer"], []))

@@ -194,14 +194,14 @@ def content_beside(work: Work, name: str) -> ContextManager[Union[File, None]]:
     return open_file(work, content)
 
 
-def explained(work: Work, outcome: Outcome, octets: Buffer) -> Outcome:
+def explained(work: Work, outcome: Outcome, found: Found) -> Outcome:
     """The outcome with what a reader may want to know of it. A fault in that leaves the outcome as it is."""
     try:
-        if outcome.status in (MALFORMED, REFUSED):
-            outcome = outcome._replace(kind=kind_of_signed(octets, outcome.status == MALFORMED))
+        if outcome.status in (MALFORMED, REFUSED) and found.kind == "signed":
+            outcome = outcome._replace(kind=kind_of_signed(found.signed, outcome.status == MALFORMED))
         if outcome.status != DONE and work.explain:
             parts = parts_of(outcome.status, outcome.line) or {}
-            text = module("explaining").explanation(octets, work.trust.text, parts, outcome.line, outcome.converted)
+            text = module("explaining").explanation(found.signed, work.trust.text, parts, outcome.line, outcome.converted)
             return outcome._replace(explanation=text)
     except Exception:  # an explanation is read by an own reader, of octets that anybody can write
         pass
@@ -323,7 +323,7 @@ def outcome_of(work: Work, reading: Reading, found: Union[Found, Unfound], name:
         content="" if beside is None else beside.name,
         record=None if work.noting is None else Draft(reading, found, content, verdict.line, judge.vouched),
     )
-    return explained(work, said, found.signed)
+    return explained(work, said, found)
 
 
 def told(work: Work, name: str, outcomes: list[Outcome]) -> list[Outcome]:

@@ -171,7 +171,7 @@ class Trusting(unittest.TestCase):
         err = f"cmsproof-trust: warning: {path}: subject CN=issuer,O=cmsproof: {line}\n"
         for role in ("--signer", "--tsa"):
             self.assertIn(f"# warning: {line}\n", self.made(role, path, err=err))
-            self.assertNotIn("warning", self.made(role, self.folder / "authority.pem"))
+            self.assertNotIn(line, self.made(role, self.folder / "authority.pem"))
 
     def test_a_name_makes_no_line_of_its_own(self):
         forged = f"bob\nsigner - - {self.bob.hex()[:20]}"

@@ -348,7 +348,7 @@ ROWS = (
         "P3 TokenMalformed",
         "the token is not a SignedData with exactly one signer, the eContentType id-ct-TSTInfo, "
         "1.2.840.113549.1.9.16.1.4, and a TSTInfo as its content. The line does not say which",
-        TAKE_OUT + ". `cmsproof-archive --explain TOKEN` says which fault it has",
+        TAKE_OUT + ". `cmsproof-archive --explain --trust LIST TOKEN` says which fault it has",
     ),
     Row(
         "8",
@@ -384,7 +384,7 @@ ROWS = (
         "A3 TokenMalformed",
         "TOKEN has no SignedData whose content is a TSTInfo (RFC 3161 2.4.2): mostly it is the whole "
         "response. The line does not say which fault it has",
-        TAKE_OUT + ". `cmsproof-archive --explain TOKEN` says which fault it has",
+        TAKE_OUT + ". `cmsproof-archive --explain --trust LIST TOKEN` says which fault it has",
     ),
     Row(
         "9",

@@ -3,6 +3,7 @@ list has for that trusts nobody at any time."""
 import subprocess
 import tempfile
 import unittest
+import unittest.mock
 
 from issuing_world import AT, World, h
 from making import PROGRAM, run_tool
@@ -64,6 +65,18 @@ class Rules(WithWorld):
                 self.assertEqual([role for role, _ in w.barred], roles)
                 self.assertEqual([role for role, *_ in entries if role == "signer"], [])
                 self.assertEqual("no stamp passes" in "".join(told), "S7" not in line or "nobody" in what)
+
+    def test_many(self):
+        """Forty signers without a stamp: OpenSSL judges those of the same issuers together, 32 at most at a time, as it judges others."""
+        w, people = self.world, [h.issue(f"P{number}", self.world.sub) for number in range(40)]
+        strangers = [h.issue(f"S{number}", h.root("Elsewhere")) for number in range(3)]
+        from cmsproof_tools.paths import OpenSSL
+
+        said, words = OpenSSL.said, []
+        with unittest.mock.patch.object(OpenSSL, "said", lambda self, asked: words.append(asked) or said(self, asked)):
+            entries, _ = w.made([w.file(who, times=()) for who in (*people, *strangers)])
+        self.assertEqual((entries, {octets for _, octets in w.barred}), ([], {who.octets for who in people}))
+        self.assertLess(len([asked for asked in words if asked[0] == "verify"]), 4)
 
     def test_revoked(self):
         """Whose authority was revoked is not told to list it."""

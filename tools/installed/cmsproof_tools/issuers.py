@@ -143,6 +143,7 @@ class Growing:
                 self.put(entry)
         self.failed: set[tuple[str, bytes, str, int]] = set()
         self.unissued: set[tuple[str, bytes, int]] = set()
+        self.to_bar: dict[tuple[str, bytes], tuple[str, Certificate, Pool]] = {}
         self.waiting: list[Waiting] = []
         self.pools: dict[tuple[bytes, ...], Pool] = {}
         self.left, self.asked, self.left_to_bar = 0, 0, 0
@@ -317,14 +318,30 @@ class Growing:
         """Puts an entry for no time behind the list for a certificate that an issuer issued, unless another entry has it: it trusts
         nobody, and lets a check name the rule by which no stamp passes, and not S7, or K10, of somebody who is known."""
         place, key = (role, certificate.octets), (role, hashlib.sha256(certificate.octets).digest(), pool.mark)
-        if place in self.by_certificate or place in self.barred or key in self.unissued or self.left_to_bar == 0:
+        known = place in self.by_certificate or place in self.barred or place in self.to_bar
+        if known or key in self.unissued or self.left_to_bar == 0:
             return
         self.left_to_bar -= 1
-        path, until = self.issued(role, certificate, pool), show("certificate", certificate.octets).get("until", ".")
-        if path is None or "." in until:
-            self.unissued.add(key)
-        else:
-            self.barred[place] = Entry(role, no_time(until, BARRED[role]), certificate, name, path)
+        self.to_bar[place] = name, certificate, pool
+        if len(self.to_bar) >= MOST_WAITING:
+            self.settle_barred()
+
+    def settle_barred(self) -> None:
+        """Judges the certificates that wait for an entry for no time: those whose paths go by the same issuers in one run of OpenSSL."""
+        waiting, self.to_bar = self.to_bar, {}
+        for role, judge, purpose in (
+            ("signer", self.trusted.signers, "any"),
+            ("tsa", self.trusted.authorities, "timestampsign"),
+        ):
+            asked = [(one, pool, one.validity().first) for (kind, _), (_, one, pool) in waiting.items() if kind == role]
+            judge.foresee(asked, purpose)
+        for (role, octets), (name, certificate, pool) in waiting.items():
+            pool.left = MOST_OF_FILE
+            path, until = self.issued(role, certificate, pool), show("certificate", octets).get("until", ".")
+            if path is None or "." in until:
+                self.unissued.add((role, hashlib.sha256(octets).digest(), pool.mark))
+            else:
+                self.barred[role, octets] = Entry(role, no_time(until, BARRED[role]), certificate, name, path)
 
     def issued(self, role: str, certificate: Certificate, pool: Pool) -> Union[Path, None]:
         """A path of a certificate to an issuer that is trusted, which holds when all of it is valid; whether it was revoked, or the issuer
@@ -337,6 +354,7 @@ class Growing:
 
     def listed(self) -> list[Entry]:
         """All entries, authorities first; those for no time only where no other one has the certificate."""
+        self.settle_barred()
         more = [entry for place, entry in self.barred.items() if place not in self.by_certificate]
         return sorted([*self.entries, *more], key=lambda entry: entry.role != "tsa")
 

@@ -354,7 +354,8 @@ class Judge:
             try:
                 if not period.is_none():
                     check_row(row, purpose)
-                    self.openssl.verify(row, self.options(period.first, purpose))
+                    if (key_of(row), purpose) not in self.held:
+                        self.openssl.verify(row, self.options(period.first, purpose))
                     return path
             except Broken:
                 pass

@@ -8,6 +8,8 @@ import unittest.mock
 from issuing_world import AT, World, h
 from making import PROGRAM, run_tool
 
+import cmsproof
+
 # what no cure may say without the comparison before it
 LISTING, COMPARING = ("list it as", "--signer", "name its issuer"), "in another way"
 
@@ -77,6 +79,23 @@ class Rules(WithWorld):
             entries, _ = w.made([w.file(who, times=()) for who in (*people, *strangers)])
         self.assertEqual((entries, {octets for _, octets in w.barred}), ([], {who.octets for who in people}))
         self.assertLess(len([asked for asked in words if asked[0] == "verify"]), 4)
+
+    def test_certificates_that_no_list_can_have(self):
+        """A certificate with an extension twice (RFC 5280 4.2) can be read by the library of Python, and not by the proved reader (M13): its
+        file has no entry, and the next file has its own."""
+        w = self.world
+        identifier = h.x509.SubjectKeyIdentifier(b"abcdefgh"), False
+        other = h.x509.UnrecognizedExtension(h.x509.ObjectIdentifier("2.5.29.99"), bytes.fromhex("04086162636465666768")), False
+        signer, clock = h.issue("Twice", w.sub, [identifier, other]), h.issue("Twice", w.clocks, [h.STAMPING, identifier, other])
+        twice = [who.octets.replace(bytes.fromhex("0603551d63"), bytes.fromhex("0603551d0e")) for who in (signer, clock)]
+        self.assertEqual([cmsproof.show("certificate", octets)["code"] for octets in twice], ["M13", "M13"])
+        for file, roles in (
+            (h.signed(signer, [], [twice[0], w.sub.octets]), {"signer": w.anna.octets}),
+            (h.signed(signer, [(w.clock, AT)], [twice[0], w.sub.octets]), {"signer": w.anna.octets}),
+            (h.signed(w.anna, [(clock, AT, [twice[1]])], [w.anna.octets, w.sub.octets]), {"signer": w.anna.octets}),
+        ):
+            entries, _ = w.made([file, w.file(times=())])
+            self.assertEqual((w.status, [role for role, *_ in entries if role == "signer"], dict(w.barred)), (0, [], roles))
 
     def test_revoked(self):
         """Whose authority was revoked is not told to list it."""

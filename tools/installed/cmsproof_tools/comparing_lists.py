@@ -5,7 +5,7 @@ from typing import Iterable, Iterator, NamedTuple
 
 from cmsproof import ListRefused, TrustList
 from cmsproof_tools.certificates import Certificate
-from cmsproof_tools.listing import HEAD, is_for_no_time
+from cmsproof_tools.listing import HEAD, NO_TIME, is_for_no_time
 from cmsproof_tools.periods import OPEN, Period
 from cmsproof_tools.running import FAILED, MALFORMED, Stop, one_line, read, shown
 from cmsproof_tools.texts import numbered_lines, trust_entries
@@ -42,7 +42,7 @@ class Row(NamedTuple):
     def why(self) -> str:
         """Why it ends when it ends: by its comment, which whoever wrote the list wrote."""
         if self.is_for_no_time():
-            return self.period.ends
+            return self.period.ends if self.period.ends.startswith(NO_TIME) else f"{NO_TIME}: it trusts nobody"
         expires = self.certificate.time_text("not_valid_after")
         if self.period.last == OPEN or not Period(last=expires).cut(self.period).ends:
             return f"the certificate expires {expires}"

@@ -10,14 +10,14 @@ import hashlib
 from collections import defaultdict
 from typing import Callable, Iterable, NamedTuple, Union
 
-from cmsproof import TrustList, questions, show
+from cmsproof import ListRefused, TrustList, questions, show
 from cmsproof.octets import Buffer
 from cmsproof.tokens import token_time
 from cmsproof_tools import der
 from cmsproof_tools.certificates import Certificate
 from cmsproof_tools.finding import again_in_der
 from cmsproof_tools.found import Found
-from cmsproof_tools.listing import is_for_no_time, no_time
+from cmsproof_tools.listing import NO_TIME, is_for_no_time, no_time
 from cmsproof_tools.paths import MOST_OF_FILE, Broken, Judge, Path, Pool, Unsigned
 from cmsproof_tools.periods import Period
 from cmsproof_tools.revocation import Revocation
@@ -34,8 +34,8 @@ MOST_JUDGED, MOST_ASKED, MOST_NAMED = 500, 2500, 20
 MOST_BARRED = 20
 # why such an entry is there
 BARRED = {
-    "signer": "for no time: no stamp passes, and it is here so that a check names the stamp's rule",
-    "tsa": "for no time: no token under it passes, or no path of it holds then; it is here so that a check names the rule",
+    "signer": NO_TIME + ": no stamp passes, and it is here so that a check names the stamp's rule",
+    "tsa": NO_TIME + ": no token under it passes, or no path of it holds then; it is here so that a check names the rule",
 }
 # the longest certificate that is read: one of extensions alone takes 80 times its length in memory, and two seconds for a megabyte
 LONGEST = 1 << 18
@@ -100,10 +100,14 @@ def list_of_one(role: str, octets: bytes) -> TrustList:
 
 def under_which(octets: Buffer, certificates: list[Certificate]) -> list[tuple[Certificate, list[Question]]]:
     """The certificates under which a signature of a SignedData verifies, and those questions: the proved call is asked about each
-    by itself."""
+    by itself. One that the proved reader does not take is none of them, for no list can have it."""
     found = []
     for certificate in certificates:
-        asked = questions(octets, trust=list_of_one("signer", certificate.octets)).asked
+        try:
+            trust = list_of_one("signer", certificate.octets)
+        except ListRefused:
+            continue
+        asked = questions(octets, trust=trust).asked
         held = [question for question in asked if fault_of(question) is None]
         if held:
             found.append((certificate, held))
@@ -138,7 +142,8 @@ class Growing:
         self.barred: dict[tuple[str, bytes], Entry] = {}
         for entry in given:
             if is_for_no_time(entry.period.first, entry.period.last, entry.certificate):
-                self.barred[entry.role, entry.certificate.octets] = entry
+                period = entry.period._replace(ends=BARRED[entry.role])
+                self.barred[entry.role, entry.certificate.octets] = entry._replace(period=period)
             else:
                 self.put(entry)
         self.failed: set[tuple[str, bytes, str, int]] = set()
@@ -265,7 +270,8 @@ class Growing:
         moments = {moment for token in signer.tokens if (moment := self.passing(token)) is not None}
         if not moments:
             self.told(f"{name}: no stamp passes under a listed authority")
-            for certificate, _ in under_which(signed, named):
+            new = [one for one in named if not self.is_known("signer", one, pool)]
+            for certificate, _ in under_which(signed, new):
                 self.bar("signer", name, certificate, pool)
             return
         for certificate, _ in under_which(signed, named):
@@ -314,15 +320,20 @@ class Growing:
             self.failed.add(key)
             self.told(f"{name}: no path for {certificate.name_text('subject')}, {role}, at {moment}: {fault}")
 
+    def is_known(self, role: str, certificate: Certificate, pool: Pool) -> bool:
+        """Whether a certificate has an entry, waits for one for no time, or can have none by the certificates that are at hand."""
+        place = role, certificate.octets
+        if place in self.by_certificate or place in self.barred or place in self.to_bar:
+            return True
+        return (role, hashlib.sha256(certificate.octets).digest(), pool.mark) in self.unissued
+
     def bar(self, role: str, name: str, certificate: Certificate, pool: Pool) -> None:
         """Puts an entry for no time behind the list for a certificate that an issuer issued, unless another entry has it: it trusts
         nobody, and lets a check name the rule by which no stamp passes, and not S7, or K10, of somebody who is known."""
-        place, key = (role, certificate.octets), (role, hashlib.sha256(certificate.octets).digest(), pool.mark)
-        known = place in self.by_certificate or place in self.barred or place in self.to_bar
-        if known or key in self.unissued or self.left_to_bar == 0:
+        if self.left_to_bar == 0 or self.is_known(role, certificate, pool):
             return
         self.left_to_bar -= 1
-        self.to_bar[place] = name, certificate, pool
+        self.to_bar[role, certificate.octets] = name, certificate, pool
         if len(self.to_bar) >= MOST_WAITING:
             self.settle_barred()
 

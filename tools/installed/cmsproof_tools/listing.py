@@ -14,7 +14,8 @@ STAMPER = "for time-stamping alone (RFC 3161 2.3): it is an authority's, and sig
 ISSUER = "an issuer's certificate (CA:TRUE): those that it issued are not trusted by it"
 # how the comment begins at the head of a list that is made of what issuers issued
 JUDGED = "paths were judged by "
-# what ends the moment that an entry for no time has as its period: a second's last nanosecond
+# what the comment of an entry for no time says first, and what ends the moment that is its period: a second's last nanosecond
+NO_TIME = "for no time"
 LAST_NANOSECOND = ".999999999Z"
 
 

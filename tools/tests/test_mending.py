@@ -10,6 +10,9 @@ from oracle import der
 
 TRUST = cmsproof.TrustList((REAL / "trust.txt").read_bytes())
 EMPTY = b"\xa1\0"
+SIGNED, DATA = bytes.fromhex("2a864886f70d010702"), bytes.fromhex("2a864886f70d010701")
+# the parts of a SignerInfo without signed attributes, and with empty unsigned ones (RFC 5652 5.3)
+SIGNER = bytes.fromhex("020101" "3000" "3000" "3000" "040178" "a100")
 
 
 def parts_of(octets):
@@ -69,6 +72,30 @@ class Mending(unittest.TestCase):
         for row in ([*fields[:3], b"\xa0\0", *fields[3:]], [*fields[:3], EMPTY, *fields[3:]], [*fields[:3], EMPTY]):
             file = element(0x30, kind, element(0xA0, element(0x30, *parts, element(0x31, element(0x30, *row)))))
             self.assertEqual(without_empty(file), (file, []))
+
+    def test_what_is_no_signed_data(self):
+        """Octets like those of empty unsigned attributes stay, where they are others: each row has one part that differs."""
+        number, none, sequence, empty = element(2, b"\1"), element(0x31), element(0x30), element(0x30, SIGNER)
+        inside = [number, none, element(0x30, der.element(6, DATA)), element(0x31, empty)]
+
+        def file(kind=SIGNED, explicit=0xA0, signed=0x30, parts=inside):
+            return element(0x30, element(6, kind), element(explicit, element(signed, *parts)))
+
+        self.assertEqual(without_empty(file())[1], [1])
+        for octets in (
+            file(kind=bytes.fromhex("2a864886f70d010703")),
+            file(explicit=0xA1),
+            file(signed=0x31),
+            file(parts=[*inside[:3], element(0xA0, empty)]),
+            file(parts=[*inside[:2], element(0x31, empty)]),
+            file(parts=[number, sequence, *inside[2:]]),
+            file() + EMPTY,
+        ):
+            with self.assertRaises((ValueError, IndexError)):
+                without_empty(octets)
+        # (its last part but one is no signature)
+        other = file(parts=[*inside[:3], element(0x31, element(0x30, SIGNER.replace(b"\4\1x", b"\x30\0")))])
+        self.assertEqual(without_empty(other), (other, []))
 
     def test_the_command(self):
         folder = folder_of(self)

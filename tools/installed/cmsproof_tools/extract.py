@@ -36,6 +36,8 @@ or a library failed.
 """
 ENDINGS = {"signed": "p7s", "token": "tst"}
 NO_TRUST = b"cmsproof trust 2\n"
+# how many signers are named of those whose attributes are left out: a file can have any number
+MOST_NAMED = 20
 
 
 class Wanted(NamedTuple):
@@ -89,7 +91,8 @@ def mended(found: Union[Found, Unfound]) -> Union[Found, Unfound]:
         return found
     if not signers:
         return found
-    whose = ", ".join(map(str, signers))
+    more = f" and {len(signers) - MOST_NAMED} more" if len(signers) > MOST_NAMED else ""
+    whose = ", ".join(map(str, signers[:MOST_NAMED])) + more
     done = f"left out the empty unsigned attributes (a1 00) of signer {whose}, which no signature covers, and wrote the lengths around again"
     return found._replace(signed=octets, converted=", ".join(filter(None, [found.converted, done])))
 

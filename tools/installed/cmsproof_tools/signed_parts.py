@@ -14,8 +14,13 @@ from cmsproof_tools.texts import is_moment
 
 TOKEN, TST_INFO = "1.2.840.113549.1.9.16.2.14", "1.2.840.113549.1.9.16.1.4"
 CONTEXT_0, CONTEXT_1, GENERALIZED_TIME, SET = 0xA0, 0xA1, 0x18, 0x31
+# id-signedData (RFC 5652 5.1) as an element; and the identifiers of the parts of a ContentInfo and its SignedData (3, 5.1), and of those
+# around the unsigned attributes of a SignerInfo (5.3)
+SIGNED_DATA = bytes.fromhex("06092a864886f70d010702")
+OF_INFO, OF_SIGNED = [der.SEQUENCE, der.OID, CONTEXT_0, der.SEQUENCE], [der.INTEGER, SET, der.SEQUENCE]
+BEFORE_UNSIGNED = [der.SEQUENCE, der.OCTETS, CONTEXT_1]
 # what is looked at in a file: whoever made it can have put in any number
-MOST_CERTIFICATES, MOST_TOKENS = 10000, 1000
+MOST_CERTIFICATES, MOST_TOKENS, MOST_MENDED = 10000, 1000, 100_000
 # how many parts there are at most in a ContentInfo, a SignedData, a SignerInfo, an EncapsulatedContentInfo, an Attribute (RFC 5652 3,
 # 5.1 to 5.3) and a TSTInfo (RFC 3161 2.4.2)
 IN_INFO, IN_SIGNED, IN_SIGNER, IN_CONTENT, IN_ATTRIBUTE, IN_TST_INFO = 2, 6, 7, 2, 2, 10
@@ -84,7 +89,7 @@ def content_type_of(octets: Buffer) -> str:
     try:
         _, _, begin, end = parts_of(octets, len(octets))[2]
         kind, *_ = some(octets, begin, end, IN_CONTENT)
-        return der.oid_text(bytes(octets[kind[2] : kind[3]]))
+        return "" if kind[3] - kind[2] > der.LONGEST_OID else der.oid_text(bytes(octets[kind[2] : kind[3]]))
     except (ValueError, IndexError):
         return ""
 
@@ -186,25 +191,46 @@ def around(span: Span, pieces: list[Buffer]) -> list[Buffer]:
     return [header(span[0], sum(map(len, pieces))), *pieces]
 
 
+def end_without_empty(octets: Buffer, signer: Span) -> int:
+    """Where the contents of a SignerInfo end without its unsigned attributes, if these are there and empty, and else where they end."""
+    fields = some(octets, *signer[2:], IN_SIGNER)
+    empty = len(fields) > 5 and [field[0] for field in fields[-3:]] == BEFORE_UNSIGNED and fields[-1][2] == fields[-1][3]
+    return fields[-1][1] if empty else signer[3]
+
+
+def signers_without_empty(octets: Buffer, begin: int, end: int) -> tuple[bytearray, list[int]]:
+    """The signers in this part of octets without empty unsigned attributes, and the numbers of those who had them."""
+    view, written, found = memoryview(octets), bytearray(), []
+    for number, signer in enumerate(spans(octets, begin, end), 1):
+        if number > MOST_MENDED:
+            raise TooMany(f"more than {MOST_MENDED} signers are in it")
+        identifier, first, inside, stop = signer
+        last = end_without_empty(octets, signer)
+        if last != stop:
+            found.append(number)
+            written += header(identifier, last - inside)
+            first = inside
+        written += view[first:last]
+    return written, found
+
+
 def without_empty(octets: Buffer) -> tuple[Buffer, list[int]]:
     """A SignedData without the unsigned attributes that are there and empty, `a1 00`, which RFC 5652 5.3 does not allow and no signature
     covers (5.4), and the numbers of the signers who had them. All else is the same, but the lengths around. Raises ValueError where the
     octets are no SignedData."""
-    view = memoryview(octets)
-    ((_, _, begin, end),) = infos = some(octets, 0, len(octets), 1)
-    kind, explicit = some(octets, begin, end, IN_INFO)
+    (info,) = some(octets, 0, len(octets), 1)
+    kind, explicit = some(octets, *info[2:], IN_INFO)
     (signed,) = some(octets, *explicit[2:], 1)
     *parts, last = some(octets, *signed[2:], IN_SIGNED)
-    found: list[int] = []
-    signers: list[Buffer] = []
-    for number, signer in enumerate(spans(octets, *last[2:]), 1):
-        fields = some(octets, *signer[2:], IN_SIGNER)
-        kept = fields[:-1] if len(fields) > 5 and fields[-1][0] == CONTEXT_1 and fields[-1][2] == fields[-1][3] else fields
-        found += [number] * (kept != fields)
-        signers += around(signer, [view[first:stop] for _, first, _, stop in kept])
-    inside = [*(view[first:stop] for _, first, _, stop in parts), *around(last, signers)]
-    whole = around(infos[0], [view[kind[1] : kind[3]], *around(explicit, around(signed, inside))])
-    return (b"".join(whole), found) if found else (octets, [])
+    view = memoryview(octets)
+    of_form = [part[0] for part in (info, kind, explicit, signed)] == OF_INFO and view[kind[1] : kind[3]] == SIGNED_DATA
+    if not of_form or [part[0] for part in parts[:3]] != OF_SIGNED or last[0] != SET:
+        raise ValueError("it is no SignedData")
+    signers, found = signers_without_empty(octets, *last[2:])
+    if not found:
+        return octets, []
+    inside = [view[signed[2] : last[1]], *around(last, [signers])]
+    return b"".join(around(info, [view[kind[1] : kind[3]], *around(explicit, around(signed, inside))])), found
 
 
 def everything_in(octets: Buffer) -> tuple[list[bytes], list[Signer]]:

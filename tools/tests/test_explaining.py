@@ -78,6 +78,16 @@ class Explanations(unittest.TestCase):
             found.startswith(said + f"trusted - to 20261122071758Z; the time in its token is {time}.{PERIOD}"), found
         )
 
+    def test_an_entry_of_an_issuer(self):
+        """What issuers issued ends for a reason, mostly a revocation: no cure says to trust it longer."""
+        by_hand = trust_list((5, "-", "20261122071758Z"))
+        by_issuers = by_hand.replace(b"\n", b"\n# paths were judged by OpenSSL\n", 1)
+        for trusted, longer in ((by_hand, True), (by_issuers, False)):
+            found = self.explained("rsa_attached_ts", trusted, "K13", signer="1", token="1")
+            self.assertEqual(
+                ("give it another period" in found, "If it was revoked, that stays so" in found), (longer, not longer)
+            )
+
     def test_when_an_entry_holds(self):
         from cmsproof_tools.certificates import Certificate
         from cmsproof_tools.explaining import CURES, fault_at

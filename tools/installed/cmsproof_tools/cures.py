@@ -302,7 +302,7 @@ ROWS = (
         "K13 Period",
         "none of those is valid and in its period of the list at the token's time; that it expired later does no harm",
         "`--explain` compares: give the entry another period, if you trust it for that time, or stamp again. "
-        "An entry that says `for no time` stays as it is",
+        "An entry that says `for no time`, or that ends because of a revocation, stays as it is",
     ),
     Row("6", "K14 SignatureFails", "no answer vouches for its signature under the key of one of those", ASK_AGAIN),
     # lists

@@ -49,8 +49,13 @@ CURES = {
         "issuer, once a stamp passes: the path is then judged at its time"
     ),
     "no time of a tsa": (
-        "the entry is for no time, and stays so: it only says who the authority is. No path of it to an issuer held at the token's time, "
-        "or it was revoked, which standard error says when the list is made: have the signature stamped again"
+        "the entry is for no time, and stays so: it only says who the authority is. When the list was made, no token under it passed, no "
+        "path of it to an issuer held at the token's time, or it was revoked, as standard error said then. Make the list anew with this "
+        "file; if it stays so, have the signature stamped again"
+    ),
+    "period by issuers": (
+        "the certificate was valid then, but its entry is for another time, and the comment above it says why. If it was revoked, that "
+        "stays so. If what is known of its revocation ends, make the list anew with what is known now"
     ),
 }
 # what is said of a time-stamp token that is checked as if it were a signed file
@@ -176,6 +181,8 @@ def of_certificate(trusted: bytes, role: str, sid: der.Element, times: list[str]
     faults = {fault for pair in listed for time in times if (fault := fault_at(*pair, time)) is not None}
     if role == "tsa":
         faults = {"tsa" if fault in ("early", "late") else fault for fault in faults}
+    if is_by_issuers(trusted):
+        faults = {"period by issuers" if fault == "period" else fault for fault in faults}
     entry_texts = "; ".join(entry_text(*pair) for pair in listed)
     return " ".join([f"it names {entry_texts}; {stamped}.", *(f"Cure: {CURES[fault]}." for fault in sorted(faults))])
 
@@ -232,7 +239,8 @@ def of_response(octets: Buffer) -> str:
 
 def of_token(octets: Buffer, converted: str) -> str:
     """What is to be said of a time-stamp token that is checked as if it were a signed file."""
-    fault = f"it was not in DER ({converted})" if converted else token_fault(bytes(octets))
+    short = len(octets) <= LONGEST
+    fault = f"it was not in DER ({converted})" if converted else token_fault(bytes(octets)) if short else ""
     return TOKEN_ALONE + (f". What `match` (P3) and `attach` (A3) do not take of it: {fault}" if fault else "")
 
 

@@ -86,7 +86,9 @@ class Rules(WithWorld):
         w = self.world
         identifier = h.x509.SubjectKeyIdentifier(b"abcdefgh"), False
         other = h.x509.UnrecognizedExtension(h.x509.ObjectIdentifier("2.5.29.99"), bytes.fromhex("04086162636465666768")), False
-        signer, clock = h.issue("Twice", w.sub, [identifier, other]), h.issue("Twice", w.clocks, [h.STAMPING, identifier, other])
+        signer, clock = h.issue("Twice", w.sub, [identifier, other]), h.issue(
+            "Twice", w.clocks, [h.STAMPING, identifier, other]
+        )
         twice = [who.octets.replace(bytes.fromhex("0603551d63"), bytes.fromhex("0603551d0e")) for who in (signer, clock)]
         self.assertEqual([cmsproof.show("certificate", octets)["code"] for octets in twice], ["M13", "M13"])
         for file, roles in (
@@ -142,9 +144,14 @@ class Rules(WithWorld):
         older = w.put("older.txt", w.text)
         self.assertEqual((entries, w.barred), ([], [("signer", w.anna.octets)]))
         status, table, _ = run_tool("cmsproof-trust", "--explain", older)
-        self.assertRegex(
-            table.decode(), r"\nsigner +20400101000000\.999999999Z +20400101000000\.999999999Z .* for no time: no stamp passes"
-        )
+        said = r"\nsigner +20400101000000\.999999999Z +20400101000000\.999999999Z .* for no time: no stamp passes"
+        self.assertRegex(table.decode(), said)
+        # (also in a list that is made of it, and where its comments are gone)
+        words = ["--issuer", w.put("root.pem", w.root), "--tsa-issuer", w.put("clocks.pem", w.clocks), "--trust", older]
+        run_tool("cmsproof-archive", *words, "--write-trust", w.folder / "again.txt", w.put("none.p7s", unstamped))
+        self.assertRegex(run_tool("cmsproof-trust", "--explain", w.folder / "again.txt")[1].decode(), said)
+        bare = w.put("bare.txt", b"".join(line for line in w.text.splitlines(True) if not line.startswith(b"#")))
+        self.assertIn("for no time: it trusts nobody\n", run_tool("cmsproof-trust", "--explain", bare)[1].decode())
         entries, _ = w.made([unstamped, w.file(), unstamped])
         newer = w.put("newer.txt", w.text)
         self.assertEqual(([role for role, *_ in entries], w.barred), (["tsa", "signer"], []))

@@ -20,7 +20,7 @@ esac
 assembly=cmsproof-$machine-linux.s.gz
 [ -f dist/SHA256SUMS ] || stop "dist/SHA256SUMS is missing: check the folder out again"
 for name in cmsproof-x86_64-linux.s.gz cmsproof-aarch64-linux.s.gz libcmsproof-x86_64-linux.s.gz libcmsproof-aarch64-linux.s.gz \
-    runtime.c PROVENANCE; do
+    workloads-x86_64-linux.s.gz workloads-aarch64-linux.s.gz runtime.c PROVENANCE; do
     grep -q "^[0-9a-f]\{64\}  $name\$" dist/SHA256SUMS || stop "dist/SHA256SUMS has no sum of $name: check dist/ out again"
 done
 differing=$(cd dist && sha256sum --check --quiet SHA256SUMS 2>&1) || stop "dist/ was changed or damaged: $(echo $differing); check it out again, or make it anew: make dist"

@@ -23,7 +23,7 @@ long write(int, const void *, unsigned long);
 int main(void) { unsigned char word[9]; long n = rattle_arg(1, word, 9); write(1, word, n < 0 ? 0 : (unsigned long)n); return n == -2; }
 """
 FILES = {
-    "crates.txt": "low: kit\nmiddle: low\ncmsproof: middle kit\nbeside: low\ncmsproof_c staticlib: low\n",
+    "crates.txt": "low: kit\nmiddle: low\ncmsproof: middle kit\nbeside: low\ncmsproof_c staticlib: low\nworkloads: low\n",
     "HANDLES": "Handles allowed: none.\n",
     "crates/low/src/lib.rt": "fn low() {}\n",
     "crates/low/specs/Low.antt": "low = 1\n",
@@ -31,6 +31,7 @@ FILES = {
     "crates/middle/proofs/Middle.antt": "proof = refl\n",
     "crates/cmsproof/src/main.rt": "fn main() {}\n",
     "crates/cmsproof_c/src/lib.rt": "fn version() {}\n",
+    "crates/workloads/src/main.rt": "fn main() {}\n",
     "crates/beside/src/lib.rt": "fn beside() {}\n",
 }
 NAMES = [*dist.ASSEMBLY.values(), "runtime.c", "PROVENANCE"]
@@ -229,6 +230,7 @@ class Sources(Tree):
             ("crates/middle/proofs/Middle.antt", True),
             ("crates/cmsproof/src/main.rt", True),
             ("crates/cmsproof_c/src/lib.rt", True),
+            ("crates/workloads/src/main.rt", True),
             ("HANDLES", True),
             ("crates/beside/src/lib.rt", False),
             ("crates/low/out/left", False),
@@ -275,6 +277,7 @@ class Sources(Tree):
             (text.replace("low: kit", "low: kit other"), True),
             (text.replace("beside: low", "beside: low middle"), False),
             (text.replace("staticlib: low", "staticlib: low middle"), True),
+            (text.replace("workloads: low", "workloads: low middle"), True),
             ("".join(reversed(text.splitlines(True))), False),
         ):
             (self.top / "crates.txt").write_text(changed)
@@ -369,7 +372,7 @@ class Comparing(Tree):
             "//! Numbers.\n#![tactic(auto)]\n\nghost use Rattle.std.specs.Prelude.{◌≡◌};\n\nuse std::process::Abort;\n\n"
             '/// Five, it says.\npub fn five<R: Abort>(rt: &R) -> u8\n    ensures { result ≡ 5 }\n{\n    panic!(rt; "never")\n}\n'
         )
-        (self.top / "crates.txt").write_text("cmsproof may_abort=1:\ncmsproof_c staticlib:\n")
+        (self.top / "crates.txt").write_text("cmsproof may_abort=1:\ncmsproof_c staticlib:\nworkloads:\n")
         for name in ("dist.py", "proving.py", "jobs.sh"):
             shutil.copy(TOOLS / name, self.top / "tools")
         main = "\n\nfn main(rt: HostRuntime) {\n    let _ = five(&rt);\n}\n"

@@ -16,17 +16,12 @@ FOR_ZSH = $(DESTDIR)$(PREFIX)/share/zsh/site-functions
 FOR_FISH = $(DESTDIR)$(PREFIX)/share/fish/vendor_completions.d
 # the machines that packages are made for
 ARCHES ?= amd64 arm64
-# (by name, so that no backup of an editor is installed)
-TOOLS := $(addprefix tools/installed/cmsproof-,archive extract trust verify)
-MODULES := $(patsubst %,tools/installed/cmsproof_tools/%.py,__init__ archive bundles certificates checking cluster \
-    comparing_lists cures deciding der descriptors evidence explaining extract finding folders found issuer_words issuers issuing kinds \
-    lines listing outcomes page pairs paths periods plots progress report responses resuming revocation rows running \
-    signatures signed_parts state texts trust trusted_lists verify verifying versions workers writing)
+# What is installed of the tools is what their folder has, and no list of it stands anywhere: the commands, and under the names of
+# Python's packages the modules and what lies beside them. (A hidden file, a backup of an editor or what Python compiled has another name.)
+TOOLS := $(shell test ! -d tools/installed || LC_ALL=C find tools/installed -maxdepth 1 -type f -regex 'tools/installed/cmsproof-[a-z]+' | LC_ALL=C sort)
+MODULES := $(shell cd tools/installed 2> /dev/null && LC_ALL=C find cmsproof cmsproof_tools -type f \
+    -regex '[a-z0-9_/]+\.[a-z]+' ! -name '*.pyc' ! -path '*/__pycache__/*' | LC_ALL=C sort)
 FISH := $(addprefix packaging/completion/,cmsproof.fish $(patsubst %,%.fish,$(notdir $(TOOLS))))
-# what the page of a report is made of
-PAGES := $(addprefix tools/installed/cmsproof_tools/,page.html page.css page.js) docs/REFUSALS.md
-CONTAINERS := $(patsubst %,tools/installed/cmsproof_tools/containers/%.py,__init__ armour asic ber keeping mail pdf pdf_objects refusals twofold)
-PACKAGE := $(patsubst %,tools/installed/cmsproof/%,$(addsuffix .py,__init__ calls commands library lists octets results showing tokens verdicts verifiers) py.typed)
 # where the package cmsproof looks for the library first
 LIBRARY = tools/installed/cmsproof/libcmsproof.so.1
 CRATE = crates/cmsproof
@@ -36,6 +31,7 @@ NEED_PYTHON = $(PYTHON) -c 'import cryptography' 2> /dev/null || \
     { echo "cmsproof: '$(PYTHON)' is missing, or its library 'cryptography': install python3-cryptography" >&2; exit 1; }
 
 .PHONY: build proved dist verify-dist demo check test soak tools-test docs-test fuzz hostile install uninstall clean bench instructions
+.PHONY: install-tools list-installed
 .PHONY: report-test check-dist test-without-rt deb tarball library library-test library-soak install-library uninstall-library
 
 build: cmsproof $(LIBRARY)
@@ -105,15 +101,14 @@ test-without-rt:
 	@$(MAKE) --no-print-directory check-dist
 
 # What can be tested without `rt`: that dist/ is as its sums say, what the built program says of all rows that a program can show,
-# and the tests of the tools; the commands of the documents too, if openssl is there.
+# the tests of the tools, and the commands of the documents. What this machine lacks is left out, with a line that says why; the last
+# line counts it.
 check-dist:
 	@CC='$(CC)' sh tools/build.sh
 	@$(MAKE) --no-print-directory --always-make $(LIBRARY)
 	@cd dist && sha256sum --check --quiet SHA256SUMS && echo "check-dist: dist/ is as its sums say"
 	@$(PYTHON) tools/program_rows.py ./cmsproof
-	@$(MAKE) --no-print-directory tools-test
-	@if command -v openssl > /dev/null; then $(MAKE) --no-print-directory docs-test; else \
-	echo "check-dist: there is no openssl, so the commands of the documents were not run"; fi
+	@status=0; { $(LOOK); } || status=1; $(PYTHON) tools/on_installed.py || status=1; exit $$status
 
 # The workloads of dist/ here, timed by bench/run against those of the dist/ of commit SINCE, with SEED=N: no proof is needed.
 bench:
@@ -129,23 +124,22 @@ soak:
 	@$(NEED_RT)
 	@$(PYTHON) tools/soak.py --jobs $(or $(JOBS),1) $(CRATES)
 
-# The tests of the tools that are installed beside the program, of the oracle and of the scripts of the gate. They need openssl and
-# Python's library `cryptography`. Where pyflakes and mypy are installed, these look at the code first.
-LOOK = if command -v $(1) > /dev/null; then $(1) $(2); else echo "tools-test: there is no $(1), so it did not look at the code"; fi
+# The tests of the tools that are installed beside the program, of the oracle and of the scripts of the gate, on a tree that `make
+# install` makes in a new folder. Where pyflakes and mypy are installed, these look at the code first.
+LOOK = $(call LOOKS,pyflakes3,tools benchmarks packaging) && $(call LOOKS,mypy)
+LOOKS = if command -v $(1) > /dev/null; then $(1) $(2); else echo "tools-test: there is no $(1), so it did not look at the code"; fi
 tools-test: build
-	@$(NEED_PYTHON)
-	@$(call LOOK,pyflakes3,tools benchmarks)
-	@$(call LOOK,mypy)
-	@$(PYTHON) -m unittest discover -s tools/tests
+	@$(LOOK)
+	@$(PYTHON) tools/on_installed.py tests
 
 # The report of cmsproof-archive, also in Chromium if it is there.
 report-test:
 	@$(NEED_PYTHON)
 	@$(PYTHON) tools/tests/test_report.py
 
-# Runs each command of the documents that is marked so, and compares what it prints.
+# Runs each command of the documents that is marked so, on such a tree, and compares what it prints.
 docs-test: build
-	@CMSPROOF=$(CURDIR)/cmsproof $(PYTHON) tools/trying/docs_test.py
+	@$(PYTHON) tools/on_installed.py documents
 
 # Mutated real files, held against the rules and OpenSSL; not part of the gate. MINUTES=N, SEED=S.
 fuzz: cmsproof
@@ -156,12 +150,8 @@ hostile: cmsproof
 	@$(PYTHON) tools/trying/hostile.py ./cmsproof
 	@$(PYTHON) tools/trying/failing.py ./cmsproof
 
-install: build
-	install -d "$(BINDIR)" "$(LIBDIR)/cmsproof" "$(LIBDIR)/cmsproof_tools/containers"
-	install -m 755 cmsproof $(TOOLS) "$(BINDIR)"
-	install -m 644 $(MODULES) $(PAGES) "$(LIBDIR)/cmsproof_tools"
-	install -m 644 $(CONTAINERS) "$(LIBDIR)/cmsproof_tools/containers"
-	install -m 644 $(PACKAGE) $(LIBRARY) "$(LIBDIR)/cmsproof"
+install: build install-tools
+	install -m 755 cmsproof "$(BINDIR)"
 	install -d "$(MANDIR)/man1" "$(MANDIR)/man5"
 	install -m 644 $(wildcard man/*.1) "$(MANDIR)/man1"
 	install -m 644 $(wildcard man/*.5) "$(MANDIR)/man5"
@@ -172,6 +162,18 @@ install: build
 	for tool in $(notdir $(TOOLS)); do ln -sf cmsproof "$(FOR_BASH)/$$tool"; done
 	install -m 644 packaging/completion/_cmsproof "$(FOR_ZSH)"
 	install -m 644 $(FISH) "$(FOR_FISH)"
+
+# The tools and the package for Python, with the library and the page of refusals, which a report shows.
+install-tools: $(LIBRARY)
+	install -d "$(BINDIR)" $(patsubst %,"$(LIBDIR)/%",$(sort $(dir $(MODULES))))
+	install -m 755 $(TOOLS) "$(BINDIR)"
+	set -e; for module in $(MODULES); do install -m 644 "tools/installed/$$module" "$(LIBDIR)/$$module"; done
+	install -m 644 docs/REFUSALS.md "$(LIBDIR)/cmsproof_tools"
+	install -m 644 $(LIBRARY) "$(LIBDIR)/cmsproof"
+
+# Which files of the folders are installed as they are: whoever makes packages in a clone asks git whether it knows them all.
+list-installed:
+	@printf '%s\n' $(TOOLS) $(addprefix tools/installed/,$(MODULES)) $(wildcard man/*.1) $(wildcard man/*.5)
 
 uninstall:
 	rm -f "$(BINDIR)/cmsproof" $(patsubst tools/installed/%,"$(BINDIR)/%",$(TOOLS))

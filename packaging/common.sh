@@ -73,15 +73,27 @@ development() {
     install -m 644 "$work/library/cmsproof.pc" "$2/pkgconfig"
 }
 
+# known: ends where `make install` would take a file that git does not know, as a module that the builder is writing. Of sources that are
+# no clone, all is taken that is in the folders.
+known() {
+    [ -e "$top/.git" ] && command -v git > /dev/null || return 0
+    make -s -C "$top" list-installed > "$work/installed"
+    (cd "$top" && xargs env -u GIT_DIR -u GIT_WORK_TREE -u GIT_INDEX_FILE git ls-files --error-unmatch --) < "$work/installed" \
+        > "$work/known" 2> "$work/unknown" || stop "what would be packed is not as git knows it: $(head -n 1 "$work/unknown")"
+}
+
 # the files of docs/GUIDE.md, and none that the builder has beside them
 examples='answers.txt authority.pem found.pem found_authority.pem letter.p7s letter.tsq letter.tsr read.txt second.pem second.tsr
 signer.pem trusted.txt trusted_second.txt trusted_until.txt'
 
 # tree FOLDER PREFIX: what `make install` puts there, with the texts that packages have besides.
 tree() {
+    known
     make -s -C "$top" -o cmsproof -o tools/installed/cmsproof/libcmsproof.so.1 install DESTDIR="$1" PREFIX="$2" > "$work/install.log"
     documents=$1$2/share/doc/cmsproof
     install -m 644 "$top/README.md" "$top/docs/PROVED.md" "$top/dist/PROVENANCE" "$documents"
+    # the guide, whose files are the examples, and what it sends its readers to
+    install -m 644 "$top/docs/GUIDE.md" "$top/docs/guide.svg" "$top/docs/TOOLS.md" "$documents"
     install -d "$documents/examples"
     for example in $examples; do install -m 644 "$top/data/guide/$example" "$documents/examples"; done
 }

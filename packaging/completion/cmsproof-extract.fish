@@ -19,6 +19,6 @@ end
 
 complete -c cmsproof-extract -n '__cmsproof_extract_at -' -l help -d 'Show this help message and exit'
 complete -c cmsproof-extract -n '__cmsproof_extract_at -' -l version -d 'Show program’s version number and exit'
-complete -c cmsproof-extract -n '__cmsproof_extract_at -' -l to -r -F -d 'The folder to write into, by default the current one'
+complete -c cmsproof-extract -n '__cmsproof_extract_at -' -l to -r -F -d 'The folder to write into, which is made if it is not there'
 complete -c cmsproof-extract -n '__cmsproof_extract_at -' -l partial -d 'Also write signatures that do not cover the whole file'
 complete -c cmsproof-extract -n '__cmsproof_extract_at -' -l mend -d 'Leave out unsigned attributes that are there and empty'

@@ -206,6 +206,21 @@ def mail_signed(
     return out.replace(b"\r\n", ends)
 
 
+def one_of_each(maker):
+    """Files of each kind that is read, by their names, with one that is of none."""
+    return {
+        "contract.pdf": pdf_signed(maker.signed),
+        "files.asice": asic_e(maker.signed, [("a.txt", b"first"), ("b.txt", b"second")]),
+        "letter.txt": b"a letter\n",
+        "letter.txt.p7s": maker.signed(b"a letter\n"),
+        "mail.eml": mail_signed(maker.signed),
+        "note.pem": maker.converted(maker.attached(b"a note\n"), "PEM"),
+        "open.p7s": in_ber(maker.attached(b"a letter\n")),
+        "plain.p7s": maker.attached(b"a letter\n"),
+        "table.xml": b"<?xml version='1.0'?><table/>\n",
+    }
+
+
 def main():
     """Makes what the documents show: the folder `letters` with one of each, `later.pdf`, and the trust list `letters.txt`."""
     folder = Path("letters")
@@ -213,22 +228,11 @@ def main():
     with tempfile.TemporaryDirectory() as temporary:
         maker = Maker(temporary, shutil.which("cmsproof"))
         shutil.copy(Path(temporary) / "trust.txt", "letters.txt")
-        contract = pdf_signed(maker.signed)
-        files = {
-            "contract.pdf": contract,
-            "files.asice": asic_e(maker.signed, [("a.txt", b"first"), ("b.txt", b"second")]),
-            "letter.txt": b"a letter\n",
-            "letter.txt.p7s": maker.signed(b"a letter\n"),
-            "mail.eml": mail_signed(maker.signed),
-            "note.pem": maker.converted(maker.attached(b"a note\n"), "PEM"),
-            "open.p7s": in_ber(maker.attached(b"a letter\n")),
-            "plain.p7s": maker.attached(b"a letter\n"),
-            "table.xml": b"<?xml version='1.0'?><table/>\n",
-        }
+        files = one_of_each(maker)
         for name, octets in files.items():
             (folder / name).write_bytes(octets)
         evil = TEXT.replace(b"1 euro", b"9 euro")
-        Path("later.pdf").write_bytes(revision(contract, {4: PAGES[4] % (len(evil), evil)}))
+        Path("later.pdf").write_bytes(revision(files["contract.pdf"], {4: PAGES[4] % (len(evil), evil)}))
 
 
 if __name__ == "__main__":

@@ -3,7 +3,9 @@ import shutil
 import sys
 import unittest
 
-from making import ACCEPTED, INSTALLED, REAL, folder_of, run_tool
+from making import ACCEPTED, MODULES, REAL, folder_of, need_tools, run_tool
+
+need_tools()
 
 REFUSED, MALFORMED = "refused signer 1 S10 NoToken", "malformed M1 End at 1"
 # the octets of a file of which this is said under data/real/trust.txt
@@ -42,7 +44,7 @@ class WithFiles(unittest.TestCase):
 
     def changed(self, code):
         """The words that run the tool with a part of it changed by this code."""
-        (self.folder / "changed.py").write_text(CHANGED.format(installed=str(INSTALLED), code=code))
+        (self.folder / "changed.py").write_text(CHANGED.format(installed=str(MODULES), code=code))
         return [sys.executable, self.folder / "changed.py", "--trust", "list"]
 
     def run_archive(self, *words, said=b"", **rest):

@@ -7,7 +7,9 @@ import sys
 import unittest
 from pathlib import Path
 
-from making import INSTALLED, PROGRAM, folder_of
+from making import INSTALLED, PROGRAM, folder_of, need_tools
+
+need_tools()
 
 from samples import containers as made  # noqa: F401
 

@@ -3,7 +3,9 @@ import subprocess
 import sys
 from pathlib import Path
 
-from making import INSTALLED, PROGRAM, openssl
+from making import INSTALLED, PROGRAM, need_tools, openssl
+
+need_tools()
 from samples import hierarchy as h
 
 AT, CLOCK_AT = "20240501100000Z", "2024-05-01 10:00:00"

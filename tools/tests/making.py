@@ -1,21 +1,33 @@
 """What the tests of the tools share: the tools run as a user runs them, and keys, signatures and files that openssl makes."""
 import hashlib
+import importlib.util
 import os
+import resource
+import shutil
 import subprocess
 import sys
 import tempfile
+import unittest
 from pathlib import Path
 
 TOP = Path(__file__).resolve().parent.parent.parent
-INSTALLED = TOP / "tools" / "installed"
-sys.path[:0] = [str(TOP / "tools"), str(INSTALLED)]
+# the tools as the repository has them
+SOURCES = TOP / "tools" / "installed"
+# What is tested: what `make install` put into the folder that CMSPROOF_TREE names, as tools/on_installed.py has it; without it, the
+# repository's own.
+TREE = os.environ.get("CMSPROOF_TREE")
+INSTALLED, MODULES = (Path(TREE, "bin"), Path(TREE, "lib", "cmsproof")) if TREE else (SOURCES, SOURCES)
+sys.path[:0] = [str(TOP / "tools"), str(MODULES)]
 from oracle import der, forms  # noqa: E402
 from oracle.der import element, oid  # noqa: E402
 from oracle.openssl_lines import HASHES as DIGESTS  # noqa: E402
 
 REAL = TOP / "data" / "real"
-PROGRAM = Path(os.environ.get("CMSPROOF", TOP / "cmsproof")).resolve()
+PROGRAM = Path(os.environ.get("CMSPROOF", INSTALLED / "cmsproof" if TREE else TOP / "cmsproof")).resolve()
 
+CRYPTOGRAPHY = "library cryptography for Python (python3-cryptography)"
+# the number of the user and of the group who own nothing
+NOBODY = 65534
 ACCEPTED = "accepted 20261122071759Z"
 
 
@@ -43,6 +55,47 @@ def folder_of(test):
     return Path(folder.name)
 
 
+def lacking_tools():
+    """What is missing to run the tools, or openssl, which makes what they are run on; nothing if all is there."""
+    there = {"openssl": shutil.which("openssl"), CRYPTOGRAPHY: importlib.util.find_spec("cryptography")}
+    return " and ".join(f"there is no {name}" for name, found in there.items() if not found)
+
+
+def need_tools():
+    """Leaves a module of tests out, with the reason, where the tools cannot be run."""
+    if reason := lacking_tools():
+        raise unittest.SkipTest(reason)
+
+
+def needs(*names):
+    """Leaves a test out, with the reason, where a program is not on the PATH."""
+    missing = [name for name in names if shutil.which(name) is None]
+    return unittest.skipIf(missing, f"there is no {', '.join(missing)}")
+
+
+def processor_seconds():
+    """The processor's time that the tests and what they started have had: on a machine with much else to do, no other time says whether
+    something takes long."""
+    parts = [resource.getrusage(who) for who in (resource.RUSAGE_SELF, resource.RUSAGE_CHILDREN)]
+    return sum(part.ru_utime + part.ru_stime for part in parts)
+
+
+def as_nobody():
+    """How root runs Python as somebody who may do less; whoever is not root runs it as it is. Leaves a test out where nobody may not run
+    this Python, or read its libraries, as those in a folder of root's."""
+    if os.geteuid():
+        return {}
+    who = {"user": NOBODY, "group": NOBODY, "extra_groups": []}
+    code = f"import sys; sys.path.insert(0, {str(MODULES)!r}); import cryptography, cmsproof_tools.running"
+    try:
+        done = subprocess.run([sys.executable, "-c", code], capture_output=True, cwd="/", check=False, **who)
+    except PermissionError:
+        done = None
+    if done is None or done.returncode:
+        raise unittest.SkipTest("nobody (the user) may not run this Python with its libraries and the tools")
+    return who
+
+
 def openssl(*words, **rest):
     """What openssl prints. A failure of it ends the tests."""
     done = subprocess.run(["openssl", *map(str, words)], capture_output=True, **rest)
@@ -61,6 +114,48 @@ def without_library(folder):
     """An environment in which Python's library `cryptography` cannot be imported."""
     (Path(folder) / "cryptography.py").write_text("raise ModuleNotFoundError(\"No module named 'cryptography'\")\n")
     return {**os.environ, "PYTHONPATH": str(folder)}
+
+
+def modules_there():
+    """The files in the folders of the tools' packages, but what was built or compiled there: what must be installed."""
+    files = {path.relative_to(SOURCES) for name in ("cmsproof", "cmsproof_tools") for path in (SOURCES / name).rglob("*")}
+    kept = {path for path in files if (SOURCES / path).is_file() and path.parent.name != "__pycache__"}
+    return {str(path) for path in kept if not path.name.startswith("libcmsproof.so.")}
+
+
+def is_module(name):
+    """Whether a file is a module."""
+    return name.endswith(".py")
+
+
+def module_name(name):
+    """The name of a module by the name of its file."""
+    return ".".join(Path(name).with_suffix("").parts)
+
+
+IMPORTING = """import importlib, os, sys
+sys.path[:0] = [sys.argv[1]]
+for name in sys.argv[2:]:
+    print(name, end=" ", flush=True)
+    if os.fork() == 0:
+        try:
+            sys.stdout.write(importlib.import_module(name).__file__.startswith(sys.argv[1]) and "\\n" or "of another folder\\n")
+        except Exception as error:
+            sys.stdout.write(f"{type(error).__name__}: {error}\\n")
+        sys.stdout.flush()
+        os._exit(0)
+    os.wait()
+"""
+
+
+def imported_alone(python, folder, **how):
+    """What is said of each module, by its name, that is imported from a folder in a process of its own: nothing if that is done."""
+    names = sorted(map(module_name, filter(is_module, modules_there())))
+    done = subprocess.run(
+        [*python.split(), "-c", IMPORTING, str(folder), *names], capture_output=True, text=True, check=True, **how
+    )
+    rows = [line.split(" ", 1) for line in done.stdout.splitlines()]
+    return dict(rows)
 
 
 def question(key, digest, signature_algorithm, tail, signature):

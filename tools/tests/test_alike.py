@@ -5,7 +5,9 @@ import re
 import subprocess
 import unittest
 
-from making import PROGRAM, REAL, TOP, folder_of, run_tool
+from making import PROGRAM, REAL, TOP, folder_of, need_tools, run_tool
+
+need_tools()
 
 from cmsproof_tools.texts import answers_text, read_questions
 from cmsproof_tools.verify import fault_of

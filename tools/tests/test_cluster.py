@@ -9,7 +9,9 @@ import sys
 import time
 import unittest
 
-from making import INSTALLED, REAL, folder_of, run_tool
+from making import INSTALLED, MODULES, REAL, folder_of, need_tools, run_tool
+
+need_tools()
 
 from cmsproof_tools import cluster, outcomes
 from cmsproof_tools.state import State
@@ -106,7 +108,7 @@ class Cluster(unittest.TestCase):
         self.started("scheduler", "--port", "0")
         self.address = self.said("scheduler.0", r"Scheduler at: +(tcp://127\.0\.0\.1:[0-9]+)")
 
-    def started(self, what, *words, modules=INSTALLED):
+    def started(self, what, *words, modules=MODULES):
         """Starts a scheduler or a worker, which is ended with the test."""
         command = [PYTHON, "-m", f"distributed.cli.dask_{what}", "--host", "127.0.0.1", "--no-dashboard", *words]
         with open(self.folder / f"{what}.{self.number}", "wb") as log:
@@ -117,7 +119,7 @@ class Cluster(unittest.TestCase):
         self.addCleanup(process.kill)
         return process
 
-    def worker(self, modules=INSTALLED):
+    def worker(self, modules=MODULES):
         """Starts a worker and waits until it has found the scheduler."""
         log = f"worker.{self.number}"
         process = self.started("worker", self.address, "--nthreads", "1", "--no-nanny", modules=modules)
@@ -145,7 +147,7 @@ class Cluster(unittest.TestCase):
     def other_version(self):
         """A copy of the modules that says that it is another version."""
         copy = self.folder / "other"
-        shutil.copytree(INSTALLED, copy)
+        shutil.copytree(MODULES, copy)
         text = (copy / "cmsproof_tools" / "__init__.py").read_text()
         (copy / "cmsproof_tools" / "__init__.py").write_text(re.sub(r'VERSION = ".*"', 'VERSION = "0.0.1"', text))
         return copy

@@ -5,7 +5,9 @@ import unittest
 from pathlib import Path
 from unittest import mock
 
-from making import REAL, run_tool
+from making import REAL, need_tools, run_tool
+
+need_tools()
 from samples import hierarchy as h
 
 from cmsproof_tools import comparing_lists

@@ -7,7 +7,9 @@ import unittest
 from concurrent.futures import ThreadPoolExecutor
 from pathlib import Path
 
-from making import INSTALLED, PROGRAM, TOP, folder_of
+from making import INSTALLED, PROGRAM, TOP, folder_of, need_tools
+
+need_tools()
 
 COMPLETIONS = TOP / "packaging" / "completion"
 # what the completion for bash has for the last of some words; `files` where bash itself completes names of files
@@ -15,7 +17,7 @@ BASH = """. "$1"; shift; files=yes; compopt() { files=no; }; COMP_WORDS=("$@"); 
 _cmsproof "$1"; [ "${#COMPREPLY[@]}" = 0 ] && [ "$files" = yes ] && compgen -f -- "${COMP_WORDS[COMP_CWORD]}"
 for word in "${COMPREPLY[@]}"; do echo "$word"; done"""
 FISH = 'for file in $argv[1]/*.fish; source $file; end; complete -C "$argv[2]"'
-TOOLS = sorted(path.name for path in INSTALLED.glob("cmsproof-*"))
+TOOLS = sorted(path.name for path in INSTALLED.glob("cmsproof-*[a-z]"))
 
 
 def help_of(*words):

@@ -10,7 +10,7 @@ import zipfile
 from pathlib import Path
 
 from containing import PDF, PYTHON, WithMaker, made
-from making import INSTALLED, PROGRAM, TOP, openssl
+from making import INSTALLED, MODULES, PROGRAM, TOP, openssl
 
 from oracle import der
 
@@ -265,7 +265,7 @@ class Extracting(WithMaker):
             self.put(name, made.asic_s(self.maker.signed))
         label = b"-----BEGIN CMS-----\n"
         self.put("time.pem", label + b"time"), self.put("killed.pem", label + b"killed")
-        (self.folder / "ending.py").write_text(ENDING.format(installed=str(INSTALLED), signed=self.maker.signed(b"a letter")))
+        (self.folder / "ending.py").write_text(ENDING.format(installed=str(MODULES), signed=self.maker.signed(b"a letter")))
         words = [PYTHON, "ending.py", *(f"archive/{name}" for name in ("a.asics", "time.pem", "killed.pem", "c.asics"))]
         done = subprocess.run(words, cwd=self.folder, capture_output=True, check=False, timeout=100)
         rows = [json.loads(line) for line in done.stdout.splitlines()]
@@ -280,7 +280,7 @@ class Extracting(WithMaker):
     def test_standard_input_is_read_once(self):
         """By the name of its descriptor, also where the process that read it has ended."""
         self.put("killed.pem", b"-----BEGIN CMS-----\nkilled")
-        (self.folder / "ending.py").write_text(ENDING.format(installed=str(INSTALLED), signed=self.maker.signed(b"a letter")))
+        (self.folder / "ending.py").write_text(ENDING.format(installed=str(MODULES), signed=self.maker.signed(b"a letter")))
         said = made.asic_s(self.maker.signed)
         words = [PYTHON, "ending.py", "/dev/stdin", "archive/killed.pem", "/dev/fd/0"]
         done = subprocess.run(words, cwd=self.folder, input=said, capture_output=True, check=False, timeout=100)
@@ -307,7 +307,7 @@ class Apart(WithMaker):
         """How a tool ends whose front end for PDF takes too long, or is killed."""
         code = ENDING.replace("armour.found_in_pem = ", "pdf.found_in_pdf = ").replace("import armour", "import armour, pdf")
         code = code.replace('"extract"', f'"{tool}"').replace("    yield Found(", "    Found(")
-        (self.folder / "ending.py").write_text(code.format(installed=str(INSTALLED), signed=b""))
+        (self.folder / "ending.py").write_text(code.format(installed=str(MODULES), signed=b""))
         done = subprocess.run([PYTHON, "ending.py", *words], cwd=self.folder, capture_output=True, check=False, timeout=100)
         return done.returncode, done.stderr.decode().splitlines(), done.stdout.decode()
 

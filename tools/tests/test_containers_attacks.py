@@ -6,12 +6,12 @@ The attacks on PDF are made here from their descriptions: universal signature fo
 import io
 import re
 import struct
-import time
 import unittest
 import zipfile
 import zlib
 
 from containing import PDF, WithMaker, made
+from making import processor_seconds
 
 EVIL = b"BT /F1 12 Tf 20 50 Td (I owe you 9 euro) Tj ET"
 ACCEPTED = r"^accepted [0-9]{14}Z$"
@@ -392,6 +392,7 @@ MULTIPART = b"Content-Type: multipart/signed; boundary=a\n\n--a\n"
 class Hostile(WithMaker):
     """Octets that mean nothing, and what is missing."""
 
+    @unittest.skipUnless(PDF, "pikepdf is missing")
     def test_random_octets_behind_each_beginning(self):
         import random
 
@@ -402,9 +403,9 @@ class Hostile(WithMaker):
                     f"{MAGICS.index(magic) if magic in MAGICS else 'm'}.{number}",
                     magic + numbers.randbytes(numbers.randrange(3000)),
                 )
-        began = time.monotonic()
+        began = processor_seconds()
         found = self.lines()
-        self.assertLess(time.monotonic() - began, 2 * len(found))
+        self.assertLess(processor_seconds() - began, 2 * len(found))
         self.assertEqual(len(found), 100 * (len(MAGICS) + 1))
         self.assertEqual({line.split()[0] for line in found.values()}, {"refused", "malformed"}, found)
 
@@ -420,9 +421,9 @@ class Hostile(WithMaker):
         }
         for name, octets in rows.items():
             self.put(name, octets)
-        began = time.monotonic()
+        began = processor_seconds()
         found = self.lines("--jobs", "1")
-        self.assertLess(time.monotonic() - began, 30)
+        self.assertLess(processor_seconds() - began, 30)
         self.assertEqual({line.split()[0] for line in found.values()} - {"malformed"}, {"refused"}, found)
 
     def test_what_is_missing_stops_its_container_alone(self):

@@ -15,6 +15,7 @@ import zipfile
 import zlib
 
 from containing import PDF, WithMaker, made
+from making import processor_seconds
 
 from oracle import der
 from oracle.der import element
@@ -361,9 +362,9 @@ class Pdf(WithMaker):
             ranges = b"[0 %d %d %d]" % (number + 100, number + 101, length)
             objects[5 + count + number] = b"<< /Type /Sig /ByteRange %s /Contents <30> >>" % ranges
         self.put("many.pdf", made.revision(b"%PDF-1.7\n%\xe2\xe3\xcf\xd3\n", objects))
-        began = time.monotonic()
+        began = processor_seconds()
         self.assertEqual(self.lines(), {"many.pdf": "refused F4 TooLarge"}, self.err)
-        self.assertLess(time.monotonic() - began, 60)
+        self.assertLess(processor_seconds() - began, 60)
 
 
 def long_names(count):
@@ -635,9 +636,9 @@ class Lines(WithMaker):
             rows["e.pdf"] = (long_names(3000), "F4")
         for name, (octets, _) in rows.items():
             self.put(name, octets)
-        began = time.monotonic()
+        began = processor_seconds()
         found = self.lines("--jobs", "1")
-        self.assertLess(time.monotonic() - began, 30)
+        self.assertLess(processor_seconds() - began, 30)
         for name, (_, code) in rows.items():
             lines = [line for part, line in found.items() if part.startswith(name)]
             self.assertRegex(lines[0], f"^refused {code} ", (name, lines))
@@ -652,9 +653,9 @@ class Lines(WithMaker):
         }
         for name, octets in rows.items():
             self.put(name, octets)
-        began = time.monotonic()
+        began = processor_seconds()
         found = self.lines("--jobs", "1")
-        self.assertLess(time.monotonic() - began, 30)
+        self.assertLess(processor_seconds() - began, 30)
         self.assertEqual({line.split()[0] for line in found.values()}, {"refused", "malformed"})
 
 

@@ -5,7 +5,7 @@ import shutil
 import subprocess
 import unittest
 
-from making import INSTALLED, PROGRAM, TOP, folder_of, without_library
+from making import PROGRAM, SOURCES, TOP, folder_of, lacking_tools, needs, without_library
 
 GUIDE = (TOP / "docs" / "GUIDE.md").read_text()
 LINES = [line for block in re.findall(r"^```console run.*?\n(.*?)^```", GUIDE, re.M | re.S) for line in block.splitlines()]
@@ -22,7 +22,7 @@ class Demo(unittest.TestCase):
         shutil.copy(TOP / "demo.sh", self.tree)
         shutil.copy(TOP / "docs" / "GUIDE.md", self.tree / "docs")
         shutil.copytree(TOP / "data" / "guide", self.tree / "data" / "guide")
-        shutil.copytree(INSTALLED, self.tree / "tools" / "installed")
+        shutil.copytree(SOURCES, self.tree / "tools" / "installed")
         shutil.copy(PROGRAM, self.tree / "cmsproof")
 
     def shown(self, *words, **environment):
@@ -62,11 +62,13 @@ class Demo(unittest.TestCase):
         self.assertEqual((status, lines[-1]), (0, "This session was shown on stored files, " + why))
         self.assert_session(lines)
 
+    @needs("openssl")
     def test_without_the_library(self):
         status, lines = self.shown(**without_library(self.folder))
         self.assertEqual(status, 0)
         self.assertIn("since there is no python3 with its library cryptography.", lines[-1])
 
+    @unittest.skipIf(lacking_tools(), lacking_tools())
     def test_run(self):
         status, lines = self.shown()
         self.assertEqual(status, 0)

@@ -8,7 +8,7 @@ import time
 import unittest
 
 from archiving import REFUSED, SAID, WithFiles
-from making import ACCEPTED, INSTALLED, REAL, without_library
+from making import ACCEPTED, INSTALLED, REAL, needs, without_library
 
 from cmsproof import Unexpected, library  # noqa: E402
 from cmsproof.verdicts import verdict_of  # noqa: E402
@@ -219,6 +219,7 @@ class Signals(WithFiles):
         """The processes that the workers started."""
         return [int(path.name) for path in (self.folder / "numbers").iterdir()]
 
+    @needs("ps")
     def test_what_a_tool_started_ends_with_it(self):
         for name in "abc":
             self.file(name)
@@ -251,6 +252,7 @@ class Signals(WithFiles):
         verdicts = ["failed" if name in "be" else "accepted" for name in names]
         self.assertEqual([json.loads(line).get("verdict") for line in done.stdout.splitlines()[:6]], verdicts)
 
+    @needs("ps")
     def test_a_worker_that_is_killed_leaves_no_process(self):
         self.file("a")
         tool = self.started("a", jobs="1")

@@ -4,7 +4,9 @@ import resource
 import unittest
 from unittest import mock
 
-from making import folder_of
+from making import folder_of, need_tools
+
+need_tools()
 
 from cmsproof_tools import folders
 

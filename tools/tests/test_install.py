@@ -7,7 +7,9 @@ import subprocess
 import sys
 import unittest
 
-from making import ACCEPTED, INSTALLED, REAL, TOP, folder_of
+from making import ACCEPTED, INSTALLED, REAL, SOURCES, TOP, folder_of, modules_there, need_tools
+
+need_tools()
 
 from cmsproof_tools import VERSION
 
@@ -20,7 +22,20 @@ class Installing(unittest.TestCase):
         (self.folder / "tree" / "crates").mkdir(parents=True)
         for name in ("Makefile", "LICENSE", "NOTICE"):
             shutil.copy(TOP / name, self.folder / "tree")
-        shutil.copytree(INSTALLED, self.folder / "tree" / "tools" / "installed")
+        shutil.copytree(SOURCES, self.folder / "tree" / "tools" / "installed", ignore=shutil.ignore_patterns("__pycache__"))
+        # what an editor or Python leaves there is not installed, and a new module is, without a word in a list
+        for name in (
+            "archive.py~",
+            ".archive.py.swp",
+            ".#archive.py",
+            "#archive.py#",
+            "archive.py.orig",
+            "old.pyc",
+            "__pycache__/a.py",
+        ):
+            path = self.folder / "tree" / "tools" / "installed" / "cmsproof_tools" / name
+            path.parent.mkdir(exist_ok=True)
+            path.write_text("no module\n")
         for name in ("man", "packaging"):
             shutil.copytree(TOP / name, self.folder / "tree" / name)
         (self.folder / "tree" / "docs").mkdir()
@@ -77,30 +92,33 @@ class Installing(unittest.TestCase):
         for place, files in table:
             there = {path.name: path.read_text() for path in (share / place).iterdir()}
             self.assertEqual(there, {name: (made / text).read_text() for name, text in files.items()})
+        modules = self.folder / "root" / "usr" / "lib" / "cmsproof"
+        there = {str(path.relative_to(modules)) for path in modules.rglob("*") if path.is_file()}
+        self.assertEqual(there, modules_there() | {"cmsproof/libcmsproof.so.1", "cmsproof_tools/REFUSALS.md"})
         self.assertEqual(self.said(binaries / "cmsproof-archive", "--trust", "list", "file"), shown)
         (self.folder / "elsewhere").symlink_to(binaries / "cmsproof-archive")
         self.assertEqual(self.said("elsewhere", "--trust", "list", "file"), shown)
         for name in names[1:]:
             self.assertEqual(self.said(binaries / name, "--version")[0], 0)
         # what an old Python makes of the modules is no refusal, whose status is 1
-        modules = self.folder / "root" / "usr" / "lib" / "cmsproof" / "cmsproof_tools"
         for text in ("from __future__ import nothing\n", "import fcntl\nfcntl.NOTHING\n", "import nothing_here\n"):
-            (modules / "running.py").write_text(text)
+            (modules / "cmsproof_tools" / "running.py").write_text(text)
             status, _, err = self.said(binaries / "cmsproof-archive", "--trust", "list", "file")
             self.assertEqual((status, err.count("\n")), (4, 1), err)
         self.make("uninstall")
         self.assertEqual([path for path in (self.folder / "root").rglob("*") if not path.is_dir()], [])
 
     @unittest.skipUnless(
-        all(map(importlib.util.find_spec, ("pip", "setuptools", "wheel"))), "pip, setuptools or wheel is missing"
+        importlib.util.find_spec("pip") and shutil.which("make"), "there is no pip for this Python, or no make"
     )
     def test_installed_by_pip(self):
-        for name in ("pyproject.toml", "setup.py", "MANIFEST.in", "README.md", "tools/library.sh"):
+        for name in ("pyproject.toml", "README.md", "tools/library.sh"):
             shutil.copy(TOP / name, self.folder / "tree" / name)
         for name in ("dist", "include"):
             shutil.copytree(TOP / name, self.folder / "tree" / name)
-        (self.folder / "tree" / "tools" / "installed" / "cmsproof" / "libcmsproof.so.1").unlink()
-        words = "pip install --no-deps --no-index --no-build-isolation --quiet --prefix".split()
+        # (one that is there is built anew: it may be of another machine)
+        (self.folder / "tree" / "tools" / "installed" / "cmsproof" / "libcmsproof.so.1").write_text("of another machine\n")
+        words = "pip install --no-deps --no-index --quiet --prefix".split()
         command = [sys.executable, "-m", *words, self.folder / "by_pip", self.folder / "tree"]
         subprocess.run(command, capture_output=True, check=True)
         binaries = next((self.folder / "by_pip").rglob("bin"))

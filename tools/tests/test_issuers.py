@@ -5,12 +5,11 @@ import re
 import shutil
 import subprocess
 import tempfile
-import time
 import unittest
 from pathlib import Path
 
 from issuing_world import ALWAYS, AT, CLOCK_AT, World, h, pem
-from making import TOP, element, folder_of, run_tool
+from making import TOP, element, folder_of, processor_seconds, run_tool
 
 from cryptography import x509
 from cryptography.hazmat.primitives import hashes
@@ -459,7 +458,7 @@ class Hostile(WithWorld):
         serial = int.from_bytes(b"\x11" * 20, "big")
         who, issuer = h.issue("Who", w.sub, serial=serial), h.issue("Sub", w.root, h.authority(0), serial=serial)
         lone = h.issue("Lone", issuer)
-        began = time.monotonic()
+        began = processor_seconds()
         self.assert_listed(
             [who],
             [h.signed(who, [(w.clock, AT)], [*self.clones(who, 9990), who.octets, w.sub.octets])],
@@ -468,7 +467,7 @@ class Hostile(WithWorld):
         self.assertIn("certificate signature failure", told[0])
         told = self.assert_listed([], [h.signed(who, [(w.clock, AT)], [*self.clones(who, 10002), w.sub.octets])])
         self.assertIn("more than 10000 certificates are in it", told[0])
-        self.assertLess(time.monotonic() - began, 60)
+        self.assertLess(processor_seconds() - began, 60)
 
     def test_many_with_one_name(self):
         w = self.world

@@ -1,10 +1,9 @@
 """Tests of trust by issuer against somebody who knows how it works: each case once gave an entry, or lost a revocation, or ended
 the tool."""
-import time
 import unittest
 
 from issuing_world import ALWAYS, AT, h, list_pem, pem
-from making import openssl
+from making import openssl, processor_seconds
 from test_issuers import WithWorld
 from test_revocation import NEXT, scope
 
@@ -191,12 +190,12 @@ class Attacks(WithWorld):
         sub = h.issue("Sub", h.root("Root"), h.authority(0), serial=serial)
         at, people = sub.octets.index(b"\x11" * 20), [h.issue(f"P{number}", sub) for number in range(100)]
         fakes = [sub.octets[: at + 16] + number.to_bytes(4, "big") + sub.octets[at + 20 :] for number in range(2000)]
-        began = time.monotonic()
+        began = processor_seconds()
         file = h.together([(who, [(w.clock, AT)]) for who in people], [*(who.octets for who in people), *fakes])
         entries, told = w.made([file])
         self.assertEqual((len(entries), len(told)), (1, 100))
         self.assertIn("no more than 5000 steps look for paths", told[-1])
-        self.assertLess(time.monotonic() - began, 60)
+        self.assertLess(processor_seconds() - began, 60)
 
     def test_a_file_that_lacks_an_issuer(self):
         """It does not keep another one of the same moment from an entry."""

@@ -8,7 +8,9 @@ import sys
 import unittest
 from pathlib import Path
 
-from making import PROGRAM, REAL, TOP, folder_of
+from making import INSTALLED, PROGRAM, REAL, TOP, folder_of, need_tools
+
+need_tools()
 
 NEEDED = ("cc", "ar", "ld", "objcopy", "nm", "readelf")
 SOURCES = TOP / "tools" / "tests" / "library"
@@ -43,7 +45,7 @@ class Library(unittest.TestCase):
         place, words = self.folder / "answers", [PROGRAM, "questions", "--trust", REAL / "trust.txt", file]
         asked = subprocess.run(words, capture_output=True, check=False)
         questions = asked.stdout if asked.returncode == 0 else b"cmsproof questions 1\n"
-        place.write_bytes(run(TOP / "tools" / "installed" / "cmsproof-verify", input=questions))
+        place.write_bytes(run(INSTALLED / "cmsproof-verify", input=questions))
         return place
 
     def said(self, file, answers):
@@ -68,9 +70,22 @@ class Library(unittest.TestCase):
         answers = self.answers(file)
         self.assertEqual(run(program, REAL / "trust.txt", answers, file), self.said(file, answers))
         refused = (REAL / "trust.txt", answers, other)
-        for words, status in ((refused, 1), ((answers, answers, file), 2), ((REAL / "none", answers, file), 2)):
+        good = (REAL / "trust.txt", answers, file)
+        (self.folder / "long").write_bytes(bytes(1 << 24))
+        for words, status in ((refused, 1), ((answers, answers, file), 2), ((REAL / "trust.txt", REAL / "trust.txt", file), 2)):
             done = subprocess.run([program, *words], capture_output=True, check=False)
             self.assertEqual((done.returncode, done.stdout[:8] == b"accepted"), (status, False))
+
+        # what cannot be read is no file that is malformed, nor a list that is none
+        for place in range(3):
+            for other in (REAL / "none", self.folder, self.folder / "long"):
+                words = [*good[:place], other, *good[place + 1 :]]
+                done = subprocess.run([program, *words], capture_output=True, text=True, check=False)
+                self.assertEqual((done.returncode, done.stdout, len(done.stderr.splitlines())), (4, "", 1))
+                self.assertIn(str(other), done.stderr)
+        with open("/dev/full", "wb") as full:
+            done = subprocess.run([program, *good], stdout=full, stderr=subprocess.PIPE, check=False)
+        self.assertEqual(done.returncode, 4)
 
     def test_what_programs_were_built_on_is_there(self):
         said = subprocess.run([sys.executable, SOURCES / "abi.py", self.built], capture_output=True, text=True, check=False)

@@ -5,6 +5,7 @@ import contextlib
 import functools
 import io
 import itertools
+import shutil
 import subprocess
 import sys
 import tempfile
@@ -448,6 +449,7 @@ class Rules(unittest.TestCase):
             self.assertEqual(lists.trust(text.encode())[1], fault, text[:60])
 
 
+@unittest.skipUnless(shutil.which("openssl"), "there is no openssl")
 class OpenSsl(unittest.TestCase):
     """What OpenSSL says."""
 
@@ -568,6 +570,7 @@ WRONG = [
 ]
 
 
+@unittest.skipUnless(shutil.which("openssl"), "there is no openssl")
 class WrongOracle(unittest.TestCase):
     """The tests above notice an oracle that is wrong."""
 

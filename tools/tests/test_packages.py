@@ -6,9 +6,13 @@ import shutil
 import subprocess
 import sys
 import tarfile
+import tempfile
 import unittest
+from pathlib import Path
 
-from making import INSTALLED, TOP, folder_of
+from containing import DEBIAN, PDF, PYTHON, has
+from making import TOP, folder_of, imported_alone, is_module, module_name, modules_there, needs
+from samples import containers
 
 COPIED = (
     "Makefile",
@@ -31,6 +35,8 @@ DEVELOPMENT = ("libcmsproof.a", "libcmsproof.so", "libcmsproof.so.1", "pkgconfig
 LIBRARY = f"libcmsproof-{MACHINE}-linux.s.gz"
 LINE = 'extern const char *line;\nconst char *line = "cmsproof stand-in";\n'
 TEXTS = {"runtime.c": (TOP / "dist" / "runtime.c").read_text() + LINE, "PROVENANCE": "a stand-in\n"}
+# the files of the folder of README.md that are accepted, but those whose parts have names
+ACCEPTED = ("letter.txt.p7s", "mail.eml", "note.pem", "open.p7s", "plain.p7s")
 ARCH = {"x86_64": "amd64", "aarch64": "arm64"}.get(MACHINE)
 
 
@@ -79,8 +85,9 @@ class Packages(unittest.TestCase):
             copied(tree, mode)
             put_program(tree)
         # what the builder has beside the files of the repository is not packed
-        for name in ("tools/installed/cmsproof-trust~", "tools/installed/cmsproof_tools/mine.py", "data/guide/key.pem"):
-            (self.trees[1] / name).write_text("the builder's\n")
+        for name in ("cmsproof-trust~", "cmsproof_tools/.mine.py", "cmsproof_tools/mine.py~", "cmsproof_tools/mine.pyc"):
+            (self.trees[1] / "tools" / "installed" / name).write_text("the builder's\n")
+        (self.trees[1] / "data" / "guide" / "key.pem").write_text("the builder's\n")
         for path in self.trees[1].rglob("*"):
             os.utime(path, (1, 1))
 
@@ -117,8 +124,8 @@ class Packages(unittest.TestCase):
         folder = self.trees[0] / "out" / path.name.replace(".tar.gz", "")
         wanted = {"bin/cmsproof", "bin/cmsproof-archive", "INSTALL", "share/doc/cmsproof/PROVENANCE"}
         wanted |= {f"share/doc/cmsproof/examples/{path.name}" for path in (self.trees[0] / "data" / "guide").iterdir()}
-        for package in ("cmsproof", "cmsproof_tools"):
-            wanted |= {f"lib/cmsproof/{package}/{path.name}" for path in (INSTALLED / package).glob("*.*") if path.is_file()}
+        wanted |= {f"lib/cmsproof/{name}" for name in modules_there()}
+        wanted |= {f"share/doc/cmsproof/{name}" for name in ("GUIDE.md", "guide.svg", "TOOLS.md", "REFUSALS.md", "PROVED.md")}
         wanted |= {"include/cmsproof.h", *(f"lib/{name}" for name in DEVELOPMENT)}
         self.assertEqual(wanted - {member.name.partition("/")[2] for member in members}, set())
         subprocess.run(["sha256sum", "--check", "--quiet", "SHA256SUMS"], cwd=folder, check=True)
@@ -164,6 +171,20 @@ class Packages(unittest.TestCase):
         keep = {"PKG_CONFIG_ALLOW_SYSTEM_CFLAGS": "1", "PKG_CONFIG_ALLOW_SYSTEM_LIBS": "1", "PKG_CONFIG_SYSROOT_DIR": str(root)}
         self.builds_on(libraries, {"PKG_CONFIG_LIBDIR": str(libraries / "pkgconfig"), **keep})
 
+    @unittest.skipUnless(shutil.which("git"), "there is no git")
+    def test_in_a_clone_what_git_does_not_know_is_not_packed(self):
+        tree = self.trees[0]
+        git = ["git", "-c", "user.name=a", "-c", "user.email=a@example", "-c", "commit.gpgsign=false"]
+        for words in (["init", "-q"], ["add", "-f", "."], ["commit", "-q", "-m", "all"]):
+            subprocess.run([*git, *words], cwd=tree, check=True, capture_output=True)
+        self.assertEqual(self.make(tree, "tarball").returncode, 0)
+        for name in ("tools/installed/cmsproof_tools/mine.py", "tools/installed/cmsproof-mine", "man/mine.1"):
+            (tree / name).write_text("the builder's\n")
+            done = self.make(tree, "tarball", f"GIT_DIR={tree.parent / 'none'}")
+            self.assertNotEqual(done.returncode, 0)
+            self.assertIn(f"what would be packed is not as git knows it: error: pathspec '{name}'", done.stderr)
+            (tree / name).unlink()
+
     def test_what_cannot_be_packed_is_refused(self):
         for name, text, told in (
             ("dist/SHA256SUMS", "", "no sum of"),
@@ -195,6 +216,80 @@ class Packages(unittest.TestCase):
             self.assertNotEqual(done.returncode, 0)
             self.assertIn("runtime.c: FAILED", done.stdout)
             self.assertEqual(list((self.trees[0] / "packages").iterdir()), [])
+
+
+@unittest.skipIf(ARCH is None, "there are packages for two kinds of machines, and this is another one")
+@needs("make", "cc", "ld", "openssl")
+class Unpacked(unittest.TestCase):
+    """The tarball and the package for Debian, of dist/ as it is, unpacked into a folder: each finds all that it needs there."""
+
+    @classmethod
+    def setUpClass(cls):
+        cls.temporary = tempfile.TemporaryDirectory()
+        cls.addClassCleanup(cls.temporary.cleanup)
+        cls.folder = Path(cls.temporary.name)
+        tree = cls.folder / "tree"
+        tree.mkdir()
+        copied(tree, 0o022)
+        shutil.copytree(TOP / "dist", tree / "dist")
+        (tree / "cmsproof").write_text(""), (tree / "tools/installed/cmsproof/libcmsproof.so.1").write_text("")
+        targets = ["tarball", *(["deb"] if shutil.which("dpkg-deb") else [])]
+        built = ["-o", "cmsproof", "-o", "tools/installed/cmsproof/libcmsproof.so.1"]
+        words = ["make", "-s", *built, *targets, f"ARCHES={ARCH}"]
+        alone = {name: text for name, text in os.environ.items() if not name.startswith("MAKE")}
+        done = subprocess.run(words, cwd=tree, capture_output=True, text=True, check=False, env=alone)
+        if done.returncode:
+            raise AssertionError(done.stderr)
+        (tarball,) = (tree / "packages").glob("*.tar.gz")
+        with tarfile.open(tarball) as tar:
+            tar.extractall(cls.folder / "tarball")
+        cls.roots = [cls.folder / "tarball" / tarball.name.replace(".tar.gz", "")]
+        for package in (tree / "packages").glob("cmsproof_*.deb"):
+            subprocess.run(["dpkg-deb", "--extract", package, cls.folder / "deb"], check=True)
+            cls.roots.append(cls.folder / "deb" / "usr")
+        # (what made the packages is not there any more)
+        shutil.rmtree(tree)
+
+    def pythons(self, root):
+        """How the tools are run, and whether PDF is read so: by the Python that reads it, and as they say themselves, if that one has the
+        library cryptography."""
+        packaged = root.parent.name == "deb"
+        first = (root / "bin" / "cmsproof-archive").read_text().partition("\n")[0]
+        self.assertEqual(first, "#!/usr/bin/python3 -I" if packaged else "#!/usr/bin/env python3")
+        own = DEBIAN if packaged else shutil.which("python3")
+        yield [PYTHON, "-I"], PDF
+        if own and has(own, "cryptography"):
+            yield [], has(own, "pikepdf")
+
+    def test_each_module_is_imported(self):
+        wanted = {name: "" for name in map(module_name, filter(is_module, modules_there()))}
+        for root in self.roots:
+            told = imported_alone(f"{PYTHON} -I", root / "lib" / "cmsproof", cwd=self.folder)
+            self.assertEqual(told, wanted, root)
+
+    def test_a_file_of_each_kind(self):
+        """The folder of README.md, with a PDF, ASiC, mail, PEM, BER and DER in it."""
+        for root in self.roots:
+            place = self.folder / f"files of {root.name}"
+            place.mkdir()
+            maker = containers.Maker(place, root / "bin" / "cmsproof")
+            (place / "letters").mkdir()
+            for name, octets in containers.one_of_each(maker).items():
+                (place / "letters" / name).write_bytes(octets)
+            for python, reads_pdf in self.pythons(root):
+                words = [*python, root / "bin" / "cmsproof-archive", "--trust", "trust.txt", "letters"]
+                alone = {name: text for name, text in os.environ.items() if not name.startswith("PYTHON")}
+                done = subprocess.run(words, cwd=place, capture_output=True, text=True, check=False, env=alone)
+                lines = dict(line.rsplit(": ", 1) for line in done.stdout.splitlines())
+                names = {name for name, line in lines.items() if line.startswith("accepted ")}
+                wanted = {f"letters/{name}" for name in (*ACCEPTED, "files.asice META-INF/signature1.p7s")}
+                wanted |= {"letters/contract.pdf Signature1"} if reads_pdf else set()
+                self.assertEqual(names, wanted, done.stdout + done.stderr)
+                if not reads_pdf:
+                    self.assertIn("install Debian's python3-pikepdf", done.stderr)
+                self.assertEqual(lines["letters/table.xml"], "refused F1 UnknownForm")
+        if not PDF:
+            self.skipTest("pikepdf is missing, so of the packages all kinds but PDF were read")
 
 
 if __name__ == "__main__":

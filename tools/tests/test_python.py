@@ -16,7 +16,22 @@ import unittest
 import zipfile
 from pathlib import Path
 
-from making import INSTALLED, PROGRAM, REAL, TOP, folder_of
+from making import (
+    INSTALLED,
+    MODULES,
+    PROGRAM,
+    REAL,
+    SOURCES,
+    TOP,
+    folder_of,
+    imported_alone,
+    is_module,
+    module_name,
+    modules_there,
+    need_tools,
+)
+
+need_tools()
 
 import cmsproof  # noqa: E402
 from cmsproof import octets, verdicts  # noqa: E402
@@ -239,7 +254,7 @@ class Checking(unittest.TestCase):
 
     def test_forks_of_several_threads(self):
         """Each of them ends, as every call beside it; lists that are made meanwhile, and a signal in the middle of a call, change nothing."""
-        done = subprocess.run([sys.executable, "-c", FORKS, INSTALLED, REAL], capture_output=True, timeout=120, check=False)
+        done = subprocess.run([sys.executable, "-c", FORKS, MODULES, REAL], capture_output=True, timeout=120, check=False)
         self.assertEqual((done.returncode, done.stdout, done.stderr), (0, b"done\n", b""))
 
 
@@ -334,36 +349,53 @@ class Commands(unittest.TestCase):
         self.assertEqual(cmsproof.show("response", self.SMALL / "rsa_attached.1.tsr")["token"], "present")
 
 
-@unittest.skipUnless(all(map(importlib.util.find_spec, ("pip", "setuptools", "wheel"))), "pip, setuptools or wheel is missing")
+def has_pip():
+    """Whether this Python makes environments with pip in them, as Debian's does with python3-venv."""
+    return all(map(importlib.util.find_spec, ("venv", "ensurepip"))) and all(map(shutil.which, ("make", "cc", "ld")))
+
+
+@unittest.skipUnless(has_pip(), "there is no python3-venv, or no C compiler")
 class Installed(unittest.TestCase):
-    """The wheel that `pip` builds, in an environment of its own, without a network."""
+    """What `pip install .` puts into a fresh environment, with no network and no other word but those that keep pip from the network."""
 
     @classmethod
     def setUpClass(cls):
         folder = tempfile.TemporaryDirectory()
         cls.addClassCleanup(folder.cleanup)
         cls.folder, tree = Path(folder.name), Path(folder.name) / "tree"
-        for name in "pyproject.toml setup.py MANIFEST.in README.md CHANGELOG.md LICENSE NOTICE docs/REFUSALS.md".split():
-            (tree / name).parent.mkdir(exist_ok=True)
+        for name in (
+            "Makefile",
+            "README.md",
+            "CHANGELOG.md",
+            "LICENSE",
+            "NOTICE",
+            "pyproject.toml",
+            "docs/REFUSALS.md",
+            "tools/library.sh",
+        ):
+            (tree / name).parent.mkdir(exist_ok=True, parents=True)
             shutil.copy(TOP / name, tree / name)
-        for name in ("dist", "include", "tools/installed"):
+        for name in ("dist", "include", "packaging", "tools/installed"):
             shutil.copytree(TOP / name, tree / name, ignore=shutil.ignore_patterns("__pycache__", "*.so.1", "*.egg-info"))
-        shutil.copy(TOP / "tools" / "library.sh", tree / "tools")
         # (the wheel is made of the source distribution, which so is shown to be whole)
-        cls.run_python("-c", "import setuptools.build_meta as b; b.build_sdist('..')", cwd=tree)
+        cls.run_python("-c", "import sys; sys.path.insert(0, 'packaging'); import backend; backend.build_sdist('..')", cwd=tree)
         (packed,) = cls.folder.glob("*.tar.gz")
-        cls.run_python(
-            "-m", "pip", "wheel", *"--no-deps --no-index --no-build-isolation --quiet -w".split(), cls.folder, packed
-        )
         cls.run_python("-m", "venv", "--system-site-packages", cls.folder / "venv")
+        cls.python = cls.folder / "venv" / "bin" / "python"
+        try:
+            cls.run_python("-c", "import cryptography", python=cls.python)
+        except AssertionError as error:
+            raise unittest.SkipTest("the system's Python has no library cryptography") from error
+        words = "-m pip --no-input --disable-pip-version-check".split()
+        cls.run_python(*words, *"wheel --no-deps --no-index --quiet -w".split(), cls.folder, packed, python=cls.python)
         (cls.wheel,) = cls.folder.glob("*.whl")
-        python = cls.folder / "venv" / "bin" / "python"
-        cls.run_python(*"-m pip install --no-deps --no-index --quiet".split(), cls.wheel, python=python)
+        cls.run_python(*words, *"install --no-index --quiet .".split(), cwd=tree, python=cls.python)
 
     @classmethod
     def run_python(cls, *words, cwd=None, python=sys.executable):
-        """What Python prints. A failure of it ends the tests."""
-        done = subprocess.run([python, *words], cwd=cwd or cls.folder, capture_output=True, text=True, check=False)
+        """What Python prints, with no module but its own. A failure of it ends the tests."""
+        alone = {name: value for name, value in os.environ.items() if not name.startswith(("PYTHON", "PIP_"))}
+        done = subprocess.run([python, *words], cwd=cwd or cls.folder, capture_output=True, text=True, check=False, env=alone)
         if done.returncode:
             raise AssertionError(done.stdout + done.stderr)
         return done.stdout
@@ -371,36 +403,36 @@ class Installed(unittest.TestCase):
     def test_the_lines_of_the_readme(self):
         (lines,) = re.findall(r"```python\n(trust = .*?)```", (TOP / "README.md").read_text(), re.S)
         shutil.copy(FILE, self.folder / "letter.p7s"), shutil.copy(REAL / "trust.txt", self.folder / "trusted.txt")
-        said = self.run_python("-c", "import cmsproof\n" + lines, python=self.folder / "venv" / "bin" / "python")
+        said = self.run_python("-c", "import cmsproof\n" + lines, python=self.python)
         self.assertEqual(said, "True 2026-11-22 07:17:59+00:00 accepted 20261122071759Z\n")
 
     def test_what_is_in_it(self):
         machine = os.uname().machine
         self.assertTrue(self.wheel.name.endswith(f"-py3-none-linux_{machine}.whl"), self.wheel.name)
         with zipfile.ZipFile(self.wheel) as wheel:
-            names = {name for name in wheel.namelist() if name.startswith("cmsproof")}
-        modules = {str(path.relative_to(INSTALLED)) for path in INSTALLED.rglob("*.py")}
+            names = {name for name in wheel.namelist() if name.startswith(("cmsproof/", "cmsproof_tools/"))}
+            record = wheel.read(next(name for name in wheel.namelist() if name.endswith("/RECORD"))).decode()
+            self.assertEqual({line.split(",")[0] for line in record.splitlines()}, set(wheel.namelist()))
+        self.assertEqual(names, modules_there() | {"cmsproof/libcmsproof.so.1", "cmsproof_tools/REFUSALS.md"})
+        tools = self.folder / "venv" / "bin"
         self.assertEqual(
-            (modules | {"cmsproof/py.typed", "cmsproof/libcmsproof.so.1", "cmsproof_tools/REFUSALS.md"}) - names, set()
+            {path.name for path in tools.glob("cmsproof*")}, {path.name for path in SOURCES.glob("cmsproof-*[a-z]")}
         )
-        tool = self.folder / "venv" / "bin" / "cmsproof-archive"
-        self.assertEqual(
-            subprocess.run([tool, "--trust", REAL / "trust.txt", FILE], capture_output=True, check=True).stdout,
-            f"{FILE}: accepted 20261122071759Z\n".encode(),
-        )
+        said = self.run_python(tools / "cmsproof-archive", "--trust", REAL / "trust.txt", FILE, python=self.python)
+        self.assertEqual(said, f"{FILE}: accepted 20261122071759Z\n")
+        for name in tools.glob("cmsproof-*"):
+            told = subprocess.run(
+                [name, "--version"], capture_output=True, text=True, check=True, env={"PATH": "/nowhere"}
+            ).stdout
+            self.assertRegex(told, rf"^{name.name} [0-9.]+\n$")
 
 
 class Modules(unittest.TestCase):
     """The modules of both packages, each alone: none needs another one that needs it."""
 
     def test_each_module_is_imported_alone(self):
-        names = [".".join(path.relative_to(INSTALLED).with_suffix("").parts) for path in INSTALLED.rglob("*.py")]
-        code = (
-            "import sys, importlib\nfor name in sys.argv[1:]:\n    if os.fork() == 0:\n        importlib.import_module(name)\n"
-        )
-        code = "import os, " + code[7:] + "        os._exit(0)\n    assert os.wait()[1] == 0, name\n"
-        done = subprocess.run([sys.executable, "-c", code, *names], cwd=INSTALLED, capture_output=True, text=True, check=False)
-        self.assertEqual((done.returncode, done.stderr), (0, ""))
+        told = imported_alone(sys.executable, MODULES, cwd=folder_of(self))
+        self.assertEqual(told, {name: "" for name in map(module_name, filter(is_module, modules_there()))})
 
 
 if __name__ == "__main__":

@@ -11,7 +11,9 @@ from html.parser import HTMLParser
 from pathlib import Path
 
 from browser import CHROMIUM, Browser
-from making import REAL, TOP, run_tool
+from making import REAL, TOP, need_tools, run_tool
+
+need_tools()
 
 from cmsproof_tools.cures import known_cures
 from cmsproof_tools.rows import NOTHING, Decided, Listed, Row, grounds_text

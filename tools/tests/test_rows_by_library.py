@@ -3,7 +3,9 @@ import sys
 import unittest
 from types import SimpleNamespace
 
-from making import TOP
+from making import TOP, need_tools
+
+need_tools()
 
 import cmsproof
 from cmsproof import commands

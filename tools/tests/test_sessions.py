@@ -3,7 +3,9 @@ import re
 import subprocess
 import unittest
 
-from making import INSTALLED, TOP, Keys, openssl
+from making import INSTALLED, TOP, Keys, need_tools, openssl
+
+need_tools()
 
 TEXTS = {name: (TOP / name).read_text() for name in ("README.md", "docs/GUIDE.md")}
 

@@ -4,7 +4,9 @@ import unittest
 from datetime import datetime
 from unittest import mock
 
-from making import REAL, TOP
+from making import REAL, TOP, need_tools
+
+need_tools()
 from oracle.der import element, oid
 
 from cryptography import x509

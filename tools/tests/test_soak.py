@@ -180,6 +180,7 @@ class Meanings(unittest.TestCase):
                     self.assertEqual(meaning("a" + suffix, one.encode()) == meaning("a" + suffix, other.encode()), is_same)
 
 
+@unittest.skipUnless(shutil.which("git"), "there is no git")
 class Changed(Repository):
     """Which edits `--changed` tries, by what changed since they were tried."""
 
@@ -280,6 +281,7 @@ class Changed(Repository):
                 self.assertEqual(self.running(), [])
 
 
+@unittest.skipUnless(shutil.which("git"), "there is no git")
 class Lines(Repository):
     """What the lines of `soaked` may be, and a clone that can't compare."""
 
@@ -376,6 +378,7 @@ class Lines(Repository):
         self.assertEqual(self.tried(), ["low", "high"])
 
 
+@unittest.skipUnless(shutil.which("git"), "there is no git")
 class Soaking(Repository):
     """What a whole run tries, and which lines it writes."""
 
@@ -452,6 +455,7 @@ class Soaking(Repository):
         self.assertEqual(list(self.rooms.iterdir()), [])
 
 
+@unittest.skipUnless(shutil.which("git"), "there is no git")
 class Gate(Repository):
     """`.ci/run` and `make test`, with a stand-in for `rt`."""
 

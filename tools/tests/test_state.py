@@ -13,7 +13,9 @@ import unittest
 from pathlib import Path
 
 from archiving import CHANGED
-from making import INSTALLED, PROGRAM, REAL, folder_of, run_tool
+from making import INSTALLED, MODULES, PROGRAM, REAL, as_nobody, folder_of, need_tools, run_tool
+
+need_tools()
 
 from cmsproof.octets import COPIED, File
 from cmsproof_tools import rows
@@ -295,7 +297,7 @@ class Killed(unittest.TestCase):
         archive(files, *names, state=folder / "whole")
         # (rows are written for good after a few files, so that most runs are killed between two such moments)
         code = "from cmsproof_tools import state; state.FILES, state.SECONDS = 7, 0.05"
-        (folder / "often.py").write_text(CHANGED.format(installed=str(INSTALLED), code=code))
+        (folder / "often.py").write_text(CHANGED.format(installed=str(MODULES), code=code))
         words = [sys.executable, folder / "often.py", "--trust", TRUST, "--state", folder / "killed", "--jobs", "2", *names]
         chance, printed = random.Random(37), {}
         for _ in range(self.KILLS):
@@ -572,7 +574,7 @@ class Hostile(unittest.TestCase):
         shutil.move(self.path, inside / "st%te")
         self.folder.chmod(0o755), inside.chmod(0o555)
         self.addCleanup(inside.chmod, 0o755)
-        user = {} if os.geteuid() else {"user": 65534, "group": 65534, "extra_groups": []}
+        user = as_nobody()
         words = [sys.executable, INSTALLED / "cmsproof-archive", "report", "in side?/st%te", "--json", "-"]
         done = subprocess.run(words, cwd=self.folder, capture_output=True, text=True, check=False, **user)
         self.assertEqual((done.returncode, done.stderr, done.stdout[:11]), (0, "", '{"file": "a'))
@@ -593,7 +595,7 @@ running.start("archive")
         with open(self.folder / "long", "wb") as long:
             long.truncate(COPIED + 1)
         words = ["--trust", TRUST, "--state", "new", "--content", "long", REAL / "rsa_detached_ts.p7s"]
-        run = [sys.executable, "-c", code, INSTALLED, *words]
+        run = [sys.executable, "-c", code, MODULES, *words]
         done = subprocess.run(run, cwd=self.folder, capture_output=True, text=True, check=False)
         line = "cmsproof-archive: failed read long: it was changed while it was read\n"
         self.assertEqual((done.returncode, done.stdout, done.stderr), (4, "", line))

@@ -4,7 +4,9 @@ import tempfile
 import unittest
 from pathlib import Path
 
-from making import PROGRAM, REAL, openssl, run_tool, without_library
+from making import PROGRAM, REAL, need_tools, openssl, run_tool, without_library
+
+need_tools()
 
 STAMPING = "extendedKeyUsage=critical,timeStamping"
 STAMPER = "for time-stamping alone (RFC 3161 2.3): it is an authority's, and signs no files: --tsa lists it"

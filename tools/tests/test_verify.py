@@ -5,7 +5,6 @@ import shutil
 import subprocess
 import sys
 import tempfile
-import time
 import tracemalloc
 import unittest
 from pathlib import Path
@@ -19,11 +18,15 @@ from making import (
     algorithm,
     digest_algorithm,
     element,
+    need_tools,
+    processor_seconds,
     pss,
     question,
     run_tool,
     without_library,
 )
+
+need_tools()
 
 from oracle.identifiers import SHA_2
 
@@ -369,17 +372,17 @@ class Verifying(unittest.TestCase):
         long, short = (1 << 100_000) - 1, (1 << 159) | 1
         key = key_of(PKCS_1 + "1", NULL, element(0x30, number((1 << 5_000_000) - 1), number(65537)))
         asked = question(key, digest_algorithm("sha256"), algorithm(PKCS_1 + "11", NULL), TAIL, bytes(256))
-        begun = time.monotonic()
+        begun = processor_seconds()
         err = self.none_vouched([("RSA", asked)])
         self.assertIn("cmsproof-verify: line 2: not judged: the key of RSA is longer than OpenSSL takes", err)
-        self.assertLess(time.monotonic() - begun, 30)
+        self.assertLess(processor_seconds() - begun, 30)
         for numbers in ((long, short), ((1 << 2047) | 1, (1 << 2046) | 1), (long, long - 2)):
             key = key_of("1.2.840.10040.4.1", element(0x30, *map(number, (*numbers, 3))), number(5))
             asked = question(key, digest_algorithm("sha256"), algorithm(DSA + "2"), TAIL, element(0x30, number(1), number(1)))
-            begun = time.monotonic()
+            begun = processor_seconds()
             err = self.none_vouched([("long", asked)])
             self.assertIn("cmsproof-verify: line 2: not judged: the key of DSA is longer than OpenSSL takes", err)
-            self.assertLess(time.monotonic() - begun, 30)
+            self.assertLess(processor_seconds() - begun, 30)
 
     def test_many_parts_take_no_memory(self):
         from cmsproof_tools import der, verifying

@@ -7,6 +7,8 @@ import unittest
 
 import making
 
+making.need_tools()
+
 from cmsproof_tools.workers import GROUP, ROOM, Workers
 
 assert making.INSTALLED.is_dir()  # (it has put the modules on the path)

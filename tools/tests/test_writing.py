@@ -8,7 +8,9 @@ import unittest
 from pathlib import Path
 
 from archiving import WithFiles
-from making import INSTALLED, folder_of, run_tool
+from making import INSTALLED, MODULES, NOBODY, as_nobody, folder_of, need_tools, run_tool
+
+need_tools()
 
 BEFORE, AFTER = b"as before", b"more than there is room for\n" * 6000
 WAYS = {
@@ -29,7 +31,6 @@ except running.Stop as stop:
 except OSError as error:
     sys.exit(error.strerror)
 """
-NOBODY = 65534
 FULL, LONG, DENIED = "No space left on device", "File too large", "Permission denied"
 STAYS = "no file can be made beside it, and it stays as it is: "
 # the mask of modes, the mode of the file that is there, and the one that is wanted, as test_written.py has them of the program
@@ -51,7 +52,7 @@ class Writing(unittest.TestCase):
 
     def said(self, way, path, more="", **rest):
         """How a process ended that writes so, and what it said."""
-        code = CODE.format(installed=str(INSTALLED), way=WAYS[way], more=more)
+        code = CODE.format(installed=str(MODULES), way=WAYS[way], more=more)
         words = [sys.executable, "-c", code, str(path)]
         done = subprocess.run(words, cwd=self.folder, stderr=subprocess.PIPE, check=False, timeout=60, **rest)
         return done.returncode, done.stderr.decode().strip()
@@ -122,6 +123,7 @@ class Writing(unittest.TestCase):
     def test_who_owns_it(self):
         if os.geteuid():
             self.skipTest("only root gives files to others")
+        nobody = as_nobody()
         os.chown(self.out, NOBODY, NOBODY)
         self.assertEqual(self.said("write", "out"), (0, ""))
         found = self.out.stat()
@@ -129,7 +131,7 @@ class Writing(unittest.TestCase):
         # who may not give it to the old group gives the new one no more than all others have
         os.chown(self.out, 0, 0)
         self.out.chmod(0o762), self.folder.chmod(0o777)
-        self.assertEqual(self.said("write", "out", user=NOBODY, group=NOBODY, extra_groups=[]), (0, ""))
+        self.assertEqual(self.said("write", "out", **nobody), (0, ""))
         found = self.out.stat()
         self.assertEqual((found.st_uid, oct(found.st_mode & 0o7777)), (NOBODY, oct(0o722)))
 
@@ -160,7 +162,7 @@ class Writing(unittest.TestCase):
         (inside / "out").write_bytes(BEFORE)
         self.folder.chmod(0o755), (inside / "out").chmod(0o666), inside.chmod(0o555), self.out.chmod(0o444)
         self.addCleanup(inside.chmod, 0o755)
-        user = {} if os.geteuid() else {"user": NOBODY, "group": NOBODY, "extra_groups": []}
+        user = as_nobody()
         rows = [("out", DENIED), ("inside/out", STAYS + DENIED), ("inside/new", DENIED), ("out/x", "Not a directory")]
         for path, line in [*rows, ("inside", "Is a directory"), ("none/x", "No such file or directory")]:
             for way in ("write", "bundle"):

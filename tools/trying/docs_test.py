@@ -7,9 +7,10 @@ Without DOCUMENT it takes those of DOCUMENTS below that are there, and the pages
 document, in place of what stood there. --keep is for docs/GUIDE.md and data/guide: it writes all that was printed, and takes
 from the folder of the session each file whose name is in FOLDER already, so that document and files are of one session.
 
-The environment variable CMSPROOF names the program, by default ./cmsproof of the repository, and CMSPROOF_TOOLS the folder of
-its tools, by default tools/installed. The exit status is 0 where all is the same, 1 where something differs, and 3 where a
-program is missing.
+The environment variable CMSPROOF_TREE names the folder under which `make install` put the program and the tools, which are run then
+(tools/on_installed.py). Without it CMSPROOF names the program, by default ./cmsproof of the repository, and CMSPROOF_TOOLS the folder of
+its tools, by default tools/installed. The exit status is 0 where all is the same, 1 where something differs, and 3 where the
+program or its tools are missing. Where what all documents need is missing, no command is run, and the last line says so.
 
 How a block is marked:
 
@@ -25,8 +26,8 @@ How a block is marked:
   prepare files, what they print is not compared, and they must succeed.
 
 All commands of a document run in one shell, in a new folder that is removed afterwards: `crates`, `data`, `docs` and `tools`
-in it are those of the repository, and `cmsproof` and its tools are on the PATH. So `echo $?` prints the status of the command
-before it. What `mktemp` makes is removed too.
+in it are those of the repository, but where installed tools are tested `tools` has none; `cmsproof` and its tools are on the PATH. So
+`echo $?` prints the status of the command before it. What `mktemp` makes is removed too.
 """
 import argparse
 import difflib
@@ -36,11 +37,13 @@ import shutil
 import subprocess
 import sys
 import tempfile
+from collections import Counter
 from pathlib import Path
 
 ROOT = Path(__file__).resolve().parent.parent.parent
 DOCUMENTS = ["README.md"] + ["docs/%s.md" % name for name in ("GUIDE", "REFUSALS", "TOOLS", "COMPARED", "LIBRARY")]
-NEEDED = ["bash", "openssl", "python3"]
+NEEDED = ["bash", "openssl", "python3", "python3-cryptography"]
+TREE = os.environ.get("CMSPROOF_TREE")
 VARIES = {
     "time": r"\b[0-9]{14}(\.[0-9]+)?Z",  # 20261123174501Z
     "date": r"\b[A-Z][a-z]{2} [ 0-9][0-9] [0-9:]{8}(\.[0-9]+)? [0-9]{4} GMT",  # Nov 23 17:45:01 2026 GMT
@@ -99,7 +102,8 @@ def is_there(name):
     return os.path.exists(name) if os.path.isabs(name) else shutil.which(name) is not None
 
 
-def steps_of(lines, page):
+def steps_of(lines, page, left_out):
+    """The commands of a document, but those that need what is missing, which are counted by the reason."""
     steps, at = [], 0
     mark, quiet = (r'^\.\\" run\b(.*)$', '.\\" quiet ') if page else (r"^```\w+ run\b(.*)$", "<!-- quiet")
     while at < len(lines):
@@ -112,7 +116,7 @@ def steps_of(lines, page):
             missing = [name for name in needed if not is_there(name)]
             steps += [] if missing else more
             if missing:
-                print("line %d: passed over, since there is no %s" % (start, ", ".join(missing)))
+                left_out["there is no %s" % ", ".join(missing)] += len(more)
         elif page and lines[at].startswith(quiet):
             steps.append(Step(lines[at][len(quiet) :], at + 1, [], True))
         elif not page and lines[at] == quiet:
@@ -133,7 +137,24 @@ def script_of(steps):
 
 
 def tools_folder():
-    return Path(os.environ.get("CMSPROOF_TOOLS", ROOT / "tools" / "installed")).resolve()
+    return Path(TREE, "bin") if TREE else Path(os.environ.get("CMSPROOF_TOOLS", ROOT / "tools" / "installed")).resolve()
+
+
+def the_program():
+    return Path(TREE, "bin", "cmsproof") if TREE else Path(os.environ.get("CMSPROOF", ROOT / "cmsproof")).resolve()
+
+
+def link_repository(folder):
+    """Has a folder show what the documents name of the repository, but not its tools where those that are installed are tested."""
+    for name in "crates", "data", "docs":
+        os.symlink(ROOT / name, Path(folder, name))
+    if not TREE:
+        os.symlink(ROOT / "tools", Path(folder, "tools"))
+        return
+    Path(folder, "tools").mkdir()
+    for path in (ROOT / "tools").iterdir():
+        if path.name != "installed":
+            os.symlink(path, Path(folder, "tools", path.name))
 
 
 def keep(session, kept):
@@ -146,8 +167,7 @@ def keep(session, kept):
 def printed(steps, program, kept):
     """What each command printed, as lines; fewer where the shell ended before."""
     with tempfile.TemporaryDirectory() as folder, tempfile.TemporaryDirectory() as programs:
-        for name in "crates", "data", "docs", "tools":
-            os.symlink(ROOT / name, Path(folder, name))
+        link_repository(folder)
         os.symlink(program, Path(programs, "cmsproof"))
         path = os.pathsep.join([programs, str(tools_folder()), os.environ["PATH"]])
         done = subprocess.run(
@@ -164,11 +184,11 @@ def printed(steps, program, kept):
     return [part.split("\n", 1)[1].rstrip("\n").split("\n") if "\n" in part else [] for part in parts], done.returncode
 
 
-def test(path, program, write, kept):
-    """How many commands a document has, and how many of them print something else."""
+def test(path, program, write, kept, left_out):
+    """How many commands a document has that can be run, and how many of them print something else."""
     lines = path.read_text(encoding="utf-8").split("\n")
     name = path.relative_to(ROOT)
-    steps = steps_of(lines, path.parent.name == "man")
+    steps = steps_of(lines, path.parent.name == "man", left_out)
     seen, status = printed(steps, program, kept)
     wrong = 0
     for step, got in reversed(list(zip(steps, seen))):
@@ -199,17 +219,36 @@ def main():
     parser.add_argument("--keep", metavar="FOLDER")
     parser.add_argument("documents", nargs="*")
     given = parser.parse_args()
-    program = Path(os.environ.get("CMSPROOF", ROOT / "cmsproof")).resolve()
-    missing = [name for name in NEEDED if shutil.which(name) is None]
-    missing += [str(path) for path in (program, tools_folder()) if not path.exists()]
-    if missing:
+    program, left_out, results = the_program(), Counter(), []
+    if missing := [str(path) for path in (program, tools_folder()) if not path.exists()]:
         print("docs_test.py: not found: %s" % ", ".join(missing), file=sys.stderr)
         return 3
     documents = [ROOT / name for name in DOCUMENTS if (ROOT / name).exists()] + sorted((ROOT / "man").glob("*.[1-9]"))
     paths = [Path(word).resolve() for word in given.documents] or documents
-    results = [test(path, program, given.write, given.keep) for path in paths]
-    print("%d commands, %d differ" % (sum(r[0] for r in results), sum(r[1] for r in results)))
-    return 1 if any(r[1] for r in results) else 0
+    missing = [name for name in NEEDED if not is_there(name)]
+    for path in paths:
+        if missing:
+            steps = steps_of(path.read_text(encoding="utf-8").split("\n"), path.parent.name == "man", Counter())
+            left_out["there is no %s" % ", ".join(missing)] += sum(not step.quiet for step in steps)
+        else:
+            results.append(test(path, program, given.write, given.keep, left_out))
+    return told(results, left_out)
+
+
+def told(results, left_out):
+    """Says what was left out, and in the last line how it went, and gives the exit status."""
+    for reason, count in sorted(left_out.items()):
+        print("documents: %d commands left out: %s" % (count, reason))
+    wrong = sum(result[1] for result in results)
+    line = "documents: %d commands, %d differ, %d left out" % (
+        sum(result[0] for result in results),
+        wrong,
+        sum(left_out.values()),
+    )
+    print(line)
+    if os.environ.get("CMSPROOF_COUNTS"):
+        Path(os.environ["CMSPROOF_COUNTS"]).write_text(line + "\n", encoding="utf-8")
+    return 1 if wrong else 0
 
 
 if __name__ == "__main__":

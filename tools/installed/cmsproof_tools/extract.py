@@ -166,12 +166,26 @@ def extract_all(tool: str, folder: str, wanted: Wanted, names: list[str]) -> int
     return worst
 
 
+def make_folder(folder: str) -> None:
+    """Makes the folder to write into, if it is not there; the one that it is in must be."""
+    try:
+        os.mkdir(folder)
+    except FileExistsError:
+        pass  # (if it is no folder, that is said of the first file that is to be written)
+    except OSError as error:
+        raise Stop(FAILED, f"failed write {shown(folder)}: {error.strerror}") from error
+
+
 def main(tool: str, words: list[str]) -> int:
     """Runs the tool with these words and answers its exit status."""
     parser = Words(tool, description=ABOUT)
-    parser.add_argument("--to", default=".", metavar="DIR", help="the folder to write into, by default the current one")
+    about = "the folder to write into, which is made if it is not there; by default the current one"
+    parser.add_argument("--to", default=".", metavar="DIR", help=about)
     parser.add_argument("--partial", action="store_true", help="also write signatures that do not cover the whole file")
     parser.add_argument("--mend", action="store_true", help="leave out unsigned attributes that are there and empty (M15)")
     parser.add_argument("files", nargs="+", metavar="FILE", help="a file")
     given = parser.parse_args(words)
+    if given.to == "-":
+        parser.error("- is no name for --to: write ./-")
+    make_folder(given.to)
     return extract_all(tool, given.to, Wanted(given.partial, given.mend), given.files)

@@ -35,7 +35,7 @@ def add_words(parser: argparse.ArgumentParser, several: bool) -> None:
         ("--trusted-list", "a national trusted list (ETSI TS 119 612), whose authorities and issuers are trusted"),
     ):
         more: dict[str, Any] = {"action": "extend", "nargs": "+"} if several else {"action": "append"}
-        parser.add_argument(word, default=[], metavar="FILE", help=what, **more)
+        parser.add_argument(word, default=[], metavar="DIR" if word == "--crl-dir" else "FILE", help=what, **more)
     operator = "the certificate under which trusted lists are signed; without it nobody verifies that"
     parser.add_argument("--scheme-operator", metavar="FILE", help=operator)
 

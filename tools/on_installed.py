@@ -1,0 +1,192 @@
+#!/usr/bin/env python3
+"""Installs the program and its tools into a new folder, and tests what is there, from a folder outside of the repository:
+
+    python3 tools/on_installed.py [--root FOLDER] [tests [NAME ..] | documents [DOCUMENT ..]]
+
+`tests` are those in tools/tests, or of some modules there; `documents` are the commands in them (tools/trying/docs_test.py); without a
+word it is both, the second also where the first failed. No command or module of the repository is found: PATH has the folder `bin` that
+was installed, and then what it had without the folders of the repository, and there is no PYTHONPATH. The tests of the scripts in tools/
+run these where they are, since nobody installs them.
+
+--root tests what is installed in this folder already, as /usr, in place of a new one.
+
+What is left out, since something is missing on this machine, has a line with the reason, and the last line counts it. The exit status is 0
+where nothing failed, and else 1.
+"""
+from __future__ import annotations
+
+import argparse
+import contextlib
+import importlib
+import os
+import re
+import signal
+import subprocess
+import sys
+import tempfile
+import unittest
+from collections import Counter
+from pathlib import Path
+
+TOP = Path(__file__).resolve().parent.parent
+TESTS = TOP / "tools" / "tests"
+# what the tests import that a machine may lack, and where Debian has it
+LIBRARIES = {"cryptography": "python3-cryptography"}
+
+
+def environment(root: Path) -> dict[str, str]:
+    """The surroundings in which what is installed under a folder is found, and nothing of the repository."""
+    kept = {
+        name: value
+        for name, value in os.environ.items()
+        if not name.startswith(("MAKE", "MFLAGS", "GNUMAKEFLAGS", "PYTHONPATH"))
+    }
+    kept.pop("CMSPROOF", None), kept.pop("CMSPROOF_TOOLS", None)
+    paths = [path for path in os.environ.get("PATH", os.defpath).split(os.pathsep) if path and not is_within(Path(path), TOP)]
+    return {**kept, "PATH": os.pathsep.join([str(root / "bin"), *paths]), "CMSPROOF_TREE": str(root)}
+
+
+def is_within(path: Path, folder: Path) -> bool:
+    """Whether a path leads into a folder."""
+    path = path.resolve()
+    return path == folder or folder in path.parents
+
+
+def install(folder: Path) -> Path:
+    """Installs all into a folder, of what is built, and gives the folder under which it is."""
+    built = ("-o", "cmsproof", "-o", "tools/installed/cmsproof/libcmsproof.so.1")
+    words = ["make", "-s", "-C", str(TOP), *built, "install", f"DESTDIR={folder}", "PREFIX=/usr"]
+    done = subprocess.run(words, env=environment(folder), capture_output=True, text=True, check=False)
+    if done.returncode:
+        raise SystemExit(f"on_installed: nothing was installed: {done.stderr.strip()}")
+    return folder / "usr"
+
+
+# ---- the tests, in a process of their own
+
+
+class Result(unittest.TextTestResult):
+    """What became of the tests, with the reason for each one that was left out."""
+
+    def __init__(self, *words, **rest):
+        super().__init__(*words, **rest)
+        self.left_out, self.by_class = Counter(), Counter()
+
+    def startTestRun(self):
+        """Begins with no module of the repository."""
+        super().startTestRun()
+        self.strangers = strangers()
+
+    def addSkip(self, test, reason):
+        """A test that is left out, or, where its class could not be set up, all tests of that class."""
+        super().addSkip(test, reason)
+        name = re.match(r"setUpClass \((.*)\)$", test.id())
+        self.left_out[reason] += self.by_class[name[1]] if name else isinstance(test, unittest.TestCase)
+
+
+def strangers() -> list[str]:
+    """The modules of the tools that were not taken from what is installed."""
+    tree = Path(os.environ["CMSPROOF_TREE"]).resolve()
+    found = [module for name, module in sys.modules.items() if name.split(".")[0] in ("cmsproof", "cmsproof_tools")]
+    return [str(module.__file__) for module in found if module.__file__ and not is_within(Path(module.__file__), tree)]
+
+
+def tests_of(path: Path, left_out: Counter) -> unittest.TestSuite:
+    """The tests of a module, none where it needs what is missing; one that fails where it cannot be imported for another reason."""
+    try:
+        return unittest.defaultTestLoader.loadTestsFromModule(importlib.import_module(path.stem))
+    except unittest.SkipTest as skipped:
+        reason = str(skipped)
+    except ModuleNotFoundError as error:
+        missing = str(error.name).split(".")[0]
+        if missing not in LIBRARIES:
+            return unittest.defaultTestLoader.loadTestsFromName(path.stem)
+        reason = f"there is no library {missing} for Python ({LIBRARIES[missing]})"
+    except Exception:
+        return unittest.defaultTestLoader.loadTestsFromName(path.stem)
+    left_out[reason] += len(re.findall(r"^    def test_", path.read_text(encoding="utf-8"), re.M))
+    return unittest.TestSuite()
+
+
+def each(suite):
+    """The tests of a suite."""
+    for one in suite:
+        yield from each(one) if isinstance(one, unittest.TestSuite) else [one]
+
+
+def run_tests(names: list[str]) -> int:
+    """Runs the tests of these modules, or of all, and says at the end what was left out. Writes the counts where it is told to."""
+    sys.path[:0] = [str(TESTS)]
+    paths = [TESTS / f"{name}.py" for name in names] or sorted(TESTS.glob("test_*.py"))
+    left_out: Counter = Counter()
+    suite = unittest.TestSuite([tests_of(path, left_out) for path in paths])
+    missing, classes = sum(left_out.values()), Counter(unittest.util.strclass(type(test)) for test in each(suite))
+    runner = unittest.TextTestRunner(resultclass=Result, buffer=False)
+    making = runner._makeResult
+    runner._makeResult = lambda: found_in(making(), classes)
+    result = runner.run(suite)
+    left_out.update(result.left_out)
+    for reason, count in sorted(left_out.items()):
+        print(f"tests: {count} left out: {reason}")
+    for stranger in (wrong := sorted(set(strangers()))):
+        print(f"tests: {stranger} is not what was installed")
+    failed = len(result.failures) + len(result.errors) + len(result.unexpectedSuccesses) + len(wrong)
+    count = suite.countTestCases() + missing
+    report(f"tests: {count}, {failed} failed, {sum(left_out.values())} left out")
+    return 1 if failed else 0
+
+
+def found_in(result, classes):
+    """A result that knows how many tests each class has."""
+    result.by_class = classes
+    return result
+
+
+def report(line: str) -> None:
+    """Prints the counts, and keeps them for the last line."""
+    print(line, flush=True)
+    if kept := os.environ.get("CMSPROOF_COUNTS"):
+        Path(kept).write_text(line + "\n", encoding="utf-8")
+
+
+# ---- both
+
+
+def part(what: str, words: list[str], root: Path, folder: Path) -> tuple[int, str]:
+    """Runs the tests or the documents in a process of its own, and gives its status and its counts."""
+    (elsewhere := folder / f"elsewhere_{what}").mkdir()
+    counts = folder / f"counts_{what}"
+    script = [TOP / "tools" / "trying" / "docs_test.py"] if what == "documents" else [Path(__file__).resolve(), "--here"]
+    surroundings = {**environment(root), "CMSPROOF_COUNTS": str(counts)}
+    done = subprocess.run([sys.executable, *map(str, script), *words], cwd=elsewhere, env=surroundings, check=False)
+    told = counts.read_text(encoding="utf-8").strip() if counts.exists() else f"{what}: ended with status {done.returncode}"
+    return done.returncode, told
+
+
+def main() -> int:
+    """Installs, runs what was asked for, and says in the last line how it went."""
+    parser = argparse.ArgumentParser(description=__doc__, formatter_class=argparse.RawDescriptionHelpFormatter)
+    parser.add_argument("--root", type=Path)
+    parser.add_argument("--here", action="store_true", help=argparse.SUPPRESS)
+    parser.add_argument("words", nargs="*")
+    given = parser.parse_args()
+    if given.here:
+        return run_tests(given.words)
+    what = [given.words[0]] if given.words else ["tests", "documents"]
+    if not set(what) <= {"tests", "documents"}:
+        parser.error(f"what is {what[0]}?")
+    signal.signal(signal.SIGTERM, lambda *_: sys.exit(143))
+    with contextlib.ExitStack() as stack:
+        folder = Path(stack.enter_context(tempfile.TemporaryDirectory(prefix="cmsproof-installed-")))
+        if is_within(folder, TOP):
+            raise SystemExit(f"on_installed: the folder for temporary files is in the repository: {folder}")
+        # (who runs a test may be nobody, who must get there)
+        folder.chmod(0o755)
+        root = given.root.resolve() if given.root else install(folder / "root")
+        found = [part(one, given.words[1:], root, folder) for one in what]
+    print("on what is installed: " + "; ".join(told for _, told in found))
+    return 1 if any(status for status, _ in found) else 0
+
+
+if __name__ == "__main__":
+    sys.exit(main())

@@ -63,6 +63,13 @@ int statx(int folder, const char *path, int how, unsigned what, void *into) {
     return (int)asked(STATX, folder, (long)path, how, what, (long)into);
 }
 
+/* The text of an error of the system, which no job prints: none. */
+int __xpg_strerror_r(int number, char *into, size_t room) {
+    (void)number;
+    if (room > 0) *into = '\0';
+    return 0;
+}
+
 void *__sysv_signal(int number, void *handler) {
     struct action action = {handler, 0, NULL, 0};
     return asked(SIGACTION, number, (long)&action, 0, 8, 0) < 0 ? (void *)-1 : NULL;

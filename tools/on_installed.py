@@ -175,6 +175,12 @@ def main() -> int:
     what = [given.words[0]] if given.words else ["tests", "documents"]
     if not set(what) <= {"tests", "documents"}:
         parser.error(f"what is {what[0]}?")
+    words = given.words[1:]
+    if what == ["documents"]:
+        # (they are named from here, and read elsewhere)
+        words = [os.path.abspath(word) for word in words]
+        if missing := [word for word in words if not os.path.isfile(word)]:
+            parser.error(f"there is no document {missing[0]}")
     signal.signal(signal.SIGTERM, lambda *_: sys.exit(143))
     with contextlib.ExitStack() as stack:
         folder = Path(stack.enter_context(tempfile.TemporaryDirectory(prefix="cmsproof-installed-")))
@@ -183,7 +189,7 @@ def main() -> int:
         # (who runs a test may be nobody, who must get there)
         folder.chmod(0o755)
         root = given.root.resolve() if given.root else install(folder / "root")
-        found = [part(one, given.words[1:], root, folder) for one in what]
+        found = [part(one, words, root, folder) for one in what]
     print("on what is installed: " + "; ".join(told for _, told in found))
     return 1 if any(status for status, _ in found) else 0
 

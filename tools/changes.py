@@ -32,6 +32,7 @@ CODE = re.compile(
     re.X | re.S,
 )
 BLOCK_MARK = re.compile(r"/\*|\*/")
+STRING = re.compile(r'"(?:[^"\\]|\\.)*"')
 DEFINITION = re.compile(r'"(?:[^"\\]|\\.)*"|(?P<comment>(?<!\S)--(?!\S).*)|(?P<space>\s+)|.')
 
 
@@ -111,12 +112,37 @@ def line_meaning(line):
     return indentation + "".join(parts).rstrip() if "".join(parts).strip() else ""
 
 
+def is_mark(word):
+    """Whether a word is an operator or a bracket, or begins or ends with one, so that no line can begin or end at it."""
+    return not (word[0].isalnum() or word[0] in "_\"'◌")
+
+
+def is_open(line):
+    """Whether more brackets open in a line than close."""
+    rest = STRING.sub("", line)
+    return sum(rest.count(mark) for mark in "([{") > sum(rest.count(mark) for mark in ")]}")
+
+
+def joined(lines):
+    """The lines, each with those behind it that only go on with it: that are indented deeper, and that either stand in a
+    bracket that it opens, or follow or begin with an operator. Where such a line is broken has no meaning."""
+    found = []
+    for line in lines:
+        last = found[-1] if found else ""
+        is_deeper = last and len(line) - len(line.lstrip()) > len(last) - len(last.lstrip())
+        if is_deeper and (is_open(last) or is_mark(line.split()[0]) or is_mark(last.split()[-1][::-1])):
+            found[-1] = f"{last} {line.lstrip()}"
+        else:
+            found.append(line)
+    return found
+
+
 def definition_meaning(text):
-    """Definitions without their comments and empty lines. Their indentation has a meaning, so it is kept. A text in which
-    a comment `{- .. -}` may be is kept whole."""
+    """Definitions without their comments and empty lines. Their indentation has a meaning, so it is kept, but for lines that
+    only go on with the one before. A text in which a comment `{- .. -}` may be is kept whole."""
     if "{-" in text:
         return text
-    return "\n".join(line for line in map(line_meaning, text.split("\n")) if line)
+    return "\n".join(joined(line for line in map(line_meaning, text.split("\n")) if line))
 
 
 def edit_meaning(text):

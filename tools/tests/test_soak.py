@@ -144,6 +144,9 @@ class Meanings(unittest.TestCase):
         (".antt", "a  =  b", "a = b"),
         (".antt", 'a = "\\"" -- b', 'a = "\\""'),
         (".antt", "  -- a\n  -- ---- b\nc", "c"),
+        (".antt", "a : b →\n    c", "a : b → c"),
+        (".antt", "a : (b : c)\n    -- d\n    → e\n  = f", "a : (b : c) → e = f"),
+        (".antt", "use a.{b,\n  c}", "use a.{b, c}"),
         (".edit", "a\nfile: b\nold: c\nnew: d\n", "file: b\nold: c\nnew: d"),
     ]
     OTHER = [
@@ -165,6 +168,10 @@ class Meanings(unittest.TestCase):
         (".antt", 'a = "b -- c"', 'a = "b -- d"'),
         (".antt", 'a = "b  c"', 'a = "b c"'),
         (".antt", "a\n  b", "a\nb"),
+        (".antt", "a →\nb", "a → b"),
+        (".antt", "a = b\n  c = d", "a = b c = d"),
+        (".antt", "a where\n  ◌+◌ : b", "a where ◌+◌ : b"),
+        (".antt", 'a "("\n  b', 'a "(" b'),
         (".antt", "a--b c", "a--b d"),
         (".antt", "a --b", "a --c"),
         (".antt", "{- -- -} a", "{- -- -} b"),
@@ -463,8 +470,9 @@ class Gate(Repository):
         for name in ("Makefile", ".ci/run", "tools/jobs.sh", "tools/proofs.sh"):
             (self.top / name).parent.mkdir(exist_ok=True)
             shutil.copy(TOOLS.parent / name, self.top / name)
-        # in place of what compares dist/ and PROVED with the sources, and of what builds and tries the program
-        self.put({f"tools/{name}": "" for name in ("dist.py", "api.py", "sources.sh", "build.sh", "program_rows.py")})
+        # in place of what compares dist/ and PROVED with the sources, of what builds and tries the program, and of what counts
+        stood_in = ("dist.py", "api.py", "lines.py", "sources.sh", "build.sh", "program_rows.py", "instructions.py")
+        self.put({f"tools/{name}": "" for name in stood_in})
         self.commit("the gate")
         self.soaked()
         low = "crates/low/must-fail/two.edit"

@@ -3,9 +3,10 @@
 
 The words stand in the code: the lines of `//` directly above a clause. A clause without them takes the first sentence of
 the call's `///`. docs/PROVED.md has lists of calls, between `<!-- api: CRATE -->` and `<!-- end -->`, a line for each clause. A
-list has the laws and what a user or an auditor names: the functions that cmsproof_api exports, the methods of VERBS and of traits
-that its types have, the crates of WHOLE and the calls of READS. It has no worked rows, no texts and nothing of LEFT_OUT. A sentence
-that stands at an earlier clause of this name is told once, and so is what two calls say alike but for one phrase.
+list has what a user or an auditor names: the laws of rules and verdicts, the functions that cmsproof_api exports, the methods of VERBS and
+of traits that its types have, the crates of WHOLE and the calls of READS. It has no worked rows, no texts, no laws of the crates of
+BELOW, nothing of LEFT_OUT and no clause of DEVICES; --all prints them. A sentence that stands at an earlier clause of this name is told
+once, and so is what two calls say alike but for one phrase.
 
   --write   writes the lists anew; status 1 if something is left to mend by hand
   --check   says whether they are up to date; status 1 and the command that mends them if not
@@ -15,7 +16,7 @@ that stands at an earlier clause of this name is told once, and so is what two c
 import os.path
 import re
 import sys
-from dataclasses import dataclass, field
+from dataclasses import dataclass, field, replace
 from pathlib import Path
 
 TOP = Path(__file__).resolve().parent.parent
@@ -26,6 +27,19 @@ STALE = "the list of "
 DOOR = "cmsproof_api"
 WHOLE = ("check_names", "cli_commands", "cli_files")
 VERBS = ("read", "write", "make", "ask")  # what the methods are called that read, write and make whole values, and that ask
+# the crates whose laws are about types and readings: the document says what they are about
+BELOW = (
+    "der_core",
+    "der_grammar",
+    "digests",
+    "der_time",
+    "cert_types",
+    "tsp_types",
+    "ess_types",
+    "cms_types",
+    "cms_stream_laws",
+)
+DEVICES = ("telling",)  # the clauses that say of a device what the document says of all
 READS = ("Certificate::read", "SigningCert::read_v1", "SigningCert::read_v2", "cmsproof_check", "cmsproof_check_token")
 # devices, verifiers for tests, parts of other types, calls that judge nothing, and those of cli_commands that cli_files makes
 LEFT_OUT = ("Sink", "Source", "ExpectingVerifier", "FusedVerifier", "Int", "Oid", "Signers", "print")
@@ -272,7 +286,8 @@ def is_told(call, names):
         return False
     verb = call.demanded or call.path.rpartition("::")[2] in VERBS
     exported = call.owner in known and verb if call.owner else call.path in known
-    return call.is_law or call.crate in WHOLE or call.path in READS or exported
+    law = call.is_law and call.crate not in BELOW
+    return law or call.crate in WHOLE or call.path in READS or exported
 
 
 def names_of(calls):
@@ -345,8 +360,10 @@ def listed(calls, told):
 
 
 def told_of(top, crate, names):
-    """The calls of a crate whose words the document has."""
-    return [call for call in public_calls(top, crate) if is_told(call, names)]
+    """The calls of a crate whose words the document has, with the clauses that it tells."""
+    told = [call for call in public_calls(top, crate) if is_told(call, names)]
+    calls = [replace(call, clauses=[clause for clause in call.clauses if clause.name not in DEVICES]) for call in told]
+    return [call for call in calls if call.clauses]
 
 
 def lists_of(top, text):

@@ -7,6 +7,7 @@ import sys
 import tempfile
 import unittest
 from pathlib import Path
+from unittest import mock
 
 TOP = Path(__file__).resolve().parent.parent.parent
 sys.path.insert(0, str(TOP / "tools"))
@@ -218,6 +219,19 @@ class Lists(unittest.TestCase):
             with self.subTest(case):
                 self.assertEqual(self.told(text=text), paths)
 
+    def test_what_is_below(self):
+        self.put("crates/cups/src/lib.rt", ROOT.replace("open;", "tea_laws;"))
+        holds = "/// It holds.\npub fn tea_holds() -> u8\n    ensures { x }\n" + BODY
+        self.assertEqual(self.told("tea_laws.rt", holds), ["tea_holds"])
+        with mock.patch.object(api, "BELOW", ("cups",)):
+            self.assertEqual(self.told("tea_laws.rt", holds), [])
+
+    def test_clauses_of_devices(self):
+        text = "/// Fills it.\npub fn fill()\n    ensures telling { x }\n    // It is full.\n    ensures full { x }\n" + BODY
+        self.assertEqual(self.lines(text=text), ["- `fill`:", "  - `telling`: Fills it.", "  - `full`: It is full."])
+        (call,) = api.told_of(self.top, "cups", api.exported(self.top))
+        self.assertEqual([clause.name for clause in call.clauses], ["full"])
+
     def test_not_of_the_door(self):
         spill = "/// Spills it.\npub fn spill() -> u8\n    ensures { x }\n" + BODY
         self.assertEqual((self.told("open.rt", spill), self.lines("open.rt", spill)), ([], ["- `spill`: Spills it."]))
@@ -305,7 +319,9 @@ class Lists(unittest.TestCase):
 
     def test_what_the_tool_names_is_there(self):
         calls = {crate: api.public_calls(TOP, crate) for crate in api.crates_of(TOP)}
-        self.assertEqual([crate for crate in api.WHOLE if not calls.get(crate)], [])
+        self.assertEqual([crate for crate in (*api.WHOLE, *api.BELOW) if not calls.get(crate)], [])
+        names = {clause.name for found in calls.values() for call in found for clause in call.clauses}
+        self.assertEqual(set(api.DEVICES) - names, set())
         paths = {call.path for found in calls.values() for call in found}
         self.assertEqual([path for path in api.READS if path not in paths], [])
         owners = {call.owner or call.path for found in calls.values() for call in found}

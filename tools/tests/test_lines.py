@@ -1,0 +1,95 @@
+"""Tests of tools/lines.py on lines that are made up: where they are broken, that a second run leaves them, what is not
+broken, and that a file whose tokens might change, and a line that stays too wide, are told."""
+import contextlib
+import io
+import sys
+import tempfile
+import unittest
+from pathlib import Path
+
+TOP = Path(__file__).resolve().parent.parent.parent
+sys.path.insert(0, str(TOP / "tools"))
+import lines  # noqa: E402
+
+A, B, C = "a" * 50, "b" * 50, "c" * 50
+# the line, and the lines that it becomes: the same where it stays
+BROKEN = (
+    ("narrow enough", f"f : {A} → {B}", [f"f : {A} → {B}"]),
+    ("an arrow", f"f : {A} → {B} → {C}", [f"f : {A} → {B}", f"    → {C}"]),
+    ("deeper by four", f"  f : {A} → {B} → {C}", [f"  f : {A} → {B}", f"      → {C}"]),
+    ("the outer operator", f"f : {A} ≡ g ({B} → {C})", [f"f : {A}", f"    ≡ g ({B} → {C})"]),
+    ("before the operator", f"f = {A} ++ {B} ∙ {C}", [f"f = {A} ++ {B}", f"    ∙ {C}"]),
+    ("behind a let", f"    let x = {A} in {B} {C}", [f"    let x = {A} in", f"        {B} {C}"]),
+    ("a let that fits below", f"f {A} = let x = {B} in {C[:20]}", [f"f {A} =", f"    let x = {B} in {C[:20]}"]),
+    ("not in a binder", f"f (λ {A} {B} y. {C})", [f"f (λ {A} {B} y.", f"    {C})"]),
+    ("not in a text", f'f = g "{A} {B} {C}"', ["f =", f'    g "{A} {B} {C}"']),
+    ("not in a comment behind", f"f = g -- {A} {B} {C}", ["f =", f"    g -- {A} {B} {C}"]),
+    ("names", f"use M.{{{A}, {B}, v.{{w, x, y, z}}, v}}", [f"use M.{{{A}, {B}}}", "use M.{v.{w, x, y, z}, v}"]),
+    ("a module alone", f"use {A}{B}{C}", [f"use {A}{B}{C}"]),
+    ("a comment", f"-- {A} {B} {C} x", [f"-- {A} {B}", f"-- {C} x"]),
+    ("a comment that goes on", f"-- {A} {B} {C}\n-- and so on", [f"-- {A} {B}", f"-- {C} and so on"]),
+    ("a comment that ends", f"-- {A} {B} {C}\n-- Then", [f"-- {A} {B}", f"-- {C}", "-- Then"]),
+)
+# a line of a .rt file, and what it becomes
+OF_CODE = (
+    ("code", f"let x = {A} + {B} + {C};", [f"let x = {A} + {B} + {C};"]),
+    ("a comment", f"    // {A} {B} {C}", [f"    // {A} {B}", f"    // {C}"]),
+    ("what a macro may read", f"/// {A} {B} {C}", [f"/// {A} {B} {C}"]),
+)
+TOKENS = (
+    ("a word less", "f = a b", "f = a", False),
+    ("words joined", "f = a b", "f = ab", False),
+    ("words on two lines", "f = a b", "f = a\n  b", True),
+    ("a text on two lines", 'f = "a b"', 'f = "a\nb"', False),
+    ("a comment that ends in code", "f = a -- b c", "f = a -- b\nc", False),
+    ("a name less", "use M.{a, b}", "use M.{a}\nuse M.{c}", False),
+    ("names of another module", "use M.{a, b}", "use M.{a}\nuse N.{b}", False),
+    ("names on two lines", "use M.{a, b}", "use M.{a}\nuse M.{b}", True),
+    ("a comment that begins before code", "-- a\nf = b", "-- a f = b", False),
+)
+
+
+class Lines(unittest.TestCase):
+    def test_broken(self):
+        for name, text, wanted in BROKEN:
+            with self.subTest(name):
+                self.assertEqual(lines.narrowed(text, True).split("\n"), wanted)
+                self.assertEqual(lines.narrowed("\n".join(wanted), True).split("\n"), wanted)
+                self.assertEqual(lines.kept(text), lines.kept("\n".join(wanted)))
+        for name, text, wanted in OF_CODE:
+            with self.subTest(name):
+                self.assertEqual(lines.narrowed(text, False).split("\n"), wanted)
+
+    def test_tokens(self):
+        for name, text, other, same in TOKENS:
+            with self.subTest(name):
+                self.assertEqual(lines.kept(text) == lines.kept(other), same)
+
+    def run_on(self, text, words):
+        """What is said of a crate with one file of this text, the status, and the text afterwards."""
+        with tempfile.TemporaryDirectory() as folder:
+            path = Path(folder, "crates", "cups", "proofs", "Cups.antt")
+            path.parent.mkdir(parents=True)
+            path.write_text(text, encoding="utf-8")
+            said, lines.shutil.which = io.StringIO(), lambda _name: None
+            with contextlib.redirect_stdout(said):
+                status = lines.main(words, Path(folder))
+            return status, said.getvalue(), path.read_text(encoding="utf-8")
+
+    def test_said(self):
+        wide, narrow, text = f"f : {A} → {B} → {C}\n", f"f : {A} → {B}\n    → {C}\n", f'    g "{A} {B} {C}"\n'
+        self.assertEqual(self.run_on(wide, []), (0, "", narrow))
+        self.assertEqual(self.run_on(narrow, ["--check", "cups"]), (0, "", narrow))
+        for name, begun, words, says in (
+            ("--check writes nothing", wide, ["--check"], "Cups.antt:1: 160 columns\n"),
+            ("a text", text, [], "Cups.antt:1: 160 columns\n"),
+            ("a comment within a line", "{- x -}\n" + wide, [], "Cups.antt: it is left as it was"),
+        ):
+            with self.subTest(name):
+                status, said, kept = self.run_on(begun, words)
+                self.assertEqual((status, kept), (1, begun))
+                self.assertIn(says, said)
+
+
+if __name__ == "__main__":
+    unittest.main()

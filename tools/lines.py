@@ -5,8 +5,8 @@ A line of an .antt file is broken where it has a space, outermost first, before 
 a text. A comment of whole lines goes on in the next line, a long list of a `use` line in a second `use` line of that
 module. Nothing is joined, and no token changes: a file whose words would be others is left as it was, and named. Then
 `rt fmt` lays out the crate, where there is an `rt`: it sets the indentation, and puts the parts of a tuple, a record or
-of cases that are broken on lines of their own. In a .rt file comments alone are broken, and none that begins `///`,
-which a macro may read.
+of cases that are broken on lines of their own. In a .rt file comments, clauses and `ghost use` lines alone are broken,
+and no `///` where clap reads it.
 
 The status is 1 if a line stays too wide; it is named. So are files that were left.
 """
@@ -23,7 +23,8 @@ PASSES = 8  # rt fmt may set a line further in than was planned: then it is brok
 
 OPENING, CLOSING = "([{⟨⟦", ")]}⟩⟧"
 TOKEN = re.compile(r'"(?:\\.|[^"\\])*"|[()\[\]{}⟨⟩⟦⟧,;"]|[^\s()\[\]{}⟨⟩⟦⟧,;"]+')
-USE = re.compile(r"((?:pub |unfoldable )*use [^{}]*\{)(.*)\}$")
+USE = re.compile(r"((?:pub |unfoldable |ghost )*use [\w.]+\{)(.*)(\};?)$")
+CLAUSE = re.compile(r"\s*(ensures|requires|ghost \w+ =)[^{]*\{ ")
 COMMENT = re.compile(r"\s*(--|///|//!|//)( +|$)")
 # What a break costs by what stands behind it or before it. DEPTH is added for each bracket around it, and BRACKET and
 # PART for a bracket whose parts rt fmt then puts on lines of their own.
@@ -110,10 +111,10 @@ def is_operator(token):
     return not (token[0].isalnum() or token[0] in '_"«?.' or token in OPERANDS or "◌" in token)
 
 
-def broken(text):
-    """The line as lines that are narrow enough, at the places that cost least."""
+def broken(text, head=0):
+    """The line as lines that are narrow enough, at the places behind its head that cost least."""
     further = " " * (len(text) - len(text.lstrip()) + DEEPER)
-    places = [(0, 0), *Line(text).places(), (len(text), 0)]
+    places = [(0, 0), *(place for place in Line(text).places() if place[0] > head), (len(text), 0)]
     best = [(0, 0)]  # for each place the least cost of all up to it, and the place before it
     for here, (end, cost) in enumerate(places[1:], 1):
         ways = []
@@ -137,13 +138,13 @@ def names_of(listed):
 
 def used(line):
     """A `use` line as several of the same module."""
-    begins, listed = USE.match(line).groups()
+    begins, listed, ends = USE.match(line).groups()
     lines = [[]]
     for name in names_of(listed):
-        if lines[-1] and len(begins + ", ".join([*lines[-1], name]) + "}") > WIDTH:
+        if lines[-1] and len(begins + ", ".join([*lines[-1], name]) + ends) > WIDTH:
             lines.append([])
         lines[-1].append(name)
-    return [begins + ", ".join(names) + "}" for names in lines]
+    return [begins + ", ".join(names) + ends for names in lines]
 
 
 def commented(lines, at):
@@ -153,22 +154,23 @@ def commented(lines, at):
     if cut < 0:
         return
     words, lines[at] = lines[at][cut + 1 :], lines[at][:cut].rstrip()
-    following = lines[at + 1] if at + 1 < len(lines) else ""
-    if following.startswith(begins) and following[len(begins) : len(begins) + 1].islower():
-        lines[at + 1] = begins + words + " " + following[len(begins) :]
-    else:
+    begun, _, following = [*lines, ""][at + 1].partition(begins)
+    if begun or not following or following[0] in "-|*# " or words[-1] in ".:" and not following[0].islower():
         lines.insert(at + 1, begins + words)
+    else:
+        lines[at + 1] = begins + words + " " + following
 
 
 def narrowed(text, is_antt):
     """The text of a file with its wide lines broken."""
     lines, at = text.split("\n"), 0
     while at < len(lines):
-        line, comment = lines[at], COMMENT.match(lines[at])
-        if len(line) > WIDTH and comment and comment.group(1) != "///":
+        line = lines[at]
+        comment, use, clause = COMMENT.match(line), USE.match(line), CLAUSE.match(line)
+        if len(line) > WIDTH and comment and not (comment.group(1) == "///" and "clap" in text):
             commented(lines, at)
-        elif len(line) > WIDTH and is_antt and not comment:
-            lines[at : at + 1] = used(line) if USE.match(line) else broken(line)
+        elif len(line) > WIDTH and not comment and (is_antt or use or clause):
+            lines[at : at + 1] = used(line) if use else broken(line, clause.end() if clause else 0)
         at += 1
     return "\n".join(lines)
 
@@ -182,7 +184,7 @@ def kept(text):
         if begins != mark:
             words.append("\n")
         if use:
-            words += [use.group(1) + name + "}" for name in names_of(use.group(2))]
+            words += [use.group(1) + name + use.group(3) for name in names_of(use.group(2))]
         else:
             words += line.split()[1:] if begins and begins == mark else line.split()
         mark = begins

@@ -28,13 +28,18 @@ BROKEN = (
     ("a module alone", f"use {A}{B}{C}", [f"use {A}{B}{C}"]),
     ("a comment", f"-- {A} {B} {C} x", [f"-- {A} {B}", f"-- {C} x"]),
     ("a comment that goes on", f"-- {A} {B} {C}\n-- and so on", [f"-- {A} {B}", f"-- {C} and so on"]),
-    ("a comment that ends", f"-- {A} {B} {C}\n-- Then", [f"-- {A} {B}", f"-- {C}", "-- Then"]),
+    ("a comment of a name", f"-- {A} {B} {C}\n-- `x`.", [f"-- {A} {B}", f"-- {C} `x`."]),
+    ("a comment that ends", f"-- {A} {B} {C}.\n-- Then", [f"-- {A} {B}", f"-- {C}.", "-- Then"]),
+    ("a comment of parts", f"-- {A} {B} {C}\n-- - Then", [f"-- {A} {B}", f"-- {C}", "-- - Then"]),
 )
 # a line of a .rt file, and what it becomes
 OF_CODE = (
     ("code", f"let x = {A} + {B} + {C};", [f"let x = {A} + {B} + {C};"]),
     ("a comment", f"    // {A} {B} {C}", [f"    // {A} {B}", f"    // {C}"]),
-    ("what a macro may read", f"/// {A} {B} {C}", [f"/// {A} {B} {C}"]),
+    ("what a user reads", f"    /// {A} {B} {C}", [f"    /// {A} {B}", f"    /// {C}"]),
+    ("what clap reads", f"use clap::Parser;\n/// {A} {B} {C}", ["use clap::Parser;", f"/// {A} {B} {C}"]),
+    ("a clause", f"    ensures a {{ {A} {B} {C} }}", [f"    ensures a {{ {A} {B}", f"        {C} }}"]),
+    ("names of clauses", f"ghost use M.{{{A}, {B}, {C}}};", [f"ghost use M.{{{A}, {B}}};", f"ghost use M.{{{C}}};"]),
 )
 TOKENS = (
     ("a word less", "f = a b", "f = a", False),

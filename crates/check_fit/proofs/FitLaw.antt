@@ -1,5 +1,6 @@
 -- Content and attributes belong together exactly when no rule fails.
-use Rattle.std.proofs.Common.{◌≡◌, ℕ, ◌<◌, ◌^◌, nat_lt, Bool, true, false, cond, List, length, Option, Some, None, Result, Ok, Err, refl, sym, ap, subst, ◌∙◌}
+use Rattle.std.proofs.Common.{◌≡◌, ℕ, ◌<◌, ◌^◌, nat_lt, Bool, true, false, cond, List, length, Option, Some, None}
+use Rattle.std.proofs.Common.{Result, Ok, Err, refl, sym, ap, subst, ◌∙◌}
 use Rattle.std.proofs.Common.{arith}
 use Rattle.std.specs.Prelude.{◌↔◌, IsOk, MatchResult}
 use Rattle.std.specs.Option.{ok_or}
@@ -22,7 +23,8 @@ use Rattle.check_fit.specs.declared.policy.Policy.{Policy}
 use Rattle.check_fit.specs.declared.rules.SignerRule.{SignerRule}
 use Rattle.check_fit.specs.declared.rules.SignerRule.TheVariants as rule
 use Rattle.check_fit.specs.Attributes.{single_value, is_element_of}
-use Rattle.check_fit.specs.Fitting.{Fits, FailsFirst, Wants, is_allowed, allowed, content_type_fits, stated_digest, digest_fits, signer_claim, signer_answer}
+use Rattle.check_fit.specs.Fitting.{Fits, FailsFirst, Wants, is_allowed, allowed, content_type_fits, stated_digest}
+use Rattle.check_fit.specs.Fitting.{digest_fits, signer_claim, signer_answer}
 use Rattle.check_fit.specs.Fitting.{id_content_type, id_message_digest}
 use Rattle.der_core.proofs.SameOctets.{same_again}
 
@@ -30,14 +32,16 @@ ok_or_ok : {A : Type 0} (o : Option A) (e : SignerRule) (x : A) → ok_or o e �
 ok_or_ok None e x h = absurd cc
 ok_or_ok (Some y) e x h = cc
 
-guard_ok : {A : Type 0} (b : Bool) (r : Result A SignerRule) (e : SignerRule) (y : A) → cond b r (Err e) ≡ Ok y → (b ≡ true) × (r ≡ Ok y)
+guard_ok : {A : Type 0} (b : Bool) (r : Result A SignerRule) (e : SignerRule) (y : A) → cond b r (Err e) ≡ Ok y
+    → (b ≡ true) × (r ≡ Ok y)
 guard_ok true r e y h = (refl, h)
 guard_ok false r e y h = absurd cc
 
 -- ---- elements
 
 pub element_is : (t : ℕ) (b x : List ℕ) → is_element_of t b x ≡ true → (length b < 2 ^ 32) × (x ≡ el t b)
-element_is t b x h = let p = and_true (nat_lt (length b) (2 ^ 32)) (is_same x (el t b)) h in (ltb-true (length b) (2 ^ 32) p.0, same x (el t b) p.1)
+element_is t b x h = let p = and_true (nat_lt (length b) (2 ^ 32)) (is_same x (el t b)) h in
+    (ltb-true (length b) (2 ^ 32) p.0, same x (el t b) p.1)
 
 pub element_again : (t : ℕ) (b : List ℕ) → length b < 2 ^ 32 → is_element_of t b (el t b) ≡ true
 element_again t b lt = rw (lt-ltb (length b) (2 ^ 32) lt) (same_again (el t b))
@@ -67,29 +71,35 @@ abbrev some_alg : Alg → Option Alg
 some_alg alg = Some alg
 
 -- an algorithm that is allowed is the one that was named
-allowed_is : (policy : Policy) (named : Option Alg) (alg : Alg) → allowed policy named ≡ Some alg → (named ≡ Some alg) × (is_allowed policy alg ≡ true)
+allowed_is : (policy : Policy) (named : Option Alg) (alg : Alg) → allowed policy named ≡ Some alg
+    → (named ≡ Some alg) × (is_allowed policy alg ≡ true)
 allowed_is policy None alg h = absurd cc
 allowed_is policy (Some a) alg h = go (is_allowed policy a) refl h
   where
-    go : (b : Bool) → is_allowed policy a ≡ b → cond b (Some a) None ≡ Some alg → (Some a ≡ Some alg) × (is_allowed policy alg ≡ true)
+    go : (b : Bool) → is_allowed policy a ≡ b → cond b (Some a) None ≡ Some alg
+        → (Some a ≡ Some alg) × (is_allowed policy alg ≡ true)
     go true t e = let q : a ≡ alg = cc in (e, subst (λ (x : Alg). is_allowed policy x ≡ true) q t)
     go false t e = absurd cc
 
-type_says : (attributes : List AttributeValue) (econtent_type : List ℕ) (u : Unit {0}) → content_type_fits attributes econtent_type ≡ Ok u
+type_says : (attributes : List AttributeValue) (econtent_type : List ℕ) (u : Unit {0})
+    → content_type_fits attributes econtent_type ≡ Ok u
     → (single_value attributes id_content_type ≡ Some (el 0x06 econtent_type)) × (length econtent_type < 2 ^ 32)
 unfolding content_type_fits
 type_says attributes econtent_type u h =
     let x = bind_ok (ok_or (single_value attributes id_content_type) rule.ContentTypeAttr) (λ x. cond (has_tag 0x06 x)
     (cond (is_element_of 0x06 econtent_type x) (Ok tt) (Err rule.ContentTypeDiffers)) (Err rule.ContentTypeAttr)) u h in
-    let a = guard_ok (has_tag 0x06 x.0) (cond (is_element_of 0x06 econtent_type x.0) (Ok tt) (Err rule.ContentTypeDiffers)) rule.ContentTypeAttr u x.2 in
+    let a = guard_ok (has_tag 0x06 x.0) (cond (is_element_of 0x06 econtent_type x.0) (Ok tt)
+    (Err rule.ContentTypeDiffers)) rule.ContentTypeAttr u x.2 in
     let b = guard_ok (is_element_of 0x06 econtent_type x.0) (Ok tt) rule.ContentTypeDiffers u a.1 in
     let e = element_is 0x06 econtent_type x.0 b.0 in
     (rw (← e.1) (ok_or_ok (single_value attributes id_content_type) rule.ContentTypeAttr x.0 x.1), e.0)
 
-digest_says : (attributes : List AttributeValue) (y : List ℕ) → stated_digest attributes ≡ Ok y → single_value attributes id_message_digest ≡ Some y
+digest_says : (attributes : List AttributeValue) (y : List ℕ) → stated_digest attributes ≡ Ok y
+    → single_value attributes id_message_digest ≡ Some y
 unfolding stated_digest
 digest_says attributes y h =
-    let x = bind_ok (ok_or (single_value attributes id_message_digest) rule.DigestAttr) (λ x. cond (has_tag 0x04 x) (Ok x) (Err rule.DigestAttr)) y h in
+    let x = bind_ok (ok_or (single_value attributes id_message_digest) rule.DigestAttr)
+    (λ x. cond (has_tag 0x04 x) (Ok x) (Err rule.DigestAttr)) y h in
     let a = guard_ok (has_tag 0x04 x.0) (Ok x.0) rule.DigestAttr y x.2 in
     let q : Ok x.0 ≡ Ok y = a.1 in
     let e : x.0 ≡ y = cc in
@@ -100,13 +110,15 @@ pub claim_says : (policy : Policy) (econtent_type : List ℕ) (s : SignerValue) 
     → signer_claim policy econtent_type s ≡ Ok (y, alg) → Claims policy econtent_type s y alg
 unfolding signer_claim
 claim_says policy econtent_type s y alg h =
-    let a = bind_ok (ok_or s.signed_attributes rule.NoSignedAttrs) (λ attributes. content_type_fits attributes econtent_type
+    let a =
+    bind_ok (ok_or s.signed_attributes rule.NoSignedAttrs) (λ attributes. content_type_fits attributes econtent_type
     >>= λ u. stated_digest attributes >>= λ y. ok_or named rule.DigestAlgorithm >>= λ alg. Ok (y, alg)) (y, alg) h in
     let t = bind_ok (content_type_fits a.0 econtent_type)
     (λ u. stated_digest a.0 >>= λ y. ok_or named rule.DigestAlgorithm >>= λ alg. Ok (y, alg)) (y, alg) a.2 in
     let d = bind_ok (stated_digest a.0) (λ y. ok_or named rule.DigestAlgorithm >>= λ alg. Ok (y, alg)) (y, alg) t.2 in
     let g = bind_ok (ok_or named rule.DigestAlgorithm) (λ alg. Ok (d.0, alg)) (y, alg) d.2 in
-    joined a.0 d.0 g.0 (ok_or_ok s.signed_attributes rule.NoSignedAttrs a.0 a.1) (type_says a.0 econtent_type t.0 t.1) (digest_says a.0 d.0 d.1)
+    joined a.0 d.0 g.0 (ok_or_ok s.signed_attributes rule.NoSignedAttrs a.0 a.1) (type_says a.0 econtent_type t.0 t.1)
+    (digest_says a.0 d.0 d.1)
     (ok_or_ok named rule.DigestAlgorithm g.0 g.1) g.2
   where
     named : Option Alg
@@ -114,11 +126,13 @@ claim_says policy econtent_type s y alg h =
 
     joined : (attributes : List AttributeValue) (y' : List ℕ) (alg' : Alg) → s.signed_attributes ≡ Some attributes
         → (single_value attributes id_content_type ≡ Some (el 0x06 econtent_type)) × (length econtent_type < 2 ^ 32)
-        → single_value attributes id_message_digest ≡ Some y' → allowed policy (alg_named s.digest_algorithm) ≡ Some alg'
+        → single_value attributes id_message_digest ≡ Some y'
+        → allowed policy (alg_named s.digest_algorithm) ≡ Some alg'
         → stating (y', alg') ≡ stating (y, alg) → Claims policy econtent_type s y alg
     joined attributes y' alg' present type stated allows same =
         let pair : (y', alg') ≡ (y, alg) = same_pair (y', alg') (y, alg) same in
-        let names = allowed_is policy (alg_named s.digest_algorithm) alg (allows ∙ ap (λ (p : List ℕ × Alg). some_alg p.1) pair) in
+        let names = allowed_is policy (alg_named s.digest_algorithm) alg
+        (allows ∙ ap (λ (p : List ℕ × Alg). some_alg p.1) pair) in
         record {
           attributes = attributes;
           present = present;
@@ -130,11 +144,19 @@ claim_says policy econtent_type s y alg h =
         }
 
 -- if they belong together, none of the rules S1 to S5 fails
-pub claim_from : (policy : Policy) (content econtent_type : List ℕ) (s : SignerValue) → (f : Fits policy content econtent_type s)
+pub claim_from : (policy : Policy) (content econtent_type : List ℕ) (s : SignerValue)
+    → (f : Fits policy content econtent_type s)
     → signer_claim policy econtent_type s ≡ Ok (el 0x04 (digest_of f.alg content), f.alg)
 unfolding signer_claim content_type_fits stated_digest
 claim_from policy content econtent_type s f =
-    rw (f.present, f.content_type, element_again 0x06 econtent_type f.size, f.digest, named_is s.digest_algorithm f.alg f.named, f.allows) refl
+    rw (
+      f.present,
+      f.content_type,
+      element_again 0x06 econtent_type f.size,
+      f.digest,
+      named_is s.digest_algorithm f.alg f.named,
+      f.allows,
+    ) refl
 
 -- ---- the result
 
@@ -143,13 +165,16 @@ pub small : (alg : Alg) (content : List ℕ) → length (digest_of alg content) 
 small alg content = omega (arith, digest_length alg content, length_most alg)
 
 -- if they belong together, none of S1 to S6 fails
-pub fit_from : (policy : Policy) (content econtent_type : List ℕ) (s : SignerValue) → Fits policy content econtent_type s
+pub fit_from : (policy : Policy) (content econtent_type : List ℕ) (s : SignerValue)
+    → Fits policy content econtent_type s
     → signer_answer policy content econtent_type s ≡ Ok tt
 fit_from policy content econtent_type s f =
-    rw (claim_from policy content econtent_type s f, element_again 0x04 (digest_of f.alg content) (small f.alg content)) refl
+    rw (claim_from policy content econtent_type s f, element_again 0x04 (digest_of f.alg content) (small f.alg content))
+    refl
 
 -- if none fails, they belong together
-pub fit_is : (policy : Policy) (content econtent_type : List ℕ) (s : SignerValue) (u : Unit {0}) → signer_answer policy content econtent_type s ≡ Ok u
+pub fit_is : (policy : Policy) (content econtent_type : List ℕ) (s : SignerValue) (u : Unit {0})
+    → signer_answer policy content econtent_type s ≡ Ok u
     → Fits policy content econtent_type s
 fit_is policy content econtent_type s u e =
     let a = bind_ok (signer_claim policy econtent_type s) (λ c. digest_fits (digest_of c.1 content) c.0) u e in
@@ -167,14 +192,18 @@ fit_is policy content econtent_type s u e =
     }
 
 -- so a rule fails first only if they don't
-pub fits_not_fails : (policy : Policy) (content econtent_type : List ℕ) (s : SignerValue) (failed : SignerRule) → Fits policy content econtent_type s
+pub fits_not_fails : (policy : Policy) (content econtent_type : List ℕ) (s : SignerValue) (failed : SignerRule)
+    → Fits policy content econtent_type s
     → FailsFirst policy content econtent_type s failed → ⊥
-fits_not_fails policy content econtent_type s failed f h = let z = sym (fit_from policy content econtent_type s f) ∙ h in cc
+fits_not_fails policy content econtent_type s failed f h =
+    let z = sym (fit_from policy content econtent_type s f) ∙ h in cc
 
 -- a result that follows the order is good exactly when they belong together
-pub exactly_fits : (policy : Policy) (content econtent_type : List ℕ) (s : SignerValue) (r : Result (Unit {0}) SignerRule)
+pub exactly_fits :
+    (policy : Policy) (content econtent_type : List ℕ) (s : SignerValue) (r : Result (Unit {0}) SignerRule)
     → r ≡ signer_answer policy content econtent_type s → IsOk r ↔ Fits policy content econtent_type s
-exactly_fits policy content econtent_type s (Ok u) e = ((λ good. fit_is policy content econtent_type s u (sym e)), (λ fits. refl))
+exactly_fits policy content econtent_type s (Ok u) e =
+    ((λ good. fit_is policy content econtent_type s u (sym e)), (λ fits. refl))
 exactly_fits policy content econtent_type s (Err failed) e =
     ((λ good. absurd cc), (λ fits. absurd (fits_not_fails policy content econtent_type s failed fits (sym e))))
 
@@ -188,4 +217,5 @@ tells_fit policy content econtent_type s (Err failed) e = sym e
 -- a signer that none of the rules S1 to S5 refuses wants the algorithm
 pub claim_wants : (policy : Policy) (econtent_type : List ℕ) (s : SignerValue) (y : List ℕ) (alg : Alg)
     → signer_claim policy econtent_type s ≡ Ok (y, alg) → Wants policy s alg
-claim_wants policy econtent_type s y alg h = let c = claim_says policy econtent_type s y alg h in rw (named_is s.digest_algorithm alg c.named, c.allows) refl
+claim_wants policy econtent_type s y alg h =
+    let c = claim_says policy econtent_type s y alg h in rw (named_is s.digest_algorithm alg c.named, c.allows) refl

@@ -1,5 +1,6 @@
 -- The worked rows of signers that fit and of signers that don't.
-use Rattle.std.proofs.Common.{◌≡◌, ◌≢◌, ℕ, ◌<◌, ◌^◌, Bool, true, false, cond, List, [], ◌∷◌, ◌++◌, length, get_or, Option, Some, Result, Ok, Err, refl, sym, ap}
+use Rattle.std.proofs.Common.{◌≡◌, ◌≢◌, ℕ, ◌<◌, ◌^◌, Bool, true, false, cond, List, [], ◌∷◌, ◌++◌, length, get_or}
+use Rattle.std.proofs.Common.{Option, Some, Result, Ok, Err, refl, sym, ap}
 use Rattle.std.proofs.Common.{◌∙◌, lit<, arith}
 use Rattle.der_core.specs.Element.{el, len}
 use Rattle.der_core.specs.Hex.{hex}
@@ -14,7 +15,8 @@ use Rattle.check_fit.specs.declared.rules.SignerRule.{SignerRule}
 use Rattle.check_fit.specs.declared.rules.SignerRule.TheVariants as rule
 use Rattle.check_fit.specs.Attributes.{is_element_of}
 use Rattle.check_fit.specs.Fitting.{FailsFirst, content_type_fits, stated_digest, signer_claim}
-use Rattle.check_fit.specs.FittingRows.{strict, id_data, id_signed_data, of_data, signing_time, content_type, digest_by, message_digest, by_sha256, abc_digest}
+use Rattle.check_fit.specs.FittingRows.{strict, id_data, id_signed_data, of_data, signing_time, content_type, digest_by}
+use Rattle.check_fit.specs.FittingRows.{message_digest, by_sha256, abc_digest}
 use Rattle.check_fit.specs.FittingRows.{abc_digest_512_256, FittingRows, Fails, UnfitRows, AbcRows}
 use Rattle.check_fit.proofs.FitLaw.{element_is, fits_not_fails}
 
@@ -84,11 +86,13 @@ fitting_rows content = record {
 
 -- ---- signers that don't fit
 
-fails : (policy : Policy) (content : List ℕ) (s : SignerValue) (e : SignerRule) → FailsFirst policy content id_data s e → Fails policy content s e
+fails : (policy : Policy) (content : List ℕ) (s : SignerValue) (e : SignerRule) → FailsFirst policy content id_data s e
+    → Fails policy content s e
 fails policy content s e is = (is, (λ fits. fits_not_fails policy content id_data s e fits is))
 
 -- one of S1 to S5 fails
-refused : (policy : Policy) (content : List ℕ) (s : SignerValue) (e : SignerRule) → signer_claim policy id_data s ≡ Err e → Fails policy content s e
+refused : (policy : Policy) (content : List ℕ) (s : SignerValue) (e : SignerRule)
+    → signer_claim policy id_data s ≡ Err e → Fails policy content s e
 refused policy content s e is = fails policy content s e (rw is refl)
 
 -- S6 fails
@@ -111,8 +115,10 @@ other_digest content digest small differs = go (is_element_of 0x04 (digest_of Sh
     small' : length (digest_of Sha256 content) < 2 ^ 32
     small' = omega (arith, digest_length Sha256 content)
 
-    go : (b : Bool) → is_element_of 0x04 (digest_of Sha256 content) (el 0x04 digest) ≡ b → Fails strict content s rule.DigestDiffers
-    go true e = absurd (differs (el_inside digest (digest_of Sha256 content) small small' (element_is 0x04 (digest_of Sha256 content) (el 0x04 digest) e).1))
+    go : (b : Bool) → is_element_of 0x04 (digest_of Sha256 content) (el 0x04 digest) ≡ b
+        → Fails strict content s rule.DigestDiffers
+    go true e = absurd (differs (el_inside digest (digest_of Sha256 content) small small'
+        (element_is 0x04 (digest_of Sha256 content) (el 0x04 digest) e).1))
     go false e = fails strict content s rule.DigestDiffers (ap answer e)
 
 pub unfit_rows : (content digest : List ℕ) → UnfitRows content digest

@@ -1,5 +1,6 @@
 -- What was read of no more than so many octets, and is less, is all.
-use Rattle.std.proofs.Common.{◌≡◌, ◌<◌, ◌++◌, ℕ, List, [], Option, Some, None, IfSome, length, take, min, option_map, arith, refl, ◌∙◌}
+use Rattle.std.proofs.Common.{◌≡◌, ◌<◌, ◌++◌, ℕ, List, [], Option, Some, None, IfSome, length, take, min, option_map}
+use Rattle.std.proofs.Common.{arith, refl, ◌∙◌}
 use Rattle.std.proofs.lemmas.List.{length-take, take_all}
 
 pub taken_whole : (limit : ℕ) (known : Option (List ℕ)) (before items : List ℕ) → before ≡ []

@@ -1,5 +1,6 @@
 -- Signers that fit and sign alike state one digest of their contents.
-use Rattle.std.proofs.Common.{◌≡◌, ℕ, zero, suc, List, [], ◌∷◌, Option, Some, None, refl, sym, ap, subst, ◌∙◌, append-nil}
+use Rattle.std.proofs.Common.{◌≡◌, ℕ, zero, suc, List, [], ◌∷◌, Option, Some, None, refl, sym, ap, subst, ◌∙◌}
+use Rattle.std.proofs.Common.{append-nil}
 use Rattle.std.specs.Prelude.{IfSome, slice_get, option_map}
 use Rattle.std.specs.List.{AllByRecursion}
 use Rattle.der_core.specs.Element.{el, IsElement}
@@ -23,10 +24,12 @@ use Rattle.cms_compare.specs.Laws.{SignaturesBindContents}
 
 -- elements of one identifier are the same only if their contents are
 same_contents : (t : ℕ) (c c' : List ℕ) → IsElement t c → IsElement t c' → el t c ≡ el t c' → c ≡ c'
-same_contents t c c' is is' e = (el_same t c [] t c' [] is is' (append-nil (el t c) ∙ e ∙ sym (append-nil (el t c')))).body
+same_contents t c c' is is' e =
+    (el_same t c [] t c' [] is is' (append-nil (el t c) ∙ e ∙ sym (append-nil (el t c')))).body
 
 -- a signer that a SignedData has is good
-good_number : (ss : List SignerValue) (number : ℕ) (s : SignerValue) → AllByRecursion GoodSigner ss → of_number ss number ≡ Some s → GoodSigner s
+good_number : (ss : List SignerValue) (number : ℕ) (s : SignerValue) → AllByRecursion GoodSigner ss
+    → of_number ss number ≡ Some s → GoodSigner s
 good_number ss zero s h e = absurd cc
 good_number ss (suc n) s h e = good_at ss n h e
   where
@@ -35,19 +38,23 @@ good_number ss (suc n) s h e = good_at ss n h e
     good_at (x ∷ xs) zero h e = let q : x ≡ s = cc in subst GoodSigner q h.0
     good_at (x ∷ xs) (suc n) h e = good_at xs n h.1 e
 
-good : (file : List ℕ) (number : ℕ) (content : List ℕ) (s : SignerValue) → IsSignedBy file number content s → GoodSigner s
+good : (file : List ℕ) (number : ℕ) (content : List ℕ) (s : SignerValue) → IsSignedBy file number content s
+    → GoodSigner s
 good file number content s h = good_number h.signed.signers number s h.encodes.1.0.signers h.numbered
 
-good_attributes : (o : Option (List AttributeValue)) (xs : List AttributeValue) → IfSome o GoodSignedAttributes → o ≡ Some xs → GoodSignedAttributes xs
+good_attributes : (o : Option (List AttributeValue)) (xs : List AttributeValue) → IfSome o GoodSignedAttributes
+    → o ≡ Some xs → GoodSignedAttributes xs
 good_attributes (Some ys) xs h e = let q : ys ≡ xs = cc in subst GoodSignedAttributes q h
 good_attributes None xs h e = absurd cc
 
 -- the same octets are signed only for the same attributes
-same_attributes : (xs ys : List AttributeValue) → GoodSignedAttributes xs → GoodSignedAttributes ys → signed_octets xs ≡ signed_octets ys → xs ≡ ys
+same_attributes : (xs ys : List AttributeValue) → GoodSignedAttributes xs → GoodSignedAttributes ys
+    → signed_octets xs ≡ signed_octets ys → xs ≡ ys
 same_attributes xs ys g k e =
     let p = same_contents 0x31 (attributes_parts xs) (attributes_parts ys) (record { identifier = refl; size = g.size })
     (record { identifier = refl; size = k.size }) e in
-    ok_is xs ys (sym (signed_attributes_body.again xs 0 (g.each, g.ascending)) ∙ ap (λ (b : List ℕ). signed_attributes_in (spot 0 b)) p
+    ok_is xs ys (sym (signed_attributes_body.again xs 0 (g.each, g.ascending))
+    ∙ ap (λ (b : List ℕ). signed_attributes_in (spot 0 b)) p
     ∙ signed_attributes_body.again ys 0 (k.each, k.ascending))
 
 some_octets : (xs ys : List AttributeValue) (o o' : Option (List AttributeValue)) → o ≡ Some xs → o' ≡ Some ys
@@ -65,13 +72,20 @@ pub bound : SignaturesBindContents
 bound a i content s h b j content' s' k alike =
     let n = named_is s.digest_algorithm h.fits.alg h.fits.named in
     let m = named_is s'.digest_algorithm k.fits.alg k.fits.named in
-    let same = same_alg h.fits.alg k.fits.alg (alg_named s.digest_algorithm) (alg_named s'.digest_algorithm) n m alike.alg in
-    let octets = some_octets h.fits.attributes k.fits.attributes s.signed_attributes s'.signed_attributes h.fits.present k.fits.present alike.octets in
-    let g = good_attributes s.signed_attributes h.fits.attributes (good a i content s h).signed_attributes h.fits.present in
-    let g' = good_attributes s'.signed_attributes k.fits.attributes (good b j content' s' k).signed_attributes k.fits.present in
+    let same =
+    same_alg h.fits.alg k.fits.alg (alg_named s.digest_algorithm) (alg_named s'.digest_algorithm) n m alike.alg in
+    let octets = some_octets h.fits.attributes k.fits.attributes s.signed_attributes s'.signed_attributes h.fits.present
+    k.fits.present alike.octets in
+    let g =
+    good_attributes s.signed_attributes h.fits.attributes (good a i content s h).signed_attributes h.fits.present in
+    let g' = good_attributes s'.signed_attributes k.fits.attributes
+    (good b j content' s' k).signed_attributes k.fits.present in
     let attributes = same_attributes h.fits.attributes k.fits.attributes g g' octets in
-    let stated = same_some (el 0x04 (digest_of h.fits.alg content)) (el 0x04 (digest_of k.fits.alg content')) (single_value h.fits.attributes
-    id_message_digest) h.fits.digest (ap (λ (xs : List AttributeValue). single_value xs id_message_digest) attributes ∙ k.fits.digest) in
+    let stated = same_some (el 0x04 (digest_of h.fits.alg content)) (el 0x04 (digest_of k.fits.alg content'))
+    (single_value h.fits.attributes
+    id_message_digest) h.fits.digest
+    (ap (λ (xs : List AttributeValue). single_value xs id_message_digest) attributes ∙ k.fits.digest) in
     let digests = same_contents 0x04 (digest_of h.fits.alg content) (digest_of k.fits.alg content')
-    (record { identifier = refl; size = small h.fits.alg content }) (record { identifier = refl; size = small k.fits.alg content' }) stated in
+    (record { identifier = refl; size = small h.fits.alg content })
+    (record { identifier = refl; size = small k.fits.alg content' }) stated in
     (h.fits.alg, n, digests ∙ ap (λ (x : Alg). digest_of x content') (sym same))

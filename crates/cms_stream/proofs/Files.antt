@@ -1,5 +1,6 @@
 -- A file is read by its outermost header, by its contents, and by what is behind them.
-use Rattle.std.proofs.Common.{◌≡◌, ℕ, ◌+◌, ◌-◌, ◌≤◌, Bool, true, false, cond, List, [], ◌∷◌, length, drop, Result, Ok, Err, refl, ◌∙◌, arith, inl, inr}
+use Rattle.std.proofs.Common.{◌≡◌, ℕ, ◌+◌, ◌-◌, ◌≤◌, Bool, true, false, cond, List, [], ◌∷◌, length, drop, Result, Ok}
+use Rattle.std.proofs.Common.{Err, refl, ◌∙◌, arith, inl, inr}
 use Rattle.std.proofs.lemmas.Bool.{cases_lt, ne_eqb, eq-eqb}
 use Rattle.std.proofs.lemmas.List.{length-drop}
 use Rattle.der_core.specs.declared.fault.Fault.{Fault}
@@ -22,7 +23,8 @@ unfolding file_openly outer_size
 file_read [] = refl
 file_read (x ∷ xs) = by_tag (is_other 0x30 (x ∷ xs)) (length_in (open_spot 0 0 (x ∷ xs)) (x ∷ xs))
   where
-    by_tag : (b : Bool) (r : Result ℕ Fault) → cond b (Err (fault Tag 0)) (r >>= contents_in (x ∷ xs)) ≡ (cond b (Err (fault Tag 0)) r >>= contents_in (x ∷ xs))
+    by_tag : (b : Bool) (r : Result ℕ Fault) → cond b (Err (fault Tag 0)) (r >>= contents_in (x ∷ xs))
+        ≡ (cond b (Err (fault Tag 0)) r >>= contents_in (x ∷ xs))
     by_tag true r = refl
     by_tag false r = refl
 
@@ -40,5 +42,9 @@ end_read bytes l c le =
         ne_eqb (length bytes) (heading l + l)
             (λ z. omega (arith, z, lt)),
       ) refl
-      | inr ge ↦ rw (size, eq-eqb (length bytes - (heading l + l)) 0 (omega (arith, ge)), eq-eqb (length bytes) (heading l + l) (omega (arith, ge, le))) refl
+      | inr ge ↦ rw (
+        size,
+        eq-eqb (length bytes - (heading l + l)) 0 (omega (arith, ge)),
+        eq-eqb (length bytes) (heading l + l) (omega (arith, ge, le)),
+      ) refl
     ]

@@ -1,5 +1,6 @@
 -- The header of an element, by the first octets of all that is to come.
-use Rattle.std.proofs.Common.{◌≡◌, ℕ, zero, suc, ◌+◌, ◌-◌, ◌<◌, ◌≤◌, ◌^◌, Bool, true, false, cond, ltb, List, [], ◌∷◌, ◌++◌, length, take, drop, Result, Ok}
+use Rattle.std.proofs.Common.{◌≡◌, ℕ, zero, suc, ◌+◌, ◌-◌, ◌<◌, ◌≤◌, ◌^◌, Bool, true, false, cond, ltb, List, [], ◌∷◌}
+use Rattle.std.proofs.Common.{◌++◌, length, take, drop, Result, Ok}
 use Rattle.std.proofs.Common.{Err, refl, sym, ap, subst, ◌∙◌, arith, inl, inr, append-nil}
 use Rattle.std.proofs.lemmas.Bool.{cases_lt, lt-ltb, le-ltb, ltb-true}
 use Rattle.std.proofs.lemmas.List.{length-take, length-append, take-append-le, drop-append-le, drop-drop, take-take}
@@ -8,18 +9,22 @@ use Rattle.der_core.specs.declared.fault.Kind.TheVariants.{Tag, Overrun}
 use Rattle.der_core.specs.Element.{IsBytes}
 use Rattle.der_core.specs.Reading.{fault, Spot, spot, is_other}
 use Rattle.der_core.specs.Results.{◌>>=◌}
-use Rattle.cms_stream_laws.specs.OpenReading.{OpenSpot, open_spot, is_short, ahead, lost, is_end, judged, length_in, heading, entered, next_openly}
+use Rattle.cms_stream_laws.specs.OpenReading.{OpenSpot, open_spot, is_short, ahead, lost, is_end, judged, length_in}
+use Rattle.cms_stream_laws.specs.OpenReading.{heading, entered, next_openly}
 use Rattle.cms_stream_laws.specs.OpenReading.{enter_openly}
 use Rattle.cms_stream_laws.proofs.OpenLaws.{length_there}
 use Rattle.cms_stream_laws.proofs.OpenSteps.{headed}
 use Rattle.cms_stream_laws.proofs.Windows.{EndsOf, size_ends, six_octets}
-use Rattle.cms_stream.specs.Passing.{IsAtHand, body_to, past, heard, is_missing, next_header_in, header_in, outer_size, outer_in}
+use Rattle.cms_stream.specs.Passing.{IsAtHand, body_to, past, heard, is_missing, next_header_in, header_in, outer_size}
+use Rattle.cms_stream.specs.Passing.{outer_in}
 
 abbrev ok_spot : OpenSpot → Result OpenSpot Fault
 ok_spot w = Ok w
 
-pub stated_there : (at : ℕ) (xs : List ℕ) (l : ℕ) → IsBytes xs → length_in (open_spot 0 at []) xs ≡ Ok l → (heading l ≤ length xs) × (l < 2 ^ 32)
-stated_there at xs l fits e = (length_there (open_spot 0 at []) xs l fits e, (headed (open_spot 0 at []) xs l fits e).fits)
+pub stated_there : (at : ℕ) (xs : List ℕ) (l : ℕ) → IsBytes xs → length_in (open_spot 0 at []) xs ≡ Ok l
+    → (heading l ≤ length xs) × (l < 2 ^ 32)
+stated_there at xs l fits e =
+    (length_there (open_spot 0 at []) xs l fits e, (headed (open_spot 0 at []) xs l fits e).fits)
 
 -- a header is read by its position alone
 at_position : (w : OpenSpot) (xs : List ℕ) → length_in w xs ≡ length_in (open_spot 0 w.pos []) xs
@@ -42,7 +47,8 @@ pub record IsHeaded (l count : ℕ) (v octets left : List ℕ) : Type 0 where
   pub size : count ≡ heading l
   pub gone : left ≡ drop count v
 
-other_same : (tag left : ℕ) (v rest : List ℕ) → Looked v rest → is_other tag (take left (v ++ rest)) ≡ is_other tag (take left v)
+other_same : (tag left : ℕ) (v rest : List ℕ) → Looked v rest
+    → is_other tag (take left (v ++ rest)) ≡ is_other tag (take left v)
 other_same tag left v rest (inr e) = rw (e, append-nil v) refl
 other_same tag left [] rest (inl h) = absurd (omega (arith, h))
 other_same tag zero (x ∷ v) rest (inl h) = refl
@@ -66,7 +72,8 @@ first_six left v rest h = elim (cases_lt left 6) [
 ]
 
 -- six octets are no end
-no_end : (b : Bool) (w : OpenSpot) (xs : List ℕ) (r : Sized) → length_in w xs ≡ r → (b ≡ true → 6 ≤ length xs) → heard b r ≡ r
+no_end : (b : Bool) (w : OpenSpot) (xs : List ℕ) (r : Sized) → length_in w xs ≡ r → (b ≡ true → 6 ≤ length xs)
+    → heard b r ≡ r
 no_end b w xs (Ok l) e h = refl
 no_end false w xs (Err f) e h = refl
 no_end true w xs (Err f) e h = by_end (is_end f.kind) refl
@@ -108,13 +115,17 @@ judged_same left at v rest looked = elim (cases_lt (length v) 6) [
         judged_is (all_of left at v rest) (length_in (all_of left at v rest) (take left (v ++ rest)))
         ∙ no_end (is_short (all_of left at v rest)) (all_of left at v rest) (take left (v ++ rest))
         (length_in (all_of left at v rest) (take left (v ++ rest))) refl
-        (λ short. let far = ltb-true (length (v ++ rest)) left short in omega (arith, far, six, length-append v rest, length-take left (v ++ rest))) in
+        (λ short. let far = ltb-true (length (v ++ rest)) left short in
+        omega (arith, far, six, length-append v rest, length-take left (v ++ rest))) in
         let two : length_in (all_of left at v rest) (take left (v ++ rest))
-        ≡ length_in (all_of left at v rest) (take left v) = sym (six_octets (all_of left at v rest) (take left (v ++ rest)))
-        ∙ ap (length_in (all_of left at v rest)) (first_six left v rest six) ∙ six_octets (all_of left at v rest) (take left v) in
+        ≡ length_in (all_of left at v rest) (take left v) =
+        sym (six_octets (all_of left at v rest) (take left (v ++ rest)))
+        ∙ ap (length_in (all_of left at v rest)) (first_six left v rest six)
+        ∙ six_octets (all_of left at v rest) (take left v) in
         let three : is_missing left v ≡ false = rw (le-ltb (length v) 6 six) refl in
         one ∙ two ∙ at_position (all_of left at v rest) (take left v)
-        ∙ sym (ap (λ (b : Bool). heard b (length_in (open_spot 0 at []) (take left v))) three ∙ heard_false (length_in (open_spot 0 at []) (take left v)))
+        ∙ sym (ap (λ (b : Bool). heard b (length_in (open_spot 0 at []) (take left v))) three
+        ∙ heard_false (length_in (open_spot 0 at []) (take left v)))
 
 abbrev Both : Type 0
 Both = Result (OpenSpot × OpenSpot) Fault
@@ -128,35 +139,43 @@ fits_in left at l = cond (ltb left (heading l + l)) (Err (fault Overrun at)) (Ok
 
 -- the header of all that is to come is the one of what is looked at
 pub next_header_is : (left at : ℕ) (v rest : List ℕ) → Looked v rest
-    → next_openly (open_spot left at (v ++ rest)) ≡ (next_header_in left at v >>= both_at (open_spot left at (v ++ rest)))
+    → next_openly (open_spot left at (v ++ rest))
+    ≡ (next_header_in left at v >>= both_at (open_spot left at (v ++ rest)))
 unfolding next_header_in
 next_header_is left at v rest looked =
-    rw (judged_same left at v rest looked) (by_size (heard (is_missing left v) (length_in (open_spot 0 at []) (take left v))))
+    rw (judged_same left at v rest looked)
+    (by_size (heard (is_missing left v) (length_in (open_spot 0 at []) (take left v))))
   where
     by_fit : (l : ℕ) (b : Bool)
-        → cond b (Err (fault Overrun at)) (both_at (all_of left at v rest) l) ≡ (cond b (Err (fault Overrun at)) (Ok l) >>= both_at (all_of left at v rest))
+        → cond b (Err (fault Overrun at)) (both_at (all_of left at v rest) l)
+        ≡ (cond b (Err (fault Overrun at)) (Ok l) >>= both_at (all_of left at v rest))
     by_fit l true = refl
     by_fit l false = refl
 
-    by_size : (r : Sized) → (r >>= entered (all_of left at v rest)) ≡ ((r >>= fits_in left at) >>= both_at (all_of left at v rest))
+    by_size : (r : Sized)
+        → (r >>= entered (all_of left at v rest)) ≡ ((r >>= fits_in left at) >>= both_at (all_of left at v rest))
     by_size (Err f) = refl
     by_size (Ok l) = by_fit l (ltb left (heading l + l))
 
 pub header_is : (tag left at : ℕ) (v rest : List ℕ) → Looked v rest
-    → enter_openly tag (open_spot left at (v ++ rest)) ≡ (header_in tag left at v >>= both_at (open_spot left at (v ++ rest)))
+    → enter_openly tag (open_spot left at (v ++ rest))
+    ≡ (header_in tag left at v >>= both_at (open_spot left at (v ++ rest)))
 unfolding enter_openly header_in
 header_is tag left at v rest looked =
-    rw (other_same tag left v rest looked, next_header_is left at v rest looked) (by_tag (is_other tag (take left v)) (next_header_in left at v))
+    rw (other_same tag left v rest looked, next_header_is left at v rest looked)
+    (by_tag (is_other tag (take left v)) (next_header_in left at v))
   where
     by_tag : (b : Bool) (r : Sized)
-        → cond b (Err (fault Tag at)) (r >>= both_at (all_of left at v rest)) ≡ (cond b (Err (fault Tag at)) r >>= both_at (all_of left at v rest))
+        → cond b (Err (fault Tag at)) (r >>= both_at (all_of left at v rest))
+        ≡ (cond b (Err (fault Tag at)) r >>= both_at (all_of left at v rest))
     by_tag true r = refl
     by_tag false r = refl
 
 -- ---- the header at the front of a pass
 
 open_is : (l m n k : ℕ) (xs ys : List ℕ) → l ≡ m → n ≡ k → xs ≡ ys → open_spot l n xs ≡ open_spot m k ys
-open_is l m n k xs ys e f g = ap (λ (j : ℕ). open_spot j n xs) e ∙ ap (λ (j : ℕ). open_spot m j xs) f ∙ ap (open_spot m k) g
+open_is l m n k xs ys e f g =
+    ap (λ (j : ℕ). open_spot j n xs) e ∙ ap (λ (j : ℕ). open_spot m j xs) f ∙ ap (open_spot m k) g
 
 abbrev pair_of : OpenSpot → OpenSpot → Both
 pair_of a b = Ok (a, b)
@@ -165,7 +184,8 @@ pair_of a b = Ok (a, b)
 module _ (entering : OpenSpot → Both) (header : (left at : ℕ) → List ℕ → Sized)
     (header_read : (left at : ℕ) (v rest : List ℕ) → Looked v rest
     → entering (open_spot left at (v ++ rest)) ≡ (header left at v >>= both_at (open_spot left at (v ++ rest)))) where
-  enters_at : {at l : ℕ} {v rest : List ℕ} {s : Spot} (end : ℕ) → IsLooked 6 at v v rest s → header (end - at) at v ≡ Ok l → heading l ≤ length v
+  enters_at : {at l : ℕ} {v rest : List ℕ} {s : Spot} (end : ℕ) → IsLooked 6 at v v rest s
+      → header (end - at) at v ≡ Ok l → heading l ≤ length v
       → at ≤ end → heading l + l ≤ end - at
       → entering (body_to end s)
       ≡ Ok (
@@ -182,20 +202,27 @@ module _ (entering : OpenSpot → Both) (header : (left at : ℕ) → List ℕ �
       let further : drop (h + l) (v ++ rest) ≡ drop (at + h + l - (at + h)) (drop h v ++ rest) =
       sym (drop-drop l h (v ++ rest)) ∙ ap (drop l) dropped ∙ ap (λ (m : ℕ). drop m (drop h v ++ rest)) (sym count) in
       let behind : ahead (h + l) (open_spot (end - at) at (v ++ rest))
-      ≡ body_to end (past (at + h + l) (spot (at + h) (drop h v ++ rest))) = open_is _ _ _ _ _ _ (omega arith) (omega arith) further in
+      ≡ body_to end (past (at + h + l) (spot (at + h) (drop h v ++ rest))) =
+      open_is _ _ _ _ _ _ (omega arith) (omega arith) further in
       ap (λ (z : Spot). entering (body_to end z)) (sym front.is) ∙ header_read (end - at) at v rest front.looked
       ∙ rw e (ap (λ (z : OpenSpot). pair_of z (ahead (h + l) (open_spot (end - at) at (v ++ rest)))) contents
       ∙ ap (pair_of (body_to (at + h + l) (spot (at + h) (drop h v ++ rest)))) behind)
 
   -- the same, as a pass finds it that looked at these octets
   module _ {at : ℕ} {v octets rest : List ℕ} {s : Spot} (end : ℕ) (front : IsLooked 6 at v octets rest s) where
-    pub enters_now : {l count : ℕ} {left : List ℕ} → header (end - at) at octets ≡ Ok l → IsHeaded l count v octets left → at ≤ end
+    pub enters_now : {l count : ℕ} {left : List ℕ} → header (end - at) at octets ≡ Ok l → IsHeaded l count v octets left
+        → at ≤ end
         → heading l + l ≤ end - at
         → entering (body_to end s)
-        ≡ Ok (body_to (at + count + l) (spot (at + count) (left ++ rest)), body_to end (past (at + count + l) (spot (at + count) (left ++ rest))))
+        ≡ Ok (
+          body_to (at + count + l) (spot (at + count) (left ++ rest)),
+          body_to end (past (at + count + l) (spot (at + count) (left ++ rest))),
+        )
     enters_now {l} {count} {left} e header_there inside fits =
-        let read : header (end - at) at v ≡ Ok l = subst (λ (xs : List ℕ). header (end - at) at xs ≡ Ok l) front.same e in
-        let here : heading l ≤ length v = subst (λ (xs : List ℕ). heading l ≤ length xs) front.same header_there.there in
+        let read : header (end - at) at v ≡ Ok l =
+        subst (λ (xs : List ℕ). header (end - at) at xs ≡ Ok l) front.same e in
+        let here : heading l ≤ length v =
+        subst (λ (xs : List ℕ). heading l ≤ length xs) front.same header_there.there in
         let all : IsLooked 6 at v v rest s = record { looked = front.looked; is = front.is; same = refl } in
         rw (header_there.gone, header_there.size) (enters_at end all read here inside fits)
 
@@ -214,15 +241,18 @@ outer_same (x ∷ v) rest (inl h) = rw (sized (x ∷ v) rest h) refl
   where
     sized : (ys zs : List ℕ) → 6 ≤ length ys → length_in (open_spot 0 0 []) (ys ++ zs) ≡ length_in (open_spot 0 0 []) ys
     sized ys zs le =
-        sym (six_octets (open_spot 0 0 []) (ys ++ zs)) ∙ ap (length_in (open_spot 0 0 [])) (take-append-le 6 ys zs le) ∙ six_octets (open_spot 0 0 []) ys
+        sym (six_octets (open_spot 0 0 []) (ys ++ zs)) ∙ ap (length_in (open_spot 0 0 [])) (take-append-le 6 ys zs le)
+        ∙ six_octets (open_spot 0 0 []) ys
 
-pub begins_not : {at : ℕ} {v octets rest : List ℕ} {s : Spot} (f : Fault) → IsLooked 6 at v octets rest s → outer_size octets ≡ Err f → outer_in s.rest ≡ Err f
+pub begins_not : {at : ℕ} {v octets rest : List ℕ} {s : Spot} (f : Fault) → IsLooked 6 at v octets rest s
+    → outer_size octets ≡ Err f → outer_in s.rest ≡ Err f
 unfolding outer_in
 begins_not {at} {v} {octets} {rest} {s} f front e =
     let all : v ++ rest ≡ s.rest = ap (λ (z : Spot). z.rest) front.is in
     rw (← all, outer_same v rest front.looked, ← front.same, e) refl
 
-pub begins_at : {l count at : ℕ} {v octets left rest : List ℕ} {s : Spot} → IsLooked 6 at v octets rest s → at ≡ 0 → outer_size octets ≡ Ok l
+pub begins_at : {l count at : ℕ} {v octets left rest : List ℕ} {s : Spot} → IsLooked 6 at v octets rest s → at ≡ 0
+    → outer_size octets ≡ Ok l
     → IsHeaded l count v octets left
     → outer_in s.rest ≡ Ok (body_to (at + count + l) (spot (at + count) (left ++ rest)))
 unfolding outer_in
@@ -234,4 +264,5 @@ begins_at {l} {count} {at} {v} {octets} {left} {rest} {s} front first e header_t
     let dropped : drop h (v ++ rest) ≡ left ++ rest = drop-append-le h v rest here
     ∙ ap (λ (xs : List ℕ). xs ++ rest) (ap (λ (n : ℕ). drop n v) (sym size) ∙ sym header_there.gone) in
     rw (← all, outer_same v rest front.looked, ← front.same, e)
-    (ap ok_spot (open_is _ _ _ _ _ _ (omega (arith, size)) (omega (arith, first, size)) (ap (λ (xs : List ℕ). drop h (xs ++ rest)) front.same ∙ dropped)))
+    (ap ok_spot (open_is _ _ _ _ _ _ (omega (arith, size)) (omega (arith, first, size))
+    (ap (λ (xs : List ℕ). drop h (xs ++ rest)) front.same ∙ dropped)))

@@ -1,5 +1,6 @@
 -- The digestAlgorithms of a file that encodes a SignedData, as the front of the file is read.
-use Rattle.std.proofs.Common.{◌≡◌, ℕ, ◌<◌, Bool, true, false, List, [], ◌∷◌, ◌++◌, length, take, Option, Some, None, Result, Ok, Err, refl, sym, ap}
+use Rattle.std.proofs.Common.{◌≡◌, ℕ, ◌<◌, Bool, true, false, List, [], ◌∷◌, ◌++◌, length, take, Option, Some, None}
+use Rattle.std.proofs.Common.{Result, Ok, Err, refl, sym, ap}
 use Rattle.std.proofs.Common.{subst, ◌∙◌, arith, inl, inr}
 use Rattle.std.specs.Prelude.{if◌then◌else◌}
 use Rattle.std.proofs.lemmas.List.{length-take-le}
@@ -17,11 +18,14 @@ use Rattle.der_core.proofs.ReadLengths.{ok_is, IsBytes-take, IsBytes-drop}
 use Rattle.der_core.proofs.Results.{bind_ok}
 use Rattle.der_grammar.specs.Table.{id_signed_data}
 use Rattle.cms_types.specs.SignedDataReading.{algorithms_in, signers_in}
-use Rattle.cms_types.specs.SignedDataValue.{EncapsulatedValue, SignedDataValue, ContentInfoValue, SignedContent, OtherContent, EncodesSignedData}
+use Rattle.cms_types.specs.SignedDataValue.{EncapsulatedValue, SignedDataValue, ContentInfoValue, SignedContent}
+use Rattle.cms_types.specs.SignedDataValue.{OtherContent, EncodesSignedData}
 use Rattle.cms_types.specs.SignedDataValue.{algorithms_parts}
-use Rattle.cms_stream_laws.specs.OpenReading.{OpenSpot, OpenReader, OpenBody, closed, end_openly, enter_openly, within_openly, whole_openly, heading}
+use Rattle.cms_stream_laws.specs.OpenReading.{OpenSpot, OpenReader, OpenBody, closed, end_openly, enter_openly}
+use Rattle.cms_stream_laws.specs.OpenReading.{within_openly, whole_openly, heading}
 use Rattle.cms_stream_laws.specs.OpenReading.{maybe_openly, kept, IsMet}
-use Rattle.cms_stream_laws.specs.OpenContentInfo.{algorithms_openly, encapsulated_openly, certificates_openly, crls_openly, contents_of, other_content_openly}
+use Rattle.cms_stream_laws.specs.OpenContentInfo.{algorithms_openly, encapsulated_openly, certificates_openly}
+use Rattle.cms_stream_laws.specs.OpenContentInfo.{crls_openly, contents_of, other_content_openly}
 use Rattle.cms_stream_laws.specs.Laws.{before_content}
 use Rattle.cms_stream_laws.proofs.OpenLaws.{bytes_ahead, enter_went, inside_bytes, kept_open, within_open}
 use Rattle.cms_stream_laws.proofs.OpenContentInfos.{oid_open, algorithms_open}
@@ -31,8 +35,10 @@ use Rattle.cms_stream.specs.declared.stream_fault.StreamFault.{StreamFault}
 use Rattle.cms_stream.specs.declared.stream_fault.StreamFault.TheVariants.{Malformed, ReadFailed, TooLong}
 use Rattle.cms_stream.specs.Opening.{CountsPass}
 use Rattle.cms_stream.specs.Passing.{outer_size, outer_in, last_in}
-use Rattle.cms_stream.specs.Stages.{HeadParts, behind, signed_from, signed_head_in, signed_in, explicit_signed_in, signed_content_in, content_in, file_in}
-use Rattle.cms_stream.specs.Hints.{signed_at, algorithms_at, listed_at, AreListed, AreNamedBy, AreNamedIn, IsListTooLong, Tells}
+use Rattle.cms_stream.specs.Stages.{HeadParts, behind, signed_from, signed_head_in, signed_in, explicit_signed_in}
+use Rattle.cms_stream.specs.Stages.{signed_content_in, content_in, file_in}
+use Rattle.cms_stream.specs.Hints.{signed_at, algorithms_at, listed_at, AreListed, AreNamedBy, AreNamedIn}
+use Rattle.cms_stream.specs.Hints.{IsListTooLong, Tells}
 use Rattle.cms_stream.proofs.Opens.{file_same}
 
 abbrev versions : List ℕ
@@ -52,14 +58,16 @@ given a = Ok a
 abbrev found : {A : Type 0} → A → OpenSpot → Result (A × OpenSpot) Fault
 found a w = Ok (a, w)
 
-held_by : {A : Type 0} (tag : ℕ) (inside : OpenBody A) (w : OpenSpot) (y : A × OpenSpot) → within_openly tag inside w ≡ Ok y → Held tag inside w y.0
+held_by : {A : Type 0} (tag : ℕ) (inside : OpenBody A) (w : OpenSpot) (y : A × OpenSpot)
+    → within_openly tag inside w ≡ Ok y → Held tag inside w y.0
 held_by {A} tag inside w y e =
     let entered = bind_ok (enter_openly tag w) (λ x. inside x.0 >>= λ a. found a x.1) y e in
     let read = bind_ok (inside entered.0.0) (λ a. found a entered.0.1) y entered.2 in
     let is : read.0 ≡ y.0 = ap (λ (p : A × OpenSpot). p.0) (ok_is (read.0, entered.0.1) y read.2) in
     record { both = entered.0; enters = entered.1; reads = read.1 ∙ ap given is }
 
-held : {A : Type 0} (tag : ℕ) (inside : OpenBody A) (w : OpenSpot) (a : A) → whole_openly (within_openly tag inside) w ≡ Ok a → Held tag inside w a
+held : {A : Type 0} (tag : ℕ) (inside : OpenBody A) (w : OpenSpot) (a : A)
+    → whole_openly (within_openly tag inside) w ≡ Ok a → Held tag inside w a
 held {A} tag inside w a e =
     let first = bind_ok (within_openly tag inside w) (λ x. end_openly x.1 >>= λ u. given x.0) a e in
     let last = bind_ok (end_openly first.0.1) (λ u. given first.0.0) a first.2 in
@@ -80,8 +88,10 @@ front_by : (w : OpenSpot) (y : Before × OpenSpot) → before_content w ≡ Ok y
 front_by w y e =
     let first = bind_ok (within_openly 0x02 (kept (version_in versions)) w)
     (λ x. within_openly 0x31 (λ v. algorithms_openly v) x.1 >>= λ z. found (x.0, z.0) z.1) y e in
-    let second = bind_ok (within_openly 0x31 (λ v. algorithms_openly v) first.0.1) (λ z. found (first.0.0, z.0) z.1) y first.2 in
-    let is : second.0.0 ≡ y.0.1 = ap (λ (p : Before × OpenSpot). p.0.1) (ok_is ((first.0.0, second.0.0), second.0.1) y second.2) in
+    let second =
+    bind_ok (within_openly 0x31 (λ v. algorithms_openly v) first.0.1) (λ z. found (first.0.0, z.0) z.1) y first.2 in
+    let is : second.0.0 ≡ y.0.1 =
+    ap (λ (p : Before × OpenSpot). p.0.1) (ok_is ((first.0.0, second.0.0), second.0.1) y second.2) in
     record {
       version = first.0;
       first = first.1;
@@ -98,9 +108,11 @@ record Begun {A B C D Z : Type 0} (a : OpenReader A) (into : A → B → C → D
   pub fourth : D
   pub is : into first.0 second third fourth ≡ z
 
-module _ {A B C D Z : Type 0} (a : OpenReader A) (b : OpenReader B) (c : OpenReader C) (d : OpenReader D) (into : A → B → C → D → Z) where
+module _ {A B C D Z : Type 0} (a : OpenReader A) (b : OpenReader B) (c : OpenReader C) (d : OpenReader D)
+    (into : A → B → C → D → Z) where
   begun_by : (w : OpenSpot) (y : Z × OpenSpot)
-      → (a w >>= λ p. b p.1 >>= λ q. c q.1 >>= λ r. d r.1 >>= λ s. found (into p.0 q.0 r.0 s.0) s.1) ≡ Ok y → Begun a into w y.0
+      → (a w >>= λ p. b p.1 >>= λ q. c q.1 >>= λ r. d r.1 >>= λ s. found (into p.0 q.0 r.0 s.0) s.1) ≡ Ok y
+      → Begun a into w y.0
   begun_by w y e =
       let p = bind_ok (a w) (λ p. b p.1 >>= λ q. c q.1 >>= λ r. d r.1 >>= λ s. found (into p.0 q.0 r.0 s.0) s.1) y e in
       after_first p.0 p.1 p.2
@@ -109,7 +121,8 @@ module _ {A B C D Z : Type 0} (a : OpenReader A) (b : OpenReader B) (c : OpenRea
           → (d r.1 >>= λ s. found (into p.0 q.0 r.0 s.0) s.1) ≡ Ok y → Begun a into w y.0
       after_third p q r reads h =
           let s = bind_ok (d r.1) (λ s. found (into p.0 q.0 r.0 s.0) s.1) y h in
-          let is : into p.0 q.0 r.0 s.0.0 ≡ y.0 = ap (λ (x : Z × OpenSpot). x.0) (ok_is (into p.0 q.0 r.0 s.0.0, s.0.1) y s.2) in
+          let is : into p.0 q.0 r.0 s.0.0 ≡ y.0 =
+          ap (λ (x : Z × OpenSpot). x.0) (ok_is (into p.0 q.0 r.0 s.0.0, s.0.1) y s.2) in
           record { first = p; reads = reads; second = q.0; third = r.0; fourth = s.0.0; is = is }
 
       after_second : (p : A × OpenSpot) (q : B × OpenSpot) → a w ≡ Ok p
@@ -130,7 +143,8 @@ head p q r s = (p.0, (p.1, (q, (r, s))))
 head_by : (w : OpenSpot) (x : HeadParts × OpenSpot) → signed_head_in w ≡ Ok x → Front w x.0.1.0
 unfolding signed_head_in
 head_by w x e =
-    let b = begun_by (λ v. before_content v) (within_openly 0x30 encapsulated_openly) (maybe_openly 0xa0 certificates_openly)
+    let b = begun_by (λ v. before_content v) (within_openly 0x30 encapsulated_openly)
+    (maybe_openly 0xa0 certificates_openly)
     (maybe_openly 0xa1 crls_openly) head w x e in
     let same : b.first.0.1 ≡ x.0.1.0 = ap (λ (p : HeadParts). p.1.0) b.is in
     subst (λ (z : List AlgorithmValue). Front w z) same (front_by w b.first b.reads)
@@ -140,7 +154,8 @@ unfolding signed_in
 parts_by w v e =
     let first = bind_ok (signed_head_in w)
     (λ x. within_openly 0x31 (kept signers_in) x.1 >>= λ y. end_openly y.1 >>= λ u. given (signed_from x.0 y.0)) v e in
-    let signers = bind_ok (within_openly 0x31 (kept signers_in) first.0.1) (λ y. end_openly y.1 >>= λ u. given (signed_from first.0.0 y.0)) v first.2 in
+    let signers = bind_ok (within_openly 0x31 (kept signers_in) first.0.1)
+    (λ y. end_openly y.1 >>= λ u. given (signed_from first.0.0 y.0)) v first.2 in
     let last = bind_ok (end_openly signers.0.1) (λ u. given (signed_from first.0.0 signers.0.0)) v signers.2 in
     let same : first.0.0.1.0 ≡ v.digest_algorithms =
     ap (λ (d : SignedDataValue). d.digest_algorithms) (ok_is (signed_from first.0.0 signers.0.0) v last.2) in
@@ -173,12 +188,15 @@ chosen_by : (w : OpenSpot) (v : SignedDataValue) → content_in w ≡ Ok (Signed
 unfolding content_in
 chosen_by w v e =
     let type = bind_ok (within_openly 0x06 (kept oid_in) w) (λ x. if is_same id_signed_data x.0
-    then (signed_content_in x.1 >>= λ d. content (SignedContent d)) else (other_content_openly x.1 >>= λ b. content (OtherContent x.0 b)))
+    then (signed_content_in x.1 >>= λ d. content (SignedContent d))
+    else (other_content_openly x.1 >>= λ b. content (OtherContent x.0 b)))
     (SignedContent v) e in
     by_type type.0 type.1 (is_same id_signed_data type.0.0) refl type.2
   where
-    by_type : (x : List ℕ × OpenSpot) → within_openly 0x06 (kept oid_in) w ≡ Ok x → (b : Bool) → is_same id_signed_data x.0 ≡ b
-        → (if b then (signed_content_in x.1 >>= λ d. content (SignedContent d)) else (other_content_openly x.1 >>= λ o. content (OtherContent x.0 o)))
+    by_type : (x : List ℕ × OpenSpot) → within_openly 0x06 (kept oid_in) w ≡ Ok x → (b : Bool)
+        → is_same id_signed_data x.0 ≡ b
+        → (if b then (signed_content_in x.1 >>= λ d. content (SignedContent d))
+        else (other_content_openly x.1 >>= λ o. content (OtherContent x.0 o)))
         ≡ Ok (SignedContent v) → Chosen w v
     by_type x first true is h =
         let signed = bind_ok (signed_content_in x.1) (λ d. content (SignedContent d)) (SignedContent v) h in
@@ -201,8 +219,10 @@ inner_by w v e = held 0x30 signed_in w v e
 fronted_by : (bytes : List ℕ) (v : SignedDataValue) → file_in bytes ≡ Ok (SignedContent v) → Fronted bytes v
 unfolding file_in
 fronted_by bytes v e =
-    let outer = bind_ok (outer_in bytes) (λ w. content_in w >>= λ c. last_in (behind w) >>= λ u. content c) (SignedContent v) e in
-    let inside = bind_ok (content_in outer.0) (λ c. last_in (behind outer.0) >>= λ u. content c) (SignedContent v) outer.2 in
+    let outer = bind_ok (outer_in bytes) (λ w. content_in w >>= λ c. last_in (behind w) >>= λ u. content c)
+    (SignedContent v) e in
+    let inside =
+    bind_ok (content_in outer.0) (λ c. last_in (behind outer.0) >>= λ u. content c) (SignedContent v) outer.2 in
     let last = bind_ok (last_in (behind outer.0)) (λ u. content inside.0) (SignedContent v) inside.2 in
     let same : inside.0 ≡ SignedContent v = ok_is inside.0 (SignedContent v) last.2 in
     let chosen = chosen_by outer.0 v (inside.1 ∙ ap content same) in
@@ -226,7 +246,8 @@ fronted bytes v fits good = fronted_by bytes v (file_same bytes fits ∙ good_fi
 -- ---- what is read of it
 
 -- the SignedData is met
-signed_there : (bytes : List ℕ) (v : SignedDataValue) (f : Fronted bytes v) → signed_at bytes ≡ given (Some f.inner.both.0)
+signed_there : (bytes : List ℕ) (v : SignedDataValue) (f : Fronted bytes v)
+    → signed_at bytes ≡ given (Some f.inner.both.0)
 unfolding signed_at
 signed_there bytes v f = rw (f.begins, f.first, f.signed, f.explicit.enters, f.inner.enters) refl
 
@@ -234,33 +255,40 @@ abbrev listed_from : (bytes : List ℕ) (v : SignedDataValue) → Fronted bytes 
 listed_from bytes v f = f.parts.algorithms.both.0
 
 -- its digestAlgorithms are of octets
-bytes_there : (bytes : List ℕ) (v : SignedDataValue) (f : Fronted bytes v) → IsBytes bytes → IsBytes (listed_from bytes v f).rest
+bytes_there : (bytes : List ℕ) (v : SignedDataValue) (f : Fronted bytes v) → IsBytes bytes
+    → IsBytes (listed_from bytes v f).rest
 unfolding outer_in
 bytes_there bytes v f fits =
     let size = bind_ok (outer_size bytes) (λ l. given (contents_of bytes l)) f.outer f.begins in
     let outer : IsBytes f.outer.rest =
-    subst (λ (w : OpenSpot). IsBytes w.rest) (ok_is (contents_of bytes size.0) f.outer size.2) (IsBytes-drop (heading size.0) bytes fits) in
+    subst (λ (w : OpenSpot). IsBytes w.rest) (ok_is (contents_of bytes size.0) f.outer size.2)
+    (IsBytes-drop (heading size.0) bytes fits) in
     let type : IsBytes f.type.1.rest =
-    bytes_ahead f.outer f.type.1 ((within_open 6 oid_in (kept oid_in) oid_open).went f.outer f.type outer f.first) outer in
+    bytes_ahead f.outer f.type.1
+    ((within_open 6 oid_in (kept oid_in) oid_open).went f.outer f.type outer f.first) outer in
     let explicit : IsBytes f.explicit.both.0.rest =
     inside_bytes f.type.1 f.explicit.both (enter_went 0xa0 f.type.1 f.explicit.both type f.explicit.enters) type in
     let inner : IsBytes f.inner.both.0.rest =
-    inside_bytes f.explicit.both.0 f.inner.both (enter_went 0x30 f.explicit.both.0 f.inner.both explicit f.inner.enters) explicit in
+    inside_bytes f.explicit.both.0 f.inner.both
+    (enter_went 0x30 f.explicit.both.0 f.inner.both explicit f.inner.enters) explicit in
     let version : IsBytes f.parts.version.1.rest = bytes_ahead f.inner.both.0 f.parts.version.1
-    ((within_open 2 _ _ (kept_open (version_in versions))).went f.inner.both.0 f.parts.version inner f.parts.first) inner in
+    ((within_open 2 _ _ (kept_open (version_in versions))).went f.inner.both.0 f.parts.version inner f.parts.first)
+    inner in
     inside_bytes f.parts.version.1 f.parts.algorithms.both
     (enter_went 0x31 f.parts.version.1 f.parts.algorithms.both version f.parts.algorithms.enters) version
 
 -- they are all there
 met_there : (bytes : List ℕ) (v : SignedDataValue) (f : Fronted bytes v) → IsBytes bytes → IsMet (listed_from bytes v f)
 met_there bytes v f fits =
-    algorithms_open.met (listed_from bytes v f) v.digest_algorithms (bytes_there bytes v f fits) f.parts.algorithms.reads
+    algorithms_open.met (listed_from bytes v f) v.digest_algorithms
+    (bytes_there bytes v f fits) f.parts.algorithms.reads
 
 -- they are read as a slice is
 slice_there : (bytes : List ℕ) (v : SignedDataValue) (f : Fronted bytes v) → IsBytes bytes
     → algorithms_in (closed (listed_from bytes v f)) ≡ given v.digest_algorithms
 slice_there bytes v f fits =
-    algorithms_open.same (listed_from bytes v f) (met_there bytes v f fits) (bytes_there bytes v f fits) ∙ f.parts.algorithms.reads
+    algorithms_open.same (listed_from bytes v f) (met_there bytes v f fits) (bytes_there bytes v f fits)
+    ∙ f.parts.algorithms.reads
 
 -- they have as many octets as their header states
 size_there : (bytes : List ℕ) (v : SignedDataValue) (f : Fronted bytes v) → IsBytes bytes
@@ -268,23 +296,28 @@ size_there : (bytes : List ℕ) (v : SignedDataValue) (f : Fronted bytes v) → 
 size_there bytes v f fits =
     let w : OpenSpot = listed_from bytes v f in
     let law = many_body 48 refl algorithm_in algorithm_parts AlgorithmParts algorithm algorithm_body in
-    let takes = law.takes (closed w) v.digest_algorithms (IsBytes-take w.left w.rest (bytes_there bytes v f fits)) (slice_there bytes v f fits) in
+    let takes = law.takes (closed w) v.digest_algorithms (IsBytes-take w.left w.rest (bytes_there bytes v f fits))
+    (slice_there bytes v f fits) in
     let same : take w.left w.rest ≡ algorithms_parts v.digest_algorithms = takes.1 in
     sym (length-take-le w.left w.rest (met_there bytes v f fits)) ∙ ap length same
 
-listed_there : (bytes : List ℕ) (v : SignedDataValue) (f : Fronted bytes v) → IsBytes bytes → listed_at bytes ≡ given (Some v.digest_algorithms)
+listed_there : (bytes : List ℕ) (v : SignedDataValue) (f : Fronted bytes v) → IsBytes bytes
+    → listed_at bytes ≡ given (Some v.digest_algorithms)
 unfolding listed_at algorithms_at
 listed_there bytes v f fits =
     let w : OpenSpot = listed_from bytes v f in
     let read : kept algorithms_in w ≡ given v.digest_algorithms =
-    sym ((kept_open algorithms_in).same w (met_there bytes v f fits) (bytes_there bytes v f fits)) ∙ slice_there bytes v f fits in
+    sym ((kept_open algorithms_in).same w (met_there bytes v f fits) (bytes_there bytes v f fits))
+    ∙ slice_there bytes v f fits in
     rw (signed_there bytes v f, f.parts.first, f.parts.algorithms.enters, read) refl
 
 -- if their header states more than the limit, they have more
-long_there : (limit : ℕ) (bytes : List ℕ) (v : SignedDataValue) (f : Fronted bytes v) → IsBytes bytes → IsListTooLong limit bytes
+long_there : (limit : ℕ) (bytes : List ℕ) (v : SignedDataValue) (f : Fronted bytes v) → IsBytes bytes
+    → IsListTooLong limit bytes
     → limit < length (algorithms_parts v.digest_algorithms)
 long_there limit bytes v f fits (w, is, x, first, y, enters, long) =
-    let some : Some f.inner.both.0 ≡ Some w = ok_is (Some f.inner.both.0) (Some w) (sym (signed_there bytes v f) ∙ is) in
+    let some : Some f.inner.both.0 ≡ Some w =
+    ok_is (Some f.inner.both.0) (Some w) (sym (signed_there bytes v f) ∙ is) in
     let place : f.inner.both.0 ≡ w = cc in
     let version : f.parts.version ≡ x = ok_is f.parts.version x
     (sym f.parts.first ∙ ap (λ (u : OpenSpot). within_openly 0x02 (kept (version_in versions)) u) place ∙ first) in
@@ -300,19 +333,22 @@ Found = Result (Option (List AlgorithmValue)) StreamFault
 
 module _ (limit : ℕ) (v : SignedDataValue) (before after : ℕ) (algorithms : Algs) where
   listed_by : (bytes : List ℕ) (r : Found) → IsBytes bytes → Fronted bytes v → CountsPass r before after
-      → Tells (λ o. o) (IsListTooLong limit bytes) r (listed_at bytes) → AreNamedIn r algorithms → AreListed limit v before after algorithms
+      → Tells (λ o. o) (IsListTooLong limit bytes) r (listed_at bytes) → AreNamedIn r algorithms
+      → AreListed limit v before after algorithms
   listed_by bytes (Ok (Some identifiers)) fits f count h made =
       let some : Some identifiers ≡ Some v.digest_algorithms =
       ok_is (Some identifiers) (Some v.digest_algorithms) (sym h ∙ listed_there bytes v f fits) in
       let is : identifiers ≡ v.digest_algorithms = cc in
       inl (subst (λ (xs : List AlgorithmValue). AreNamedBy xs algorithms) is made)
   listed_by bytes (Ok None) fits f count h made = absurd (let e = sym h ∙ listed_there bytes v f fits in cc)
-  listed_by bytes (Err (Malformed fault)) fits f count h made = absurd (let e = sym h ∙ listed_there bytes v f fits in cc)
+  listed_by bytes (Err (Malformed fault)) fits f count h made =
+      absurd (let e = sym h ∙ listed_there bytes v f fits in cc)
   listed_by bytes (Err TooLong) fits f count h made = inr (made, inr (long_there limit bytes v f fits h))
   listed_by bytes (Err ReadFailed) fits f count h made = inr (made, inl count)
 
   -- where nothing was handed out before
-  pub listed_from_front : (window bytes : List ℕ) (r : Found) → window ≡ [] → IsBytes bytes → EncodesSignedData bytes v → CountsPass r before after
+  pub listed_from_front : (window bytes : List ℕ) (r : Found) → window ≡ [] → IsBytes bytes → EncodesSignedData bytes v
+      → CountsPass r before after
       → Tells (λ o. o) (IsListTooLong limit (window ++ bytes)) r (listed_at (window ++ bytes)) → AreNamedIn r algorithms
       → AreListed limit v before after algorithms
   listed_from_front window bytes r e fits good count h made =

@@ -8,12 +8,16 @@ use Rattle.der_core.specs.Reading.{oid_in, version_in}
 use Rattle.der_core.specs.Results.{◌>>=◌}
 use Rattle.cms_types.specs.SignedDataValue.{SignedDataValue, ContentInfoValue, SignedContent, OtherContent}
 use Rattle.cms_types.specs.SignedDataReading.{signers_in, signed_data_from, content_info_from}
-use Rattle.cms_stream_laws.specs.OpenReading.{OpenSpot, OpenReader, OpenBody, enter_openly, end_openly, within_openly, ◌then_openly◌, whole_openly, made_openly}
+use Rattle.cms_stream_laws.specs.OpenReading.{OpenSpot, OpenReader, OpenBody, enter_openly, end_openly, within_openly}
+use Rattle.cms_stream_laws.specs.OpenReading.{◌then_openly◌, whole_openly, made_openly}
 use Rattle.cms_stream_laws.specs.OpenReading.{maybe_openly, kept}
-use Rattle.cms_stream_laws.specs.OpenContentInfo.{algorithms_openly, encapsulated_openly, certificates_openly, crls_openly, signed_data_openly}
-use Rattle.cms_stream_laws.specs.OpenContentInfo.{explicit_signed_data_openly, signed_content_openly, other_content_openly, content_info_openly}
+use Rattle.cms_stream_laws.specs.OpenContentInfo.{algorithms_openly, encapsulated_openly, certificates_openly}
+use Rattle.cms_stream_laws.specs.OpenContentInfo.{crls_openly, signed_data_openly}
+use Rattle.cms_stream_laws.specs.OpenContentInfo.{explicit_signed_data_openly, signed_content_openly}
+use Rattle.cms_stream_laws.specs.OpenContentInfo.{other_content_openly, content_info_openly}
 use Rattle.cms_stream_laws.specs.Laws.{before_signers}
-use Rattle.cms_stream.specs.Stages.{signed_head_in, signed_from, signed_in, explicit_signed_in, signed_content_in, content_in}
+use Rattle.cms_stream.specs.Stages.{signed_head_in, signed_from, signed_in, explicit_signed_in, signed_content_in}
+use Rattle.cms_stream.specs.Stages.{content_in}
 
 pub cases_of : {A : Type 0} (r : Result A Fault) → ((f : Fault) × (r ≡ Err f)) ⊎ ((x : A) × (r ≡ Ok x))
 cases_of (Err f) = inl (f, refl)
@@ -21,9 +25,11 @@ cases_of (Ok x) = inr (x, refl)
 
 -- ---- the parts in order
 
-module _ {A B C D E : Type 0} (a : OpenReader A) (b : OpenReader B) (c : OpenReader C) (d : OpenReader D) (e : OpenReader E) where
+module _ {A B C D E : Type 0} (a : OpenReader A) (b : OpenReader B) (c : OpenReader C) (d : OpenReader D)
+    (e : OpenReader E) where
   five_same : (w : OpenSpot)
-      → ((a then_openly b) w >>= λ x. c x.1 >>= λ y. d y.1 >>= λ z. e z.1 >>= λ u. Ok ((x.0.0, (x.0.1, (y.0, (z.0, u.0)))), u.1))
+      → ((a then_openly b) w >>= λ x. c x.1 >>= λ y. d y.1 >>= λ z. e z.1
+      >>= λ u. Ok ((x.0.0, (x.0.1, (y.0, (z.0, u.0)))), u.1))
       ≡ (a then_openly b then_openly c then_openly d then_openly e) w
   five_same w = elim (cases_of (a w)) [
     | inl h ↦ rw h.1 refl
@@ -72,15 +78,19 @@ module _ {A B C D E : Type 0} (a : OpenReader A) (b : OpenReader B) (c : OpenRea
 pub head_same : (w : OpenSpot) → signed_head_in w ≡ before_signers w
 unfolding signed_head_in
 head_same w =
-    five_same (within_openly 0x02 (kept (version_in (1 ∷ 3 ∷ 4 ∷ 5 ∷ [])))) (within_openly 0x31 algorithms_openly) (within_openly 0x30 encapsulated_openly)
+    five_same (within_openly 0x02 (kept (version_in (1 ∷ 3 ∷ 4 ∷ 5 ∷ [])))) (within_openly 0x31 algorithms_openly)
+    (within_openly 0x30 encapsulated_openly)
     (maybe_openly 0xa0 certificates_openly) (maybe_openly 0xa1 crls_openly) w
 
 signed_same : (w : OpenSpot) → signed_in w ≡ signed_data_openly w
 unfolding signed_in signed_data_openly
 signed_same w =
-    ap (λ r. r >>= λ x. within_openly 0x31 (kept signers_in) x.1 >>= λ y. end_openly y.1 >>= λ u. Ok (signed_from x.0 y.0)) (head_same w)
-    ∙ six_same (within_openly 0x02 (kept (version_in (1 ∷ 3 ∷ 4 ∷ 5 ∷ [])))) (within_openly 0x31 algorithms_openly) (within_openly 0x30 encapsulated_openly)
-    (maybe_openly 0xa0 certificates_openly) (maybe_openly 0xa1 crls_openly) (within_openly 0x31 (kept signers_in)) signed_data_from w
+    ap (λ r. r >>= λ x. within_openly 0x31 (kept signers_in) x.1 >>= λ y. end_openly y.1
+    >>= λ u. Ok (signed_from x.0 y.0)) (head_same w)
+    ∙ six_same (within_openly 0x02 (kept (version_in (1 ∷ 3 ∷ 4 ∷ 5 ∷ [])))) (within_openly 0x31 algorithms_openly)
+    (within_openly 0x30 encapsulated_openly)
+    (maybe_openly 0xa0 certificates_openly) (maybe_openly 0xa1 crls_openly)
+    (within_openly 0x31 (kept signers_in)) signed_data_from w
 
 -- ---- the elements that hold it
 
@@ -99,13 +109,15 @@ content_same : (w : OpenSpot) → signed_content_in w ≡ signed_content_openly 
 unfolding signed_content_in signed_content_openly
 content_same w = inside_same 160 explicit_signed_in explicit_signed_data_openly explicit_same w
 
-module _ (first : OpenReader (List ℕ)) (signed openly : OpenBody SignedDataValue) (other : OpenBody (List ℕ)) (same : (w : OpenSpot) → signed w ≡ openly w)
+module _ (first : OpenReader (List ℕ)) (signed openly : OpenBody SignedDataValue) (other : OpenBody (List ℕ))
+    (same : (w : OpenSpot) → signed w ≡ openly w)
   where
     abbrev chosen : Bool → List ℕ → OpenSpot → Result ContentInfoValue Fault
     chosen b id w = if b then (signed w >>= λ v. Ok (SignedContent v)) else (other w >>= λ x. Ok (OtherContent id x))
 
     abbrev switched : Bool → List ℕ → OpenSpot → Result ContentInfoValue Fault
-    switched b id w = (if b then (openly w >>= λ v. Ok (inl v)) else (other w >>= λ x. Ok (inr (id, x)))) >>= λ c. Ok (content_info_from c)
+    switched b id w = (if b then (openly w >>= λ v. Ok (inl v)) else (other w >>= λ x. Ok (inr (id, x))))
+        >>= λ c. Ok (content_info_from c)
 
     by_type : (b : Bool) (id : List ℕ) (w : OpenSpot) → chosen b id w ≡ switched b id w
     by_type true id w = elim (cases_of (openly w)) [
@@ -121,6 +133,7 @@ pub info_same : (w : OpenSpot) → content_in w ≡ content_info_openly w
 unfolding content_in content_info_openly
 info_same w = elim (cases_of (within_openly 0x06 (kept oid_in) w)) [
   | inl h ↦ rw h.1 refl
-  | inr x ↦ rw x.1 (by_type (within_openly 0x06 (kept oid_in)) signed_content_in signed_content_openly other_content_openly content_same
+  | inr x ↦ rw x.1 (by_type
+      (within_openly 0x06 (kept oid_in)) signed_content_in signed_content_openly other_content_openly content_same
       (is_same id_signed_data x.0.0) x.0.0 x.0.1)
 ]

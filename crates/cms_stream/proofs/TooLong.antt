@@ -11,7 +11,8 @@ use Rattle.cms_stream.specs.Passing.{IsTooLong}
 abbrev pub StatesAbove : ℕ → OpenSpot → Form → List Element → Type 0
 StatesAbove room w due ps = (n : ℕ) × States (standing w due ps) n × (room < n)
 
-pub too_long_states : (room tag : ℕ) (w : OpenSpot) (due : Form) (ps : List Element) → IsBytes w.rest → takes due tag ≡ true → IsTooLong room tag w
+pub too_long_states : (room tag : ℕ) (w : OpenSpot) (due : Form) (ps : List Element) → IsBytes w.rest
+    → takes due tag ≡ true → IsTooLong room tag w
     → StatesAbove room w due ps
 too_long_states room tag w due ps fits took h =
     let (element, enters, many) = h in

@@ -1,5 +1,6 @@
 -- A version, by the first two octets of its body.
-use Rattle.std.proofs.Common.{◌≡◌, ℕ, ◌-◌, ◌≤◌, List, [], ◌∷◌, ◌++◌, length, take, Result, Ok, refl, sym, ap, ◌∙◌, arith, inl, inr, ◌⊎◌, append-nil}
+use Rattle.std.proofs.Common.{◌≡◌, ℕ, ◌-◌, ◌≤◌, List, [], ◌∷◌, ◌++◌, length, take, Result, Ok, refl, sym, ap, ◌∙◌}
+use Rattle.std.proofs.Common.{arith, inl, inr, ◌⊎◌, append-nil}
 use Rattle.std.proofs.lemmas.Bool.{cases_lt}
 use Rattle.std.proofs.lemmas.List.{take-append-le, take-take}
 use Rattle.der_core.specs.declared.fault.Fault.{Fault}
@@ -9,20 +10,24 @@ use Rattle.cms_stream.specs.Passing.{body_to}
 use Rattle.cms_stream.proofs.Heading.{IsLooked}
 use Rattle.cms_stream.proofs.Keeping.{kept_whole}
 
-two_decide : (allowed : List ℕ) (at : ℕ) (xs : List ℕ) → version_in allowed (spot at xs) ≡ version_in allowed (spot at (take 2 xs))
+two_decide : (allowed : List ℕ) (at : ℕ) (xs : List ℕ)
+    → version_in allowed (spot at xs) ≡ version_in allowed (spot at (take 2 xs))
 two_decide allowed at [] = refl
 two_decide allowed at (x ∷ []) = refl
 two_decide allowed at (x ∷ y ∷ xs) = refl
 
-first_two : (left : ℕ) (v rest : List ℕ) → (2 ≤ length v) ⊎ (rest ≡ []) → take 2 (take left (v ++ rest)) ≡ take 2 (take left v)
+first_two : (left : ℕ) (v rest : List ℕ) → (2 ≤ length v) ⊎ (rest ≡ [])
+    → take 2 (take left (v ++ rest)) ≡ take 2 (take left v)
 first_two left v rest (inr e) = rw (e, append-nil v) refl
 first_two left v rest (inl h) = elim (cases_lt left 2) [
   | inl lt ↦ ap (take 2) (take-append-le left v rest (omega (arith, lt, h)))
   | inr le ↦ take-take 2 left (v ++ rest) le ∙ take-append-le 2 v rest h ∙ sym (take-take 2 left v le)
 ]
 
-pub version_read : {at : ℕ} {v octets rest : List ℕ} {s : Spot} (allowed : List ℕ) (end : ℕ) (x : List ℕ) (r : Result (List ℕ) Fault)
-    → IsLooked 2 at v octets rest s → kept any_at (body_to end (spot at (v ++ rest))) ≡ Ok x → version_in allowed (spot at (take (end - at) octets)) ≡ r
+pub version_read :
+    {at : ℕ} {v octets rest : List ℕ} {s : Spot} (allowed : List ℕ) (end : ℕ) (x : List ℕ) (r : Result (List ℕ) Fault)
+    → IsLooked 2 at v octets rest s → kept any_at (body_to end (spot at (v ++ rest))) ≡ Ok x
+    → version_in allowed (spot at (take (end - at) octets)) ≡ r
     → kept (version_in allowed) (body_to end s) ≡ r
 version_read {at} {v} {octets} {rest} {s} allowed end x r front passed gives =
     ap (λ (z : Spot). kept (version_in allowed) (body_to end z)) (sym front.is)

@@ -1,5 +1,6 @@
 -- Open readings of elements that are left whole: what they owe to those of slices, and that they are steady.
-use Rattle.std.proofs.Common.{◌≡◌, ℕ, zero, suc, ◌+◌, ◌-◌, ◌<◌, ◌≤◌, Bool, true, false, not, ◌&&◌, cond, ltb, eqb, List, [], ◌∷◌, length, take, drop, Option}
+use Rattle.std.proofs.Common.{◌≡◌, ℕ, zero, suc, ◌+◌, ◌-◌, ◌<◌, ◌≤◌, Bool, true, false, not, ◌&&◌, cond, ltb, eqb, List}
+use Rattle.std.proofs.Common.{[], ◌∷◌, length, take, drop, Option}
 use Rattle.std.proofs.Common.{Some, None, Result, Ok, Err, refl, sym, ap, subst, ◌∙◌, arith, inl, inr}
 use Rattle.std.proofs.lemmas.Bool.{le-ltb, ltb-false, eqb-true, eqb-false}
 use Rattle.std.proofs.lemmas.List.{length-take-le, length-drop, take-take, take-append-le}
@@ -7,16 +8,20 @@ use Rattle.der_core.specs.declared.fault.Fault.{Fault}
 use Rattle.der_core.specs.declared.fault.Kind.TheVariants.{HighTag, Overrun, Tag}
 use Rattle.der_core.specs.Element.{is_tag, IsBytes}
 use Rattle.der_core.specs.Lists.{some}
-use Rattle.der_core.specs.Reading.{fault, Spot, Taken, taken, before, body_at, element_in, next_at, length_at, opaque_in, opaque_at, many_from, many_in}
+use Rattle.der_core.specs.Reading.{fault, Spot, Taken, taken, before, body_at, element_in, next_at, length_at}
+use Rattle.der_core.specs.Reading.{opaque_in, opaque_at, many_from, many_in}
 use Rattle.der_core.specs.Results.{◌>>=◌}
 use Rattle.der_core.proofs.ReadLengths.{chosen, ok_is}
 use Rattle.der_core.proofs.Results.{bind_ok}
 use Rattle.der_lists.specs.Checked.{checked_from, checked_in, tag_in, tag_at, tagged_in}
 use Rattle.der_lists.specs.Items.{opaque_item}
-use Rattle.cms_stream_laws.specs.OpenReading.{OpenSpot, body_of, closed, is_short, grown, lost, heading, next_openly, passed_whole, opaque_openly}
-use Rattle.cms_stream_laws.specs.OpenReading.{optional_opaque_openly, is_none_of, tagged_openly, many_openly, Went, IsMet, Stays}
+use Rattle.cms_stream_laws.specs.OpenReading.{OpenSpot, body_of, closed, is_short, grown, lost, heading, next_openly}
+use Rattle.cms_stream_laws.specs.OpenReading.{passed_whole, opaque_openly}
+use Rattle.cms_stream_laws.specs.OpenReading.{optional_opaque_openly, is_none_of, tagged_openly, many_openly, Went}
+use Rattle.cms_stream_laws.specs.OpenReading.{IsMet, Stays}
 use Rattle.cms_stream_laws.proofs.OpenReaders.{inner, both, next_same}
-use Rattle.cms_stream_laws.proofs.OpenLaws.{seen, IsOpenReader, IsOpenBody, went_nowhere, Entering, next_went, inside_met, behind_went}
+use Rattle.cms_stream_laws.proofs.OpenLaws.{seen, IsOpenReader, IsOpenBody, went_nowhere, Entering, next_went}
+use Rattle.cms_stream_laws.proofs.OpenLaws.{inside_met, behind_went}
 use Rattle.cms_stream_laws.proofs.OpenParts.{looked_met, looked_ok, GoesOn, many_open}
 use Rattle.cms_stream_laws.proofs.Steady.{EntersAlike, EnterStays, next_stays, grown_long}
 use Rattle.cms_stream_laws.proofs.SteadyParts.{IsSteady, IsSteadyBody, front_stays, many_steady}
@@ -53,7 +58,8 @@ whole_is s (t ∷ xs) = by_tag (is_tag t)
     by_fit l true = refl
     by_fit l false = refl
 
-    by_length : (r : Result (ℕ × List ℕ) Fault) → ((r >>= body_at s t) >>= item) ≡ (((r >>= body_at s t) >>= inner) >>= whole_from s)
+    by_length : (r : Result (ℕ × List ℕ) Fault)
+        → ((r >>= body_at s t) >>= item) ≡ (((r >>= body_at s t) >>= inner) >>= whole_from s)
     by_length (Err f) = refl
     by_length (Ok l) = by_fit l (ltb (length l.1) l.0)
 
@@ -118,7 +124,8 @@ pub opaque_open : IsOpenReader opaque_item opaque_openly
 unfolding opaque_openly
 opaque_open = record {
   same =
-      λ w met fits. item_is (closed w) ∙ ap (λ (r : Result (Spot × Spot) Fault). r >>= whole_from (closed w)) (next_same w met fits)
+      λ w met fits. item_is (closed w)
+      ∙ ap (λ (r : Result (Spot × Spot) Fault). r >>= whole_from (closed w)) (next_same w met fits)
       ∙ by_header w (next_openly w) refl met fits;
   went = λ w y fits e.
       let t = took_whole w y e in
@@ -151,7 +158,8 @@ opaque_steady w more fits = by_both (next_openly w) (next_openly (grown w more))
         rw (h, a.contents, grown_long x.0 more h, a.behind m)
         (ap (at_spot (grown x.1 more)) (take-append-le (x.1.pos - w.pos) w.rest more (omega (arith, at, there))))
 
-    by_both : (r s : Both) → next_openly w ≡ r → EnterStays r s more → Stays (r >>= passed_whole w) (s >>= passed_whole (grown w more)) more
+    by_both : (r s : Both) → next_openly w ≡ r → EnterStays r s more
+        → Stays (r >>= passed_whole w) (s >>= passed_whole (grown w more)) more
     by_both (Ok x) s e (y, is, a) = rw is (by_short x y (next_went w x fits e) a (is_short x.0) refl)
     by_both (Err f) s e (inl h) = inl h
     by_both (Err f) s e (inr h) = rw h (inr refl)
@@ -173,17 +181,21 @@ optional_here w = cond (eqb w.left 0) (none_of w) (opaque_openly w >>= some_of)
 abbrev some_read : List ℕ × Spot → Result (Option (List ℕ) × Spot) Fault
 some_read x = Ok (Some x.0, x.1)
 
-optional_same : (w : OpenSpot) → IsMet w → IsBytes w.rest → (b : Bool) → eqb w.left 0 ≡ b → (xs : List ℕ) → body_of w ≡ xs
+optional_same : (w : OpenSpot) → IsMet w → IsBytes w.rest → (b : Bool) → eqb w.left 0 ≡ b → (xs : List ℕ)
+    → body_of w ≡ xs
     → opaque_in (closed w) xs ≡ (cond b (none_of w) (opaque_openly w >>= some_of) >>= seen)
 unfolding opaque_item
 optional_same w met fits b e [] is = by_left b e
   where
-    by_left : (b : Bool) → eqb w.left 0 ≡ b → opaque_in (closed w) [] ≡ (cond b (none_of w) (opaque_openly w >>= some_of) >>= seen)
+    by_left : (b : Bool) → eqb w.left 0 ≡ b
+        → opaque_in (closed w) [] ≡ (cond b (none_of w) (opaque_openly w >>= some_of) >>= seen)
     by_left true h = refl
-    by_left false h = absurd (let n = eqb-false w.left 0 h in let z = ap length is in n (omega (arith, z, length-take-le w.left w.rest met)))
+    by_left false h = absurd
+        (let n = eqb-false w.left 0 h in let z = ap length is in n (omega (arith, z, length-take-le w.left w.rest met)))
 optional_same w met fits b e (t ∷ xs) is = by_left b e
   where
-    again : (r : Result (Taken × Spot) Fault) → (r >>= λ x. Ok (Some x.0.whole, x.1)) ≡ ((r >>= λ x. Ok (x.0.whole, x.1)) >>= some_read)
+    again : (r : Result (Taken × Spot) Fault)
+        → (r >>= λ x. Ok (Some x.0.whole, x.1)) ≡ ((r >>= λ x. Ok (x.0.whole, x.1)) >>= some_read)
     again (Ok x) = refl
     again (Err f) = refl
 
@@ -191,26 +203,33 @@ optional_same w met fits b e (t ∷ xs) is = by_left b e
     swapped (Ok x) = refl
     swapped (Err f) = refl
 
-    by_left : (b : Bool) → eqb w.left 0 ≡ b → opaque_in (closed w) (t ∷ xs) ≡ (cond b (none_of w) (opaque_openly w >>= some_of) >>= seen)
-    by_left true h = absurd (let n = eqb-true w.left 0 h in let z = ap length is in omega (arith, z, n, length-take-le w.left w.rest met))
-    by_left false h = again (next_at (closed w)) ∙ ap (λ (r : Whole). r >>= some_read) (opaque_open.same w met fits) ∙ swapped (opaque_openly w)
+    by_left : (b : Bool) → eqb w.left 0 ≡ b
+        → opaque_in (closed w) (t ∷ xs) ≡ (cond b (none_of w) (opaque_openly w >>= some_of) >>= seen)
+    by_left true h = absurd
+        (let n = eqb-true w.left 0 h in let z = ap length is in omega (arith, z, n, length-take-le w.left w.rest met))
+    by_left false h = again (next_at (closed w)) ∙ ap (λ (r : Whole). r >>= some_read) (opaque_open.same w met fits)
+        ∙ swapped (opaque_openly w)
 
 pub optional_open : IsOpenReader opaque_at optional_opaque_openly
 unfolding opaque_at optional_opaque_openly
 optional_open = record {
-  same = λ w met fits. rw (looked_met w (optional_here w) met) (optional_same w met fits (eqb w.left 0) refl (body_of w) refl);
-  went = λ w y fits e. elim (chosen (eqb w.left 0) (none_of w) (opaque_openly w >>= some_of) (Ok y) (looked_ok w (optional_here w) y e)) [
-    | inl h ↦ subst (λ (z : Option (List ℕ) × OpenSpot). Went w z.1) (ok_is (None, w) y h.1) (went_nowhere w)
-    | inr h ↦ let a =
-        bind_ok (opaque_openly w) some_of y h.1 in subst (λ (z : Option (List ℕ) × OpenSpot). Went w z.1) (ok_is (Some a.0.0, a.0.1) y a.2)
-        (opaque_open.went w a.0 fits a.1)
-  ];
+  same = λ w met fits.
+      rw (looked_met w (optional_here w) met) (optional_same w met fits (eqb w.left 0) refl (body_of w) refl);
+  went = λ w y fits e. elim (chosen (eqb w.left 0) (none_of w) (opaque_openly w >>= some_of) (Ok y)
+      (looked_ok w (optional_here w) y e)) [
+        | inl h ↦ subst (λ (z : Option (List ℕ) × OpenSpot). Went w z.1) (ok_is (None, w) y h.1) (went_nowhere w)
+        | inr h ↦ let a =
+            bind_ok (opaque_openly w) some_of y h.1 in
+            subst (λ (z : Option (List ℕ) × OpenSpot). Went w z.1) (ok_is (Some a.0.0, a.0.1) y a.2)
+            (opaque_open.went w a.0 fits a.1)
+      ];
 }
 
 pub optional_steady : IsSteady optional_opaque_openly
 unfolding optional_opaque_openly
 optional_steady w more fits =
-    front_stays w more (optional_here w) (optional_here (grown w more)) (λ same. by_left (eqb w.left 0)) (λ x xs ys e h. by_left (eqb w.left 0))
+    front_stays w more (optional_here w) (optional_here (grown w more)) (λ same. by_left (eqb w.left 0))
+    (λ x xs ys e h. by_left (eqb w.left 0))
   where
     some_by : (r s : OpenWhole) → Stays r s more → Stays (r >>= some_of) (s >>= some_of) more
     some_by (Ok x) s h = rw h refl
@@ -231,19 +250,24 @@ module _ (tags : List ℕ) where
   abbrev others : ℕ → List ℕ × Spot → Result (List (List ℕ)) Fault
   others k x = many_from tagged_item k x.1 >>= λ xs. Ok (x.0 ∷ xs)
 
-  many_checked : (k : ℕ) (last : List ℕ) (s : Spot) → checked_from (λ v. tag_at tags) opaque_item k last s ≡ many_from tagged_item k s
+  many_checked : (k : ℕ) (last : List ℕ) (s : Spot)
+      → checked_from (λ v. tag_at tags) opaque_item k last s ≡ many_from tagged_item k s
   unfolding checked_from many_from
   many_checked zero last s = refl
   many_checked (suc k) last s =
-      ap (λ (r : Result (List (List ℕ)) Fault). cond (eqb (length s.rest) 0) (Ok []) r) (by_check (λ v t. many_checked k v t) (tag_at tags s))
+      ap (λ (r : Result (List (List ℕ)) Fault). cond (eqb (length s.rest) 0) (Ok []) r)
+      (by_check (λ v t. many_checked k v t) (tag_at tags s))
     where
-      by_item : ((u : List ℕ) (t : Spot) → checked_from (λ z. tag_at tags) opaque_item k u t ≡ many_from tagged_item k t) → (v : List ℕ) (r : Whole)
+      by_item : ((u : List ℕ) (t : Spot)
+          → checked_from (λ z. tag_at tags) opaque_item k u t ≡ many_from tagged_item k t) → (v : List ℕ) (r : Whole)
           → (r >>= λ x. checked_from (λ u. tag_at tags) opaque_item k v x.1 >>= λ xs. Ok (x.0 ∷ xs)) ≡ (r >>= others k)
       by_item same v (Err f) = refl
       by_item same v (Ok x) = ap (λ (r : Result (List (List ℕ)) Fault). r >>= λ xs. Ok (x.0 ∷ xs)) (same v x.1)
 
-      by_check : ((u : List ℕ) (t : Spot) → checked_from (λ z. tag_at tags) opaque_item k u t ≡ many_from tagged_item k t) → (r : Result (List ℕ) Fault)
-          → (r >>= λ v. opaque_item s >>= λ x. checked_from (λ u. tag_at tags) opaque_item k v x.1 >>= λ xs. Ok (x.0 ∷ xs))
+      by_check : ((u : List ℕ) (t : Spot)
+          → checked_from (λ z. tag_at tags) opaque_item k u t ≡ many_from tagged_item k t) → (r : Result (List ℕ) Fault)
+          → (r >>= λ v. opaque_item s >>= λ x. checked_from (λ u. tag_at tags) opaque_item k v x.1
+          >>= λ xs. Ok (x.0 ∷ xs))
           ≡ ((r >>= λ u. opaque_item s) >>= others k)
       by_check same (Err f) = refl
       by_check same (Ok v) = by_item same v (opaque_item s)
@@ -259,10 +283,11 @@ module _ (tags : List ℕ) where
   unfolding tag_at tagged_openly
   tagged_open = record {
     same = λ w met fits. rw (looked_met w (tagged_here w) met) (by_body w met fits (body_of w));
-    went = λ w y fits e. elim (chosen (is_none_of tags (body_of w)) (Err (fault Tag w.pos)) (opaque_openly w) (Ok y) (looked_ok w (tagged_here w) y e)) [
-      | inl h ↦ absurd (let z = h.1 in cc)
-      | inr h ↦ opaque_open.went w y fits h.1
-    ];
+    went = λ w y fits e. elim (chosen (is_none_of tags (body_of w)) (Err (fault Tag w.pos)) (opaque_openly w) (Ok y)
+        (looked_ok w (tagged_here w) y e)) [
+          | inl h ↦ absurd (let z = h.1 in cc)
+          | inr h ↦ opaque_open.went w y fits h.1
+        ];
   }
     where
       by_none : (w : OpenSpot) → IsMet w → IsBytes w.rest → (b : Bool)
@@ -279,19 +304,23 @@ module _ (tags : List ℕ) where
 
   pub tagged_goes_on : GoesOn (tagged_openly tags)
   unfolding tagged_openly
-  tagged_goes_on w y fits e = elim (chosen (is_none_of tags (body_of w)) (Err (fault Tag w.pos)) (opaque_openly w) (Ok y) (looked_ok w (tagged_here w) y e)) [
-    | inl h ↦ absurd (let z = h.1 in cc)
-    | inr h ↦ opaque_goes_on w y fits h.1
-  ]
+  tagged_goes_on w y fits e = elim (chosen (is_none_of tags (body_of w)) (Err (fault Tag w.pos)) (opaque_openly w)
+      (Ok y) (looked_ok w (tagged_here w) y e)) [
+        | inl h ↦ absurd (let z = h.1 in cc)
+        | inr h ↦ opaque_goes_on w y fits h.1
+      ]
 
   pub tagged_steady : IsSteady (tagged_openly tags)
   unfolding tagged_openly
   tagged_steady w more fits = front_stays w more (tagged_here w) (tagged_here (grown w more))
-      (λ same. by_none (is_none_of tags (body_of w)) (is_none_of tags (body_of (grown w more))) (ap (is_none_of tags) (sym same)))
-      (λ x xs ys e h. by_none (is_none_of tags (body_of w)) (is_none_of tags (body_of (grown w more))) (ap (is_none_of tags) e ∙ sym (ap (is_none_of tags) h)))
+      (λ same. by_none (is_none_of tags (body_of w)) (is_none_of tags (body_of (grown w more)))
+      (ap (is_none_of tags) (sym same)))
+      (λ x xs ys e h. by_none (is_none_of tags (body_of w)) (is_none_of tags (body_of (grown w more)))
+      (ap (is_none_of tags) e ∙ sym (ap (is_none_of tags) h)))
     where
       by_none : (b c : Bool) → b ≡ c
-          → Stays (cond b (Err (fault Tag w.pos)) (opaque_openly w)) (cond c (Err (fault Tag w.pos)) (opaque_openly (grown w more))) more
+          → Stays (cond b (Err (fault Tag w.pos)) (opaque_openly w))
+          (cond c (Err (fault Tag w.pos)) (opaque_openly (grown w more))) more
       by_none true true e = inr refl
       by_none true false e = absurd cc
       by_none false true e = absurd cc

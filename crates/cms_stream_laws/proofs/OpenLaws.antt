@@ -1,5 +1,6 @@
 -- What open readings owe to those of slices, and open readings made of open readings.
-use Rattle.std.proofs.Common.{◌≡◌, ℕ, suc, ◌+◌, ◌-◌, ◌≤◌, Bool, true, false, cond, ltb, eqb, List, [], ◌∷◌, length, drop, Result, Ok, Err, refl, sym, ap}
+use Rattle.std.proofs.Common.{◌≡◌, ℕ, suc, ◌+◌, ◌-◌, ◌≤◌, Bool, true, false, cond, ltb, eqb, List, [], ◌∷◌, length}
+use Rattle.std.proofs.Common.{drop, Result, Ok, Err, refl, sym, ap}
 use Rattle.std.proofs.Common.{subst}
 use Rattle.std.proofs.Common.{◌∙◌, arith, inl, inr}
 use Rattle.std.proofs.lemmas.Bool.{cases_lt, ltb-false, le-ltb, eqb-true, ne_eqb}
@@ -11,8 +12,10 @@ use Rattle.der_core.specs.Reading.{fault, Spot, end_at, length_at, is_other, wit
 use Rattle.der_core.specs.Results.{◌>>=◌}
 use Rattle.der_core.proofs.ReadLengths.{chosen, ok_is, IsBytes-tail, IsBytes-take, IsBytes-drop, length_takes}
 use Rattle.der_core.proofs.Results.{bind_ok}
-use Rattle.cms_stream_laws.specs.OpenReading.{OpenSpot, open_spot, body_of, closed, is_short, ahead, lost, is_end, judged, length_in, heading, entered}
-use Rattle.cms_stream_laws.specs.OpenReading.{next_openly, enter_openly, end_openly, OpenReader, OpenBody, within_openly, ◌then_openly◌, whole_openly}
+use Rattle.cms_stream_laws.specs.OpenReading.{OpenSpot, open_spot, body_of, closed, is_short, ahead, lost, is_end}
+use Rattle.cms_stream_laws.specs.OpenReading.{judged, length_in, heading, entered}
+use Rattle.cms_stream_laws.specs.OpenReading.{next_openly, enter_openly, end_openly, OpenReader, OpenBody}
+use Rattle.cms_stream_laws.specs.OpenReading.{within_openly, ◌then_openly◌, whole_openly}
 use Rattle.cms_stream_laws.specs.OpenReading.{made_openly}
 use Rattle.cms_stream_laws.specs.OpenReading.{kept, Went, IsMet}
 use Rattle.cms_stream_laws.proofs.OpenReaders.{enter_same, both}
@@ -40,13 +43,15 @@ lost_of B = Err lost
 
 pub met_ahead : (w w' : OpenSpot) → Went w w' → IsMet w → IsMet w'
 met_ahead w w' g met =
-    subst IsMet (sym g.is) (let inside = g.inside in let d = length-drop g.count w.rest in omega (arith, d, met, inside))
+    subst IsMet (sym g.is)
+    (let inside = g.inside in let d = length-drop g.count w.rest in omega (arith, d, met, inside))
 
 pub bytes_ahead : (w w' : OpenSpot) → Went w w' → IsBytes w.rest → IsBytes w'.rest
 bytes_ahead w w' g fits = subst (λ (v : OpenSpot). IsBytes v.rest) (sym g.is) (IsBytes-drop g.count w.rest fits)
 
 open_is : (l m n k : ℕ) (xs ys : List ℕ) → l ≡ m → n ≡ k → xs ≡ ys → open_spot l n xs ≡ open_spot m k ys
-open_is l m n k xs ys e f g = ap (λ (j : ℕ). open_spot j n xs) e ∙ ap (λ (j : ℕ). open_spot m j xs) f ∙ ap (open_spot m k) g
+open_is l m n k xs ys e f g =
+    ap (λ (j : ℕ). open_spot j n xs) e ∙ ap (λ (j : ℕ). open_spot m j xs) f ∙ ap (open_spot m k) g
 
 pub went_on : (w v u : OpenSpot) → Went w v → Went v u → Went w u
 went_on w v u g h =
@@ -60,11 +65,17 @@ went_on w v u g h =
       count = g.count + h.count;
       inside = omega (arith, gi, hi, v-left);
       there = omega (arith, gt, ht, size);
-      is = h.is ∙ open_is _ _ _ _ _ _ (omega (arith, v-left)) (omega (arith, v-pos)) (ap (drop h.count) v-rest ∙ drop-drop h.count g.count w.rest);
+      is = h.is ∙ open_is _ _ _ _ _ _ (omega (arith, v-left)) (omega (arith, v-pos))
+          (ap (drop h.count) v-rest ∙ drop-drop h.count g.count w.rest);
     }
 
 pub went_nowhere : (w : OpenSpot) → Went w w
-went_nowhere w = record { count = 0; inside = omega arith; there = omega arith; is = open_is _ _ _ _ _ _ (omega arith) (omega arith) refl }
+went_nowhere w = record {
+  count = 0;
+  inside = omega arith;
+  there = omega arith;
+  is = open_is _ _ _ _ _ _ (omega arith) (omega arith) refl;
+}
 
 -- ---- the header of an element
 
@@ -91,14 +102,17 @@ pub length_there : (w : OpenSpot) (xs : List ℕ) (l : ℕ) → IsBytes xs → l
 length_there w [] l fits e = absurd cc
 length_there w (t ∷ ys) l fits e = by_identifier (is_tag t) e
   where
-    by_length : (read : Result (ℕ × List ℕ) Fault) → length_at (w.pos + 1) ys ≡ read → (read >>= λ k. Ok k.0) ≡ Ok l → heading l ≤ suc (length ys)
+    by_length : (read : Result (ℕ × List ℕ) Fault) → length_at (w.pos + 1) ys ≡ read → (read >>= λ k. Ok k.0) ≡ Ok l
+        → heading l ≤ suc (length ys)
     by_length (Err f) is h = absurd cc
     by_length (Ok k) is h =
         let parts = (length_takes (w.pos + 1) ys k.0 k.1 (IsBytes-tail t ys fits) is).0 in
         let l-is : k.0 ≡ l = ok_is k.0 l h in
-        subst (λ (j : ℕ). heading j ≤ suc (length ys)) l-is (omega (arith, ap length parts, length-append (len k.0) k.1))
+        subst (λ (j : ℕ). heading j ≤ suc (length ys)) l-is
+        (omega (arith, ap length parts, length-append (len k.0) k.1))
 
-    by_identifier : (b : Bool) → cond b (length_at (w.pos + 1) ys >>= λ k. Ok k.0) (Err (fault HighTag w.pos)) ≡ Ok l → heading l ≤ suc (length ys)
+    by_identifier : (b : Bool) → cond b (length_at (w.pos + 1) ys >>= λ k. Ok k.0) (Err (fault HighTag w.pos)) ≡ Ok l
+        → heading l ≤ suc (length ys)
     by_identifier true h = by_length (length_at (w.pos + 1) ys) refl h
     by_identifier false h = absurd cc
 
@@ -112,7 +126,8 @@ next_went w x fits e =
     let there = length_there w (body_of w) l (IsBytes-take w.left w.rest fits) (judged_ok w _ l b.1) in
     let shorter = length-take w.left w.rest in
     let over : Both = Err (fault Overrun w.pos) in
-    let in-out : OpenSpot × OpenSpot = (open_spot l (w.pos + heading l) (drop (heading l) w.rest), ahead (heading l + l) w) in
+    let in-out : OpenSpot
+    × OpenSpot = (open_spot l (w.pos + heading l) (drop (heading l) w.rest), ahead (heading l + l) w) in
     let good : Both = Ok in-out in
     elim (chosen (ltb w.left (heading l + l)) over good (Ok x) b.2) [
       | inl g ↦ absurd cc
@@ -127,7 +142,8 @@ next_went w x fits e =
           }
     ]
 
-pub enter_went : (tag : ℕ) (w : OpenSpot) (x : OpenSpot × OpenSpot) → IsBytes w.rest → enter_openly tag w ≡ Ok x → Entering w x
+pub enter_went : (tag : ℕ) (w : OpenSpot) (x : OpenSpot × OpenSpot) → IsBytes w.rest → enter_openly tag w ≡ Ok x
+    → Entering w x
 unfolding enter_openly
 enter_went tag w x fits e =
     let other : Both = Err (fault Tag w.pos) in
@@ -137,23 +153,32 @@ enter_went tag w x fits e =
     ]
 
 pub inside_bytes : (w : OpenSpot) (x : OpenSpot × OpenSpot) → Entering w x → IsBytes w.rest → IsBytes x.0.rest
-inside_bytes w x k fits = subst (λ (v : OpenSpot). IsBytes v.rest) (sym k.contents) (IsBytes-drop (heading k.size) w.rest fits)
+inside_bytes w x k fits =
+    subst (λ (v : OpenSpot). IsBytes v.rest) (sym k.contents) (IsBytes-drop (heading k.size) w.rest fits)
 
 pub inside_met : (w : OpenSpot) (x : OpenSpot × OpenSpot) → Entering w x → IsMet w → IsMet x.0
-inside_met w x k met = subst IsMet (sym k.contents) (let i = k.inside in let d = length-drop (heading k.size) w.rest in omega (arith, i, d, met))
+inside_met w x k met = subst IsMet (sym k.contents)
+    (let i = k.inside in let d = length-drop (heading k.size) w.rest in omega (arith, i, d, met))
 
 pub behind_went : (w : OpenSpot) (x : OpenSpot × OpenSpot) → Entering w x → IsMet x.0 → Went w x.1
 behind_went w x k met =
     let i = k.inside in let t = k.there in
-    let m : IsMet (open_spot k.size (w.pos + heading k.size) (drop (heading k.size) w.rest)) = subst IsMet k.contents met in
-    record { count = heading k.size + k.size; inside = k.inside; there = omega (arith, m, t, length-drop (heading k.size) w.rest); is = k.behind }
+    let m : IsMet (open_spot k.size (w.pos + heading k.size) (drop (heading k.size) w.rest)) =
+    subst IsMet k.contents met in
+    record {
+      count = heading k.size + k.size;
+      inside = k.inside;
+      there = omega (arith, m, t, length-drop (heading k.size) w.rest);
+      is = k.behind;
+    }
 
 pub behind_met : (w : OpenSpot) (x : OpenSpot × OpenSpot) → Entering w x → IsMet w → IsMet x.1
 behind_met w x k met = met_ahead w x.1 (behind_went w x k (inside_met w x k met)) met
 
 -- ---- a part within an element
 
-module _ {A : Type 0} (tag : ℕ) (read : Spot → Result A Fault) (openly : OpenBody A) (law : IsOpenBody read openly) where
+module _ {A : Type 0} (tag : ℕ) (read : Spot → Result A Fault) (openly : OpenBody A)
+    (law : IsOpenBody read openly) where
   abbrev inside_read : Spot × Spot → Result (A × Spot) Fault
   inside_read x = read x.0 >>= λ a. Ok (a, x.1)
 
@@ -164,10 +189,12 @@ module _ {A : Type 0} (tag : ℕ) (read : Spot → Result A Fault) (openly : Ope
   paired (Ok a) v = refl
   paired (Err f) v = refl
 
-  inside_same : (x : OpenSpot × OpenSpot) → IsMet x.0 → IsBytes x.0.rest → inside_read (closed x.0, closed x.1) ≡ (inside_open x >>= seen)
+  inside_same : (x : OpenSpot × OpenSpot) → IsMet x.0 → IsBytes x.0.rest
+      → inside_read (closed x.0, closed x.1) ≡ (inside_open x >>= seen)
   inside_same x met fits = rw (law.same x.0 met fits) (paired (openly x.0) x.1)
 
-  by_entering : (w : OpenSpot) (r : Both) → enter_openly tag w ≡ r → IsMet w → IsBytes w.rest → ((r >>= both) >>= inside_read) ≡ ((r >>= inside_open) >>= seen)
+  by_entering : (w : OpenSpot) (r : Both) → enter_openly tag w ≡ r → IsMet w → IsBytes w.rest
+      → ((r >>= both) >>= inside_read) ≡ ((r >>= inside_open) >>= seen)
   by_entering w (Err f) e met fits = refl
   by_entering w (Ok x) e met fits =
       let k = enter_went tag w x fits e in
@@ -180,12 +207,14 @@ module _ {A : Type 0} (tag : ℕ) (read : Spot → Result A Fault) (openly : Ope
         let a = bind_ok (enter_openly tag w) inside_open y e in
         let b = bind_ok (openly a.0.0) (λ v. Ok (v, a.0.1)) y a.2 in
         let k = enter_went tag w a.0 fits a.1 in
-        subst (λ (z : A × OpenSpot). Went w z.1) (ok_is (b.0, a.0.1) y b.2) (behind_went w a.0 k (law.met a.0.0 b.0 (inside_bytes w a.0 k fits) b.1));
+        subst (λ (z : A × OpenSpot). Went w z.1) (ok_is (b.0, a.0.1) y b.2)
+        (behind_went w a.0 k (law.met a.0.0 b.0 (inside_bytes w a.0 k fits) b.1));
   }
 
 -- ---- one part and then another
 
-module _ {A B : Type 0} (first : Spot → Result (A × Spot) Fault) (first' : OpenReader A) (law : IsOpenReader first first')
+module _ {A B : Type 0} (first : Spot → Result (A × Spot) Fault) (first' : OpenReader A)
+    (law : IsOpenReader first first')
     (second : Spot → Result (B × Spot) Fault) (second' : OpenReader B) (law' : IsOpenReader second second') where
   abbrev next_read : A × Spot → Result ((A × B) × Spot) Fault
   next_read x = second x.1 >>= λ y. Ok ((x.0, y.0), y.1)
@@ -218,7 +247,8 @@ module _ {A B : Type 0} (first : Spot → Result (A × Spot) Fault) (first' : Op
         let b = bind_ok (second' a.0.1) (λ z. Ok ((a.0.0, z.0), z.1)) y a.2 in
         let g = law.went w a.0 fits a.1 in
         let h = law'.went a.0.1 b.0 (bytes_ahead w a.0.1 g fits) b.1 in
-        subst (λ (z : (A × B) × OpenSpot). Went w z.1) (ok_is ((a.0.0, b.0.0), b.0.1) y b.2) (went_on w a.0.1 b.0.1 g h);
+        subst (λ (z : (A × B) × OpenSpot). Went w z.1) (ok_is ((a.0.0, b.0.0), b.0.1) y b.2)
+        (went_on w a.0.1 b.0.1 g h);
   }
 
 -- ---- a whole body
@@ -245,14 +275,16 @@ end_met w u e = elim (chosen (eqb w.left 0) _ _ _ e) [
   ]
 ]
 
-module _ {A : Type 0} (parts : Spot → Result (A × Spot) Fault) (parts' : OpenReader A) (law : IsOpenReader parts parts') where
+module _ {A : Type 0} (parts : Spot → Result (A × Spot) Fault) (parts' : OpenReader A)
+    (law : IsOpenReader parts parts') where
   abbrev ends_read : A × Spot → Result A Fault
   ends_read x = end_at x.1 >>= λ u. Ok x.0
 
   abbrev ends_open : A × OpenSpot → Result A Fault
   ends_open x = end_openly x.1 >>= λ u. Ok x.0
 
-  by_parts : (w : OpenSpot) (r : Result (A × OpenSpot) Fault) → parts' w ≡ r → IsMet w → IsBytes w.rest → ((r >>= seen) >>= ends_read) ≡ (r >>= ends_open)
+  by_parts : (w : OpenSpot) (r : Result (A × OpenSpot) Fault) → parts' w ≡ r → IsMet w → IsBytes w.rest
+      → ((r >>= seen) >>= ends_read) ≡ (r >>= ends_open)
   by_parts w (Err f) e met fits = refl
   by_parts w (Ok x) e met fits = rw (end_same x.1 (met_ahead w x.1 (law.went w x fits e) met)) refl
 
@@ -269,7 +301,8 @@ module _ {A : Type 0} (parts : Spot → Result (A × Spot) Fault) (parts' : Open
         omega (arith, none, left, there);
   }
 
-module _ {A B : Type 0} (to : A → B) (read : Spot → Result A Fault) (openly : OpenBody A) (law : IsOpenBody read openly) where
+module _ {A B : Type 0} (to : A → B) (read : Spot → Result A Fault) (openly : OpenBody A)
+    (law : IsOpenBody read openly) where
   pub made_open : IsOpenBody (made to read) (made_openly to openly)
   made_open = record {
     same = λ w met fits. ap (λ (r : Result A Fault). r >>= λ x. done (to x)) (law.same w met fits);

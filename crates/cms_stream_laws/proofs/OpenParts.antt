@@ -1,5 +1,6 @@
 -- Open readings of parts that may be absent, of lists, and of a body whose rest depends on its first element.
-use Rattle.std.proofs.Common.{◌≡◌, ℕ, zero, suc, ◌+◌, ◌-◌, ◌<◌, ◌≤◌, Bool, true, false, cond, eqb, List, [], ◌∷◌, length, Option, Some, None, Result, Ok, Err}
+use Rattle.std.proofs.Common.{◌≡◌, ℕ, zero, suc, ◌+◌, ◌-◌, ◌<◌, ◌≤◌, Bool, true, false, cond, eqb, List, [], ◌∷◌}
+use Rattle.std.proofs.Common.{length, Option, Some, None, Result, Ok, Err}
 use Rattle.std.proofs.Common.{refl, ap, subst, arith, inl, inr, ◌⊎◌}
 use Rattle.std.proofs.lemmas.Bool.{cases_lt, eqb-true, ne_eqb}
 use Rattle.std.proofs.lemmas.List.{length-take-le, length-drop}
@@ -10,9 +11,12 @@ use Rattle.der_core.specs.Reading.{Spot, none_in, none_at, within, maybe, last, 
 use Rattle.der_core.specs.Results.{◌>>=◌}
 use Rattle.der_core.proofs.ReadLengths.{chosen, ok_is}
 use Rattle.der_core.proofs.Results.{bind_ok}
-use Rattle.cms_stream_laws.specs.OpenReading.{OpenSpot, body_of, closed, ahead, lost, heading, enter_openly, OpenReader, OpenBody, within_openly, maybe_openly}
-use Rattle.cms_stream_laws.specs.OpenReading.{last_openly, looked, switched_openly, many_openly_from, many_openly, Went, IsMet}
-use Rattle.cms_stream_laws.proofs.OpenLaws.{seen, done, IsOpenReader, IsOpenBody, met_ahead, bytes_ahead, went_nowhere, enter_went, within_open}
+use Rattle.cms_stream_laws.specs.OpenReading.{OpenSpot, body_of, closed, ahead, lost, heading, enter_openly, OpenReader}
+use Rattle.cms_stream_laws.specs.OpenReading.{OpenBody, within_openly, maybe_openly}
+use Rattle.cms_stream_laws.specs.OpenReading.{last_openly, looked, switched_openly, many_openly_from, many_openly, Went}
+use Rattle.cms_stream_laws.specs.OpenReading.{IsMet}
+use Rattle.cms_stream_laws.proofs.OpenLaws.{seen, done, IsOpenReader, IsOpenBody, met_ahead, bytes_ahead, went_nowhere}
+use Rattle.cms_stream_laws.proofs.OpenLaws.{enter_went, within_open}
 
 -- an octet of the body is there, or none is left
 pub looked_met : {A : Type 0} (w : OpenSpot) (r : Result A Fault) → IsMet w → looked w r ≡ r
@@ -33,7 +37,8 @@ looked_ok {A} w r x e = by_left (eqb w.left 0) (eqb (length w.rest) 0) e
     by_left false true h = absurd cc
     by_left false false h = h
 
-module _ {A : Type 0} (tag : ℕ) (read : Spot → Result A Fault) (openly : OpenBody A) (law : IsOpenBody read openly) where
+module _ {A : Type 0} (tag : ℕ) (read : Spot → Result A Fault) (openly : OpenBody A)
+    (law : IsOpenBody read openly) where
   abbrev some_read : A × Spot → Result (Option A × Spot) Fault
   some_read x = Ok (Some x.0, x.1)
 
@@ -44,13 +49,17 @@ module _ {A : Type 0} (tag : ℕ) (read : Spot → Result A Fault) (openly : Ope
   some_same (Ok x) = refl
   some_same (Err f) = refl
 
-  present_same : (w : OpenSpot) → IsMet w → IsBytes w.rest → (within tag read (closed w) >>= some_read) ≡ ((within_openly tag openly w >>= some_open) >>= seen)
-  present_same w met fits = rw ((within_open tag read openly law).same w met fits) (some_same (within_openly tag openly w))
+  present_same : (w : OpenSpot) → IsMet w → IsBytes w.rest
+      → (within tag read (closed w) >>= some_read) ≡ ((within_openly tag openly w >>= some_open) >>= seen)
+  present_same w met fits =
+      rw ((within_open tag read openly law).same w met fits) (some_same (within_openly tag openly w))
 
-  present_went : (w : OpenSpot) (y : Option A × OpenSpot) → IsBytes w.rest → (within_openly tag openly w >>= some_open) ≡ Ok y → Went w y.1
+  present_went : (w : OpenSpot) (y : Option A × OpenSpot) → IsBytes w.rest
+      → (within_openly tag openly w >>= some_open) ≡ Ok y → Went w y.1
   present_went w y fits e =
       let a = bind_ok (within_openly tag openly w) some_open y e in
-      subst (λ (z : Option A × OpenSpot). Went w z.1) (ok_is (Some a.0.0, a.0.1) y a.2) ((within_open tag read openly law).went w a.0 fits a.1)
+      subst (λ (z : Option A × OpenSpot). Went w z.1) (ok_is (Some a.0.0, a.0.1) y a.2)
+      ((within_open tag read openly law).went w a.0 fits a.1)
 
   abbrev Parted : Type 0
   Parted = Result (Option A × OpenSpot) Fault
@@ -61,7 +70,8 @@ module _ {A : Type 0} (tag : ℕ) (read : Spot → Result A Fault) (openly : Ope
   pub maybe_open : IsOpenReader (maybe tag read) (maybe_openly tag openly)
   maybe_open = record {
     same =
-        λ w met fits. rw (looked_met w (cond (has_tag tag (body_of w)) (within_openly tag openly w >>= some_open) (absent_open w)) met)
+        λ w met fits. rw (looked_met w
+        (cond (has_tag tag (body_of w)) (within_openly tag openly w >>= some_open) (absent_open w)) met)
         (by_stands w (has_tag tag (body_of w)) met fits);
     went =
         λ w y fits e. went_by w y (has_tag tag (body_of w)) fits
@@ -74,7 +84,8 @@ module _ {A : Type 0} (tag : ℕ) (read : Spot → Result A Fault) (openly : Ope
       by_stands w true met fits = present_same w met fits
       by_stands w false met fits = refl
 
-      went_by : (w : OpenSpot) (y : Option A × OpenSpot) (b : Bool) → IsBytes w.rest → cond b (within_openly tag openly w >>= some_open) (absent_open w) ≡ Ok y
+      went_by : (w : OpenSpot) (y : Option A × OpenSpot) (b : Bool) → IsBytes w.rest
+          → cond b (within_openly tag openly w >>= some_open) (absent_open w) ≡ Ok y
           → Went w y.1
       went_by w y true fits h = present_went w y fits h
       went_by w y false fits h = subst (λ (z : Option A × OpenSpot). Went w z.1) (ok_is (None, w) y h) (went_nowhere w)
@@ -86,24 +97,28 @@ module _ {A : Type 0} (tag : ℕ) (read : Spot → Result A Fault) (openly : Ope
   unfolding none_at
   last_open = record {
     same =
-        λ w met fits. rw (looked_met w (cond (has_tag tag (body_of w)) (within_openly tag openly w >>= some_open) (none_open w)) met)
+        λ w met fits. rw
+        (looked_met w (cond (has_tag tag (body_of w)) (within_openly tag openly w >>= some_open) (none_open w)) met)
         (by_stands w (has_tag tag (body_of w)) met fits);
     went =
         λ w y fits e. went_by w y (has_tag tag (body_of w)) fits
         (looked_ok w (cond (has_tag tag (body_of w)) (within_openly tag openly w >>= some_open) (none_open w)) y e);
   }
     where
-      absent_same : (w : OpenSpot) (r : Result (Unit {0}) Fault) → (r >>= λ u. Ok (None, closed w)) ≡ ((r >>= λ u. absent_open w) >>= seen)
+      absent_same : (w : OpenSpot) (r : Result (Unit {0}) Fault)
+          → (r >>= λ u. Ok (None, closed w)) ≡ ((r >>= λ u. absent_open w) >>= seen)
       absent_same w (Ok u) = refl
       absent_same w (Err f) = refl
 
       by_stands : (w : OpenSpot) (b : Bool) → IsMet w → IsBytes w.rest
-          → cond b (within tag read (closed w) >>= some_read) (none_in (closed w) (body_of w) >>= λ u. Ok (None, closed w))
+          → cond b (within tag read (closed w) >>= some_read)
+          (none_in (closed w) (body_of w) >>= λ u. Ok (None, closed w))
           ≡ (cond b (within_openly tag openly w >>= some_open) (none_open w) >>= seen)
       by_stands w true met fits = present_same w met fits
       by_stands w false met fits = absent_same w (none_in (closed w) (body_of w))
 
-      went_by : (w : OpenSpot) (y : Option A × OpenSpot) (b : Bool) → IsBytes w.rest → cond b (within_openly tag openly w >>= some_open) (none_open w) ≡ Ok y
+      went_by : (w : OpenSpot) (y : Option A × OpenSpot) (b : Bool) → IsBytes w.rest
+          → cond b (within_openly tag openly w >>= some_open) (none_open w) ≡ Ok y
           → Went w y.1
       went_by w y true fits h = present_went w y fits h
       went_by w y false fits h =
@@ -131,7 +146,8 @@ within_goes_on {A} tag openly w y fits e =
     let left : a.0.1.left ≡ w.left - (heading k.size + k.size) = ap (λ (v : OpenSpot). v.left) k.behind in
     subst (λ (z : A × OpenSpot). z.1.left < w.left) (ok_is (b.0, a.0.1) y b.2) (omega (arith, left, i))
 
-module _ {A : Type 0} (read : Spot → Result (A × Spot) Fault) (openly : OpenReader A) (law : IsOpenReader read openly) (on : GoesOn openly) where
+module _ {A : Type 0} (read : Spot → Result (A × Spot) Fault) (openly : OpenReader A) (law : IsOpenReader read openly)
+    (on : GoesOn openly) where
   abbrev Listed : Type 0
   Listed = Result (List A) Fault
 
@@ -141,8 +157,10 @@ module _ {A : Type 0} (read : Spot → Result (A × Spot) Fault) (openly : OpenR
   abbrev others_open : ℕ → A × OpenSpot → Listed
   others_open k x = many_openly_from openly k x.1 >>= λ xs. Ok (x.0 ∷ xs)
 
-  by_item : (k : ℕ) (v : OpenSpot) (r : Result (A × OpenSpot) Fault) → openly v ≡ r → IsMet v → IsBytes v.rest → v.left ≤ suc k
-      → ((u : OpenSpot) → IsMet u → IsBytes u.rest → u.left ≤ k → many_from read k (closed u) ≡ many_openly_from openly k u)
+  by_item : (k : ℕ) (v : OpenSpot) (r : Result (A × OpenSpot) Fault) → openly v ≡ r → IsMet v → IsBytes v.rest
+      → v.left ≤ suc k
+      → ((u : OpenSpot) → IsMet u → IsBytes u.rest → u.left ≤ k
+      → many_from read k (closed u) ≡ many_openly_from openly k u)
       → ((r >>= seen) >>= others_read k) ≡ (r >>= others_open k)
   by_item k v (Err f) e m fits h same = refl
   by_item k v (Ok x) e m fits h same =
@@ -150,7 +168,8 @@ module _ {A : Type 0} (read : Spot → Result (A × Spot) Fault) (openly : OpenR
       let o = on v x fits e in
       rw (same x.1 (met_ahead v x.1 g m) (bytes_ahead v x.1 g fits) (omega (arith, o, h))) refl
 
-  many_same : (k : ℕ) (w : OpenSpot) → IsMet w → IsBytes w.rest → w.left ≤ k → many_from read k (closed w) ≡ many_openly_from openly k w
+  many_same : (k : ℕ) (w : OpenSpot) → IsMet w → IsBytes w.rest → w.left ≤ k
+      → many_from read k (closed w) ≡ many_openly_from openly k w
   unfolding many_from many_openly_from
   many_same zero w met fits le = let none : w.left ≡ 0 = omega (arith, le) in rw none refl
   many_same (suc k) w met fits le =
@@ -159,7 +178,8 @@ module _ {A : Type 0} (read : Spot → Result (A × Spot) Fault) (openly : OpenR
             let size : length (body_of w) ≡ w.left = length-take-le w.left w.rest met in
             let some : eqb w.left 0 ≡ false = ne_eqb w.left 0 (λ z. omega (arith, z, lt)) in
             let here : eqb (length w.rest) 0 ≡ false = ne_eqb (length w.rest) 0 (λ z. omega (arith, z, lt, met)) in
-            rw (size, some, here, law.same w met fits) (by_item k w (openly w) refl met fits le (λ v m f h. many_same k v m f h))
+            rw (size, some, here, law.same w met fits)
+            (by_item k w (openly w) refl met fits le (λ v m f h. many_same k v m f h))
         | inr le0 ↦
             let size : length (body_of w) ≡ w.left = length-take-le w.left w.rest met in
             let none : w.left ≡ 0 = omega (arith, le0) in rw (size, none) refl
@@ -188,14 +208,17 @@ module _ {A : Type 0} (read : Spot → Result (A × Spot) Fault) (openly : OpenR
   pub many_open : IsOpenBody (many_in read) (many_openly openly)
   unfolding many_in
   many_open = record {
-    same = λ w met fits. let size : length (body_of w) ≡ w.left = length-take-le w.left w.rest met in rw size (many_same w.left w met fits (omega arith));
+    same = λ w met fits. let size : length (body_of w) ≡ w.left = length-take-le w.left w.rest met in
+        rw size (many_same w.left w met fits (omega arith));
     met = λ w xs fits e. many_met w.left w xs fits e;
   }
 
 -- ---- a body whose rest depends on its first element
 
-module _ {A B : Type 0} (tag : ℕ) (inside : Spot → Result (List ℕ) Fault) (inside' : OpenBody (List ℕ)) (law : IsOpenBody inside inside') (these : List ℕ)
-    (same : Spot → Result A Fault) (same' : OpenBody A) (law-same : IsOpenBody same same') (other : Spot → Result B Fault) (other' : OpenBody B)
+module _ {A B : Type 0} (tag : ℕ) (inside : Spot → Result (List ℕ) Fault) (inside' : OpenBody (List ℕ))
+    (law : IsOpenBody inside inside') (these : List ℕ)
+    (same : Spot → Result A Fault) (same' : OpenBody A) (law-same : IsOpenBody same same')
+    (other : Spot → Result B Fault) (other' : OpenBody B)
     (law-other : IsOpenBody other other') where
   abbrev Switched : Type 0
   Switched = Result (A ⊎ (List ℕ × B)) Fault
@@ -212,7 +235,8 @@ module _ {A B : Type 0} (tag : ℕ) (inside : Spot → Result (List ℕ) Fault) 
   abbrev rest_open : List ℕ × OpenSpot → Switched
   rest_open x = cond (is_same these x.0) (same' x.1 >>= left_of) (other' x.1 >>= right_of x.0)
 
-  by_first : (w : OpenSpot) (r : Result (List ℕ × OpenSpot) Fault) → within_openly tag inside' w ≡ r → IsMet w → IsBytes w.rest
+  by_first : (w : OpenSpot) (r : Result (List ℕ × OpenSpot) Fault) → within_openly tag inside' w ≡ r → IsMet w
+      → IsBytes w.rest
       → ((r >>= seen) >>= rest_read) ≡ (r >>= rest_open)
   by_first w (Err f) e met fits = refl
   by_first w (Ok x) e met fits =
@@ -223,7 +247,8 @@ module _ {A B : Type 0} (tag : ℕ) (inside : Spot → Result (List ℕ) Fault) 
 
   pub switched_open : IsOpenBody (switched tag inside these same other) (switched_openly tag inside' these same' other')
   switched_open = record {
-    same = λ w met fits. rw ((within_open tag inside inside' law).same w met fits) (by_first w (within_openly tag inside' w) refl met fits);
+    same = λ w met fits. rw ((within_open tag inside inside' law).same w met fits)
+        (by_first w (within_openly tag inside' w) refl met fits);
     met = λ w y fits e.
         let a = bind_ok (within_openly tag inside' w) rest_open y e in
         let g = (within_open tag inside inside' law).went w a.0 fits a.1 in
@@ -231,7 +256,8 @@ module _ {A B : Type 0} (tag : ℕ) (inside : Spot → Result (List ℕ) Fault) 
   }
     where
       rest_met : (x : List ℕ × OpenSpot) (y : A ⊎ (List ℕ × B)) → IsBytes x.1.rest → rest_open x ≡ Ok y → IsMet x.1
-      rest_met x y fits e = elim (chosen (is_same these x.0) (same' x.1 >>= left_of) (other' x.1 >>= right_of x.0) (Ok y) e) [
-        | inl h ↦ let b = bind_ok (same' x.1) left_of y h.1 in law-same.met x.1 b.0 fits b.1
-        | inr h ↦ let b = bind_ok (other' x.1) (right_of x.0) y h.1 in law-other.met x.1 b.0 fits b.1
-      ]
+      rest_met x y fits e =
+          elim (chosen (is_same these x.0) (same' x.1 >>= left_of) (other' x.1 >>= right_of x.0) (Ok y) e) [
+            | inl h ↦ let b = bind_ok (same' x.1) left_of y h.1 in law-same.met x.1 b.0 fits b.1
+            | inr h ↦ let b = bind_ok (other' x.1) (right_of x.0) y h.1 in law-other.met x.1 b.0 fits b.1
+          ]

@@ -1,15 +1,18 @@
 -- Open readings give what the readings of slices give, where the body is whole.
-use Rattle.std.proofs.Common.{◌≡◌, ℕ, ◌+◌, ◌-◌, ◌≤◌, Bool, true, false, cond, List, [], ◌∷◌, ◌++◌, length, take, drop, Result, Ok, Err, refl, sym, ap, subst}
+use Rattle.std.proofs.Common.{◌≡◌, ℕ, ◌+◌, ◌-◌, ◌≤◌, Bool, true, false, cond, List, [], ◌∷◌, ◌++◌, length, take, drop}
+use Rattle.std.proofs.Common.{Result, Ok, Err, refl, sym, ap, subst}
 use Rattle.std.proofs.Common.{◌∙◌, arith, inl, inr}
 use Rattle.std.proofs.lemmas.Bool.{cases_lt, lt-ltb, le-ltb}
 use Rattle.std.proofs.lemmas.List.{drop_at, length-take-le, length-append, length-drop, take-take, drop-drop, drop-take}
 use Rattle.der_core.specs.declared.fault.Fault.{Fault}
 use Rattle.der_core.specs.declared.fault.Kind.TheVariants.{Tag}
 use Rattle.der_core.specs.Element.{is_tag, len, IsBytes}
-use Rattle.der_core.specs.Reading.{fault, Spot, spot, Taken, body_at, element_in, next_at, expect_at, enter_at, length_at, is_other}
+use Rattle.der_core.specs.Reading.{fault, Spot, spot, Taken, body_at, element_in, next_at, expect_at, enter_at}
+use Rattle.der_core.specs.Reading.{length_at, is_other}
 use Rattle.der_core.specs.Results.{◌>>=◌}
 use Rattle.der_core.proofs.ReadLengths.{IsBytes-tail, IsBytes-take, length_takes}
-use Rattle.cms_stream_laws.specs.OpenReading.{OpenSpot, body_of, closed, is_short, judged, length_in, heading, entered, next_openly, enter_openly, IsMet}
+use Rattle.cms_stream_laws.specs.OpenReading.{OpenSpot, body_of, closed, is_short, judged, length_in, heading, entered}
+use Rattle.cms_stream_laws.specs.OpenReading.{next_openly, enter_openly, IsMet}
 
 -- ---- the contents of a body that is whole
 
@@ -35,7 +38,8 @@ pub take_body : (n m left : ℕ) (xs : List ℕ) → n + m ≤ left → take m (
 take_body n m left xs h =
     let k : ℕ = left - n in
     let is : n + k ≡ left = omega arith in
-    let e : drop n (take left xs) ≡ take k (drop n xs) = subst (λ (j : ℕ). drop n (take j xs) ≡ take k (drop n xs)) is (drop-take n k xs) in
+    let e : drop n (take left xs) ≡ take k (drop n xs) =
+    subst (λ (j : ℕ). drop n (take j xs) ≡ take k (drop n xs)) is (drop-take n k xs) in
     ap (take m) e ∙ take-take m k (drop n xs) (omega arith)
 
 pub drop_body : (n left : ℕ) (xs : List ℕ) → n ≤ left → drop n (take left xs) ≡ take (left - n) (drop n xs)
@@ -45,7 +49,8 @@ drop_body n left xs h =
     subst (λ (j : ℕ). drop n (take j xs) ≡ take k (drop n xs)) is (drop-take n k xs)
 
 -- the header stands, and states l
-entered_same : (w : OpenSpot) (t l : ℕ) (r : List ℕ) → IsMet w → body_of w ≡ t ∷ (len l ++ r) → (body_at (closed w) t (l, r) >>= inner) ≡ (entered w l >>= both)
+entered_same : (w : OpenSpot) (t l : ℕ) (r : List ℕ) → IsMet w → body_of w ≡ t ∷ (len l ++ r)
+    → (body_at (closed w) t (l, r) >>= inner) ≡ (entered w l >>= both)
 entered_same w t l r met is =
     let c : ℕ = heading l in
     let all : List ℕ = body_of w in
@@ -62,8 +67,10 @@ entered_same w t l r met is =
           let back : drop l r ≡ take (w.left - (c + l)) (drop (c + l) w.rest) =
           ap (drop l) (sym tail) ∙ drop-drop l c all ∙ drop_body (c + l) w.left w.rest le in
           let at : w.pos + (length all - length (drop l r)) ≡ w.pos + (c + l) = omega (arith, size, dropped, enough) in
-          let at-inner : w.pos + (length all - length (drop l r)) - length (take l r) ≡ w.pos + c = omega (arith, size, dropped, enough, took) in
-          rw (le-ltb w.left (c + l) le, le-ltb (length r) l enough) (pair_is _ _ _ _ (spot_is _ _ _ _ at-inner front) (spot_is _ _ _ _ at back))
+          let at-inner : w.pos + (length all - length (drop l r)) - length (take l r) ≡ w.pos + c =
+          omega (arith, size, dropped, enough, took) in
+          rw (le-ltb w.left (c + l) le, le-ltb (length r) l enough)
+          (pair_is _ _ _ _ (spot_is _ _ _ _ at-inner front) (spot_is _ _ _ _ at back))
     ]
 
 not_short : (w : OpenSpot) → IsMet w → is_short w ≡ false
@@ -77,7 +84,8 @@ abbrev Length : Type 0
 Length = Result (ℕ × List ℕ) Fault
 
 -- a length that is read, seen apart
-read_same : (w : OpenSpot) (t : ℕ) (ys : List ℕ) (read : Length) → IsMet w → IsBytes ys → body_of w ≡ t ∷ ys → length_at (w.pos + 1) ys ≡ read
+read_same : (w : OpenSpot) (t : ℕ) (ys : List ℕ) (read : Length) → IsMet w → IsBytes ys → body_of w ≡ t ∷ ys
+    → length_at (w.pos + 1) ys ≡ read
     → ((read >>= body_at (closed w) t) >>= inner) ≡ (((read >>= λ l. Ok l.0) >>= entered w) >>= both)
 read_same w t ys (Err f) met fits is e = refl
 read_same w t ys (Ok l) met fits is e =
@@ -88,16 +96,19 @@ element_same : (w : OpenSpot) (xs : List ℕ) → IsMet w → IsBytes xs → bod
 element_same w [] met fits is = refl
 element_same w (t ∷ ys) met fits is = by_identifier (is_tag t) refl
   where
-    by_identifier : (b : Bool) → is_tag t ≡ b → (element_in (closed w) (t ∷ ys) >>= inner) ≡ ((length_in w (t ∷ ys) >>= entered w) >>= both)
+    by_identifier : (b : Bool) → is_tag t ≡ b
+        → (element_in (closed w) (t ∷ ys) >>= inner) ≡ ((length_in w (t ∷ ys) >>= entered w) >>= both)
     by_identifier true id = rw id (read_same w t ys (length_at (w.pos + 1) ys) met (IsBytes-tail t ys fits) is refl)
     by_identifier false id = rw id refl
 
 -- whatever its tag
 pub next_same : (w : OpenSpot) → IsMet w → IsBytes w.rest → (next_at (closed w) >>= inner) ≡ (next_openly w >>= both)
 unfolding next_at
-next_same w met fits = rw (judged_met w (length_in w (body_of w)) met) (element_same w (body_of w) met (IsBytes-take w.left w.rest fits) refl)
+next_same w met fits = rw (judged_met w (length_in w (body_of w)) met)
+    (element_same w (body_of w) met (IsBytes-take w.left w.rest fits) refl)
 
-pub enter_same : (tag : ℕ) (w : OpenSpot) → IsMet w → IsBytes w.rest → enter_at tag (closed w) ≡ (enter_openly tag w >>= both)
+pub enter_same : (tag : ℕ) (w : OpenSpot) → IsMet w → IsBytes w.rest
+    → enter_at tag (closed w) ≡ (enter_openly tag w >>= both)
 unfolding enter_at expect_at next_at enter_openly
 enter_same tag w met fits = by_tag (is_other tag (body_of w)) refl
   where
@@ -105,4 +116,5 @@ enter_same tag w met fits = by_tag (is_other tag (body_of w)) refl
         → (cond b (Err (fault Tag w.pos)) (element_in (closed w) (body_of w)) >>= inner)
         ≡ (cond b (Err (fault Tag w.pos)) (judged w (length_in w (body_of w)) >>= entered w) >>= both)
     by_tag true e = refl
-    by_tag false e = rw (judged_met w (length_in w (body_of w)) met) (element_same w (body_of w) met (IsBytes-take w.left w.rest fits) refl)
+    by_tag false e = rw (judged_met w (length_in w (body_of w)) met)
+        (element_same w (body_of w) met (IsBytes-take w.left w.rest fits) refl)

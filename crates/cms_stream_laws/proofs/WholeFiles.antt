@@ -1,5 +1,6 @@
 -- A file that is read from the left, its end unknown, is read as a slice is.
-use Rattle.std.proofs.Common.{◌≡◌, ℕ, zero, suc, ◌+◌, ◌-◌, ◌<◌, ◌≤◌, slice_index, Bool, true, false, List, [], ◌∷◌, ◌++◌, length, take, drop, Result, Ok, Err}
+use Rattle.std.proofs.Common.{◌≡◌, ℕ, zero, suc, ◌+◌, ◌-◌, ◌<◌, ◌≤◌, slice_index, Bool, true, false, List, [], ◌∷◌}
+use Rattle.std.proofs.Common.{◌++◌, length, take, drop, Result, Ok, Err}
 use Rattle.std.proofs.Common.{refl, sym, ap, subst, ◌∙◌, arith, inl, inr, ◌⊎◌}
 use Rattle.std.proofs.lemmas.Bool.{cases_lt, lt-ltb, le-ltb, ne_eqb, eq-eqb}
 use Rattle.std.proofs.lemmas.List.{length-append, length-drop, length-take-le, drop-append-le}
@@ -13,9 +14,11 @@ use Rattle.der_core.proofs.ReadLengths.{IsBytes-drop}
 use Rattle.cms_types.specs.SignedDataValue.{ContentInfoValue}
 use Rattle.cms_types.specs.SignedDataReading.{content_info_in, content_info_at}
 use Rattle.cms_types.proofs.SignedDataReaders.{content_takes, content_fault, content_again}
-use Rattle.cms_stream_laws.specs.OpenReading.{OpenSpot, open_spot, closed, grown, ahead, lost, length_in, heading, entered, enter_openly, IsMet, StaysBody}
+use Rattle.cms_stream_laws.specs.OpenReading.{OpenSpot, open_spot, closed, grown, ahead, lost, length_in, heading}
+use Rattle.cms_stream_laws.specs.OpenReading.{entered, enter_openly, IsMet, StaysBody}
 use Rattle.cms_stream_laws.specs.OpenContentInfo.{content_info_openly, contents_of, file_end, file_openly}
-use Rattle.cms_stream_laws.specs.Laws.{Completes, CutAlike, FilesAreReadAlike, FaultsAreOfFiles, GoodFilesAreRead, ReadFilesAreGood}
+use Rattle.cms_stream_laws.specs.Laws.{Completes, CutAlike, FilesAreReadAlike, FaultsAreOfFiles, GoodFilesAreRead}
+use Rattle.cms_stream_laws.specs.Laws.{ReadFilesAreGood}
 use Rattle.cms_stream_laws.proofs.OpenReaders.{both, enter_same}
 use Rattle.cms_stream_laws.proofs.OpenLaws.{length_there}
 use Rattle.cms_stream_laws.proofs.Steady.{SizeStays, size_stays}
@@ -35,13 +38,15 @@ abbrev ended : ContentInfoValue × Spot → Answer
 ended x = end_at x.1 >>= λ u. Ok x.0
 
 -- a slice is read by its header and what that leads to
-at_header : (bytes : List ℕ) → IsBytes bytes → content_info_at bytes ≡ (((enter_openly 0x30 (all_of bytes) >>= both) >>= inside_of) >>= ended)
+at_header : (bytes : List ℕ) → IsBytes bytes
+    → content_info_at bytes ≡ (((enter_openly 0x30 (all_of bytes) >>= both) >>= inside_of) >>= ended)
 unfolding content_info_at
 at_header bytes fits =
     let whole : take (length bytes) bytes ≡ bytes = take-length bytes in
     let same = enter_same 48 (all_of bytes) (omega arith) fits in
     let entering : enter_at 0x30 (spot 0 bytes)
-    ≡ (enter_openly 0x30 (all_of bytes) >>= both) = subst (λ (xs : List ℕ). enter_at 0x30 (spot 0 xs) ≡ (enter_openly 0x30 (all_of bytes) >>= both)) whole
+    ≡ (enter_openly 0x30 (all_of bytes) >>= both) =
+    subst (λ (xs : List ℕ). enter_at 0x30 (spot 0 xs) ≡ (enter_openly 0x30 (all_of bytes) >>= both)) whole
     same in
     ap (λ (r : Result (Spot × Spot) Fault). (r >>= inside_of) >>= ended) entering
 
@@ -59,7 +64,8 @@ header_is bytes l other size =
     at_pos (x ∷ xs) = refl
 
 -- where it isn't
-header_fails : (bytes : List ℕ) (f : Fault) → is_other 0x30 bytes ≡ false → length_in (open_spot 0 0 bytes) bytes ≡ Err f
+header_fails : (bytes : List ℕ) (f : Fault) → is_other 0x30 bytes ≡ false
+    → length_in (open_spot 0 0 bytes) bytes ≡ Err f
     → enter_openly 0x30 (all_of bytes) ≡ Err f
 unfolding enter_openly
 header_fails bytes f other size =
@@ -78,7 +84,8 @@ contents_bytes : (bytes : List ℕ) (l : ℕ) → IsBytes bytes → IsBytes (con
 contents_bytes bytes l fits = IsBytes-drop (heading l) bytes fits
 
 -- the outermost element is whole
-whole_file : (bytes : List ℕ) (l : ℕ) → IsBytes bytes → is_other 0x30 bytes ≡ false → length_in (open_spot 0 0 bytes) bytes ≡ Ok l
+whole_file : (bytes : List ℕ) (l : ℕ) → IsBytes bytes → is_other 0x30 bytes ≡ false
+    → length_in (open_spot 0 0 bytes) bytes ≡ Ok l
     → heading l + l ≤ length bytes
     → content_info_at bytes ≡ (content_info_openly (contents_of bytes l) >>= file_end bytes l)
 unfolding end_at
@@ -97,10 +104,13 @@ whole_file bytes l fits other size le =
     at_end : 0 + (heading l + l) ≡ heading l + l
     at_end = omega arith
 
-    rest_size : length (take (length bytes - (heading l + l)) (drop (heading l + l) bytes)) ≡ length bytes - (heading l + l)
-    rest_size = length-take-le (length bytes - (heading l + l)) (drop (heading l + l) bytes) (omega (arith, length-drop (heading l + l) bytes))
+    rest_size : length (take (length bytes - (heading l + l)) (drop (heading l + l) bytes))
+        ≡ length bytes - (heading l + l)
+    rest_size = length-take-le (length bytes - (heading l + l)) (drop (heading l + l) bytes)
+        (omega (arith, length-drop (heading l + l) bytes))
 
-    end_is : (c : ContentInfoValue) → (end_at (closed (ahead (heading l + l) (all_of bytes))) >>= λ u. Ok c) ≡ file_end bytes l c
+    end_is : (c : ContentInfoValue)
+        → (end_at (closed (ahead (heading l + l) (all_of bytes))) >>= λ u. Ok c) ≡ file_end bytes l c
     end_is c = elim (cases_lt (heading l + l) (length bytes)) [
       | inl lt ↦ rw (
         rest_size,
@@ -109,18 +119,25 @@ whole_file bytes l fits other size le =
             (λ z. omega (arith, z, lt)),
         at_end,
       ) refl
-      | inr ge ↦ rw (rest_size, eq-eqb (length bytes - (heading l + l)) 0 (omega (arith, ge)), eq-eqb (length bytes) (heading l + l) (omega (arith, ge, le)))
+      | inr ge ↦ rw (
+        rest_size,
+        eq-eqb (length bytes - (heading l + l)) 0 (omega (arith, ge)),
+        eq-eqb (length bytes) (heading l + l) (omega (arith, ge, le)),
+      )
           refl
     ]
 
-    by_answer : (r : Answer) → ((r >>= λ a. Ok (a, closed (ahead (heading l + l) (all_of bytes)))) >>= ended) ≡ (r >>= file_end bytes l)
+    by_answer : (r : Answer)
+        → ((r >>= λ a. Ok (a, closed (ahead (heading l + l) (all_of bytes)))) >>= ended) ≡ (r >>= file_end bytes l)
     by_answer (Ok c) = end_is c
     by_answer (Err f) = refl
 
 -- it isn't: a slice that is cut is refused at its front
-cut_file : (bytes : List ℕ) (l : ℕ) → IsBytes bytes → is_other 0x30 bytes ≡ false → length_in (open_spot 0 0 bytes) bytes ≡ Ok l → length bytes < heading l + l
+cut_file : (bytes : List ℕ) (l : ℕ) → IsBytes bytes → is_other 0x30 bytes ≡ false
+    → length_in (open_spot 0 0 bytes) bytes ≡ Ok l → length bytes < heading l + l
     → content_info_at bytes ≡ Err lost
-cut_file bytes l fits other size lt = at_header bytes fits ∙ rw (header_is bytes l other size, lt-ltb (length bytes) (heading l + l) lt) refl
+cut_file bytes l fits other size lt =
+    at_header bytes fits ∙ rw (header_is bytes l other size, lt-ltb (length bytes) (heading l + l) lt) refl
 
 pub opened : (bytes : List ℕ) (l : ℕ) → is_other 0x30 bytes ≡ false → length_in (open_spot 0 0 bytes) bytes ≡ Ok l
     → file_openly bytes ≡ (content_info_openly (contents_of bytes l) >>= file_end bytes l)
@@ -128,12 +145,16 @@ unfolding file_openly
 opened bytes l other size = rw (other, size) refl
 
 -- the header is the same with more octets behind
-grown_header : (bytes more : List ℕ) (l : ℕ) → is_other 0x30 bytes ≡ false → length_in (open_spot 0 0 bytes) bytes ≡ Ok l
+grown_header : (bytes more : List ℕ) (l : ℕ) → is_other 0x30 bytes ≡ false
+    → length_in (open_spot 0 0 bytes) bytes ≡ Ok l
     → (is_other 0x30 (bytes ++ more) ≡ false) × (length_in (open_spot 0 0 (bytes ++ more)) (bytes ++ more) ≡ Ok l)
 grown_header [] more l other size = absurd cc
 grown_header (t ∷ xs) more l other size =
-    let g = size_stays (open_spot 0 0 (t ∷ xs)) (t ∷ xs) more (open_spot 0 0 (t ∷ xs ++ more)) refl in
-    (other, subst (λ (r : Result ℕ Fault). SizeStays r (length_in (open_spot 0 0 (t ∷ xs ++ more)) (t ∷ xs ++ more))) size g)
+    let g = size_stays (open_spot 0 0 (t ∷ xs)) (t ∷ xs) more (open_spot 0 0 (t ∷ xs ++ more)) refl in (
+      other,
+      subst
+          (λ (r : Result ℕ Fault). SizeStays r (length_in (open_spot 0 0 (t ∷ xs ++ more)) (t ∷ xs ++ more))) size g,
+    )
 
 bytes_joined : (bytes more : List ℕ) → IsBytes bytes → IsBytes more → (i : ℕ) → slice_index (bytes ++ more) i < 256
 bytes_joined [] more h g i = g i
@@ -145,8 +166,10 @@ unfolding enter_openly
 header_other bytes other = rw (take-length bytes, other) refl
 
 -- what the octets that are there show is shown by each file that they begin
-cut_always : (bytes : List ℕ) (l : ℕ) (f : Fault) → IsBytes bytes → is_other 0x30 bytes ≡ false → length_in (open_spot 0 0 bytes) bytes ≡ Ok l
-    → content_info_openly (contents_of bytes l) ≡ Err f → (more : List ℕ) → Completes bytes l more → (f ≡ lost) ⊎ (content_info_at (bytes ++ more) ≡ Err f)
+cut_always : (bytes : List ℕ) (l : ℕ) (f : Fault) → IsBytes bytes → is_other 0x30 bytes ≡ false
+    → length_in (open_spot 0 0 bytes) bytes ≡ Ok l
+    → content_info_openly (contents_of bytes l) ≡ Err f → (more : List ℕ) → Completes bytes l more
+    → (f ≡ lost) ⊎ (content_info_at (bytes ++ more) ≡ Err f)
 cut_always bytes l f fits other size e more h =
     let there = length_there (open_spot 0 0 bytes) bytes l fits size in
     let g = grown_header bytes more l other size in
@@ -160,7 +183,8 @@ cut_always bytes l f fits other size e more h =
       | inr stays ↦ inr (same ∙ rw (longer, stays) refl)
     ]
 
-cut : (bytes : List ℕ) → IsBytes bytes → is_other 0x30 bytes ≡ false → (l : ℕ) → length_in (open_spot 0 0 bytes) bytes ≡ Ok l → length bytes < heading l + l
+cut : (bytes : List ℕ) → IsBytes bytes → is_other 0x30 bytes ≡ false → (l : ℕ)
+    → length_in (open_spot 0 0 bytes) bytes ≡ Ok l → length bytes < heading l + l
     → (r : Answer) → content_info_openly (contents_of bytes l) ≡ r → CutAlike bytes
 cut bytes fits other l size lt (Ok c) e =
     let met = content_info_open.met (contents_of bytes l) c (contents_bytes bytes l fits) e in
@@ -187,7 +211,8 @@ read_alike bytes fits = by_tag (is_other 0x30 bytes) refl
   where
     at_length : is_other 0x30 bytes ≡ false → (r : Result ℕ Fault) → length_in (open_spot 0 0 bytes) bytes ≡ r
         → (file_openly bytes ≡ content_info_at bytes) ⊎ CutAlike bytes
-    at_length other (Err f) size = inl (rw (other, size) (sym (at_header bytes fits ∙ rw (header_fails bytes f other size) refl)))
+    at_length other (Err f) size =
+        inl (rw (other, size) (sym (at_header bytes fits ∙ rw (header_fails bytes f other size) refl)))
     at_length other (Ok l) size = elim (cases_lt (length bytes) (heading l + l)) [
       | inr le ↦ inl (rw (other, size) (sym (whole_file bytes l fits other size le)))
       | inl lt ↦ inr (cut bytes fits other l size lt (content_info_openly (contents_of bytes l)) refl)

@@ -1,5 +1,6 @@
 -- Whether octets are a BIT STRING depends on the first and the last of them only.
-use Rattle.std.proofs.Common.{◌≡◌, ℕ, suc, ◌-◌, ◌%◌, ◌^◌, ◌<◌, ◌≤◌, eqb, ltb, true, List, [], ◌∷◌, length, get_or, refl, arith}
+use Rattle.std.proofs.Common.{◌≡◌, ℕ, suc, ◌-◌, ◌%◌, ◌^◌, ◌<◌, ◌≤◌, eqb, ltb, true, List, [], ◌∷◌, length, get_or, refl}
+use Rattle.std.proofs.Common.{arith}
 use Rattle.std.proofs.lemmas.Bool.{lt-ltb}
 use Rattle.der_core.specs.Contents.{ends_in_zeros, is_bits}
 
@@ -7,7 +8,8 @@ last_decides : (k b : ℕ) (bs : List ℕ) → eqb (get_or (b ∷ bs) (length bs
 last_decides k b [] = refl
 last_decides k b (c ∷ bs) = last_decides k c bs
 
-pub ends_decide : (body : List ℕ) → 2 ≤ length body → get_or body 0 0 < 8 → eqb (get_or body (length body - 1) 0 % (2 ^ get_or body 0 0)) 0 ≡ is_bits body
+pub ends_decide : (body : List ℕ) → 2 ≤ length body → get_or body 0 0 < 8
+    → eqb (get_or body (length body - 1) 0 % (2 ^ get_or body 0 0)) 0 ≡ is_bits body
 ends_decide [] long few = absurd (omega arith)
 ends_decide (k ∷ []) long few = absurd (omega arith)
 ends_decide (k ∷ b ∷ bs) long few =

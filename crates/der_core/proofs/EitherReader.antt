@@ -1,5 +1,6 @@
 -- A part that has the one identifier or the other, each with contents of its own form.
-use Rattle.std.proofs.Common.{◌≡◌, ℕ, ◌+◌, ◌-◌, ◌<◌, ◌^◌, Bool, true, false, not, ◌||◌, eqb, List, [], ◌∷◌, ◌++◌, length, Result, Ok, Err, refl, sym, ap, subst}
+use Rattle.std.proofs.Common.{◌≡◌, ℕ, ◌+◌, ◌-◌, ◌<◌, ◌^◌, Bool, true, false, not, ◌||◌, eqb, List, [], ◌∷◌, ◌++◌}
+use Rattle.std.proofs.Common.{length, Result, Ok, Err, refl, sym, ap, subst}
 use Rattle.std.proofs.Common.{◌∙◌, inl, inr, ◌⊎◌}
 use Rattle.std.proofs.lemmas.Bool.{eq-eqb, and_parts, not-true}
 use Rattle.der_core.specs.declared.fault.Fault.{Fault}
@@ -20,17 +21,23 @@ use Rattle.der_core.proofs.PartReaders.{Always}
 
 -- ---- faults in and after an element that the first due part takes
 
-pub fault_in : (due : Form) (tag : ℕ) (s c s' : Spot) (ps : List Element) (f : Fault) → takes due tag ≡ true → Enters tag s c s'
+pub fault_in : (due : Form) (tag : ℕ) (s c s' : Spot) (ps : List Element) (f : Fault) → takes due tag ≡ true
+    → Enters tag s c s'
     → FaultFrom (place c.pos c.rest (body_of (inside_of due tag)) []) f → FaultFrom (place s.pos s.rest due ps) f
 fault_in due tag s c s' ps f took k h =
     let q = subst (λ (m : ℕ). FaultFrom (place m c.rest (body_of (inside_of due tag)) []) f) k.begin h in
-    subst (λ (xs : List ℕ). FaultFrom (place s.pos xs due ps) f) (sym k.parts) (q.0, enters tag c.rest s'.rest k.element took q.1, q.2)
+    subst (λ (xs : List ℕ). FaultFrom (place s.pos xs due ps) f) (sym k.parts)
+    (q.0, enters tag c.rest s'.rest k.element took q.1, q.2)
 
-pub fault_after : (due : Form) (tag : ℕ) (s c s' : Spot) (ps : List Element) (f : Fault) → takes due tag ≡ true → Enters tag s c s'
-    → FaultFrom (place s'.pos s'.rest (behind due c.rest) (passed_by due ps (tag, c.rest))) f → FaultFrom (place s.pos s.rest due ps) f
+pub fault_after : (due : Form) (tag : ℕ) (s c s' : Spot) (ps : List Element) (f : Fault) → takes due tag ≡ true
+    → Enters tag s c s'
+    → FaultFrom (place s'.pos s'.rest (behind due c.rest) (passed_by due ps (tag, c.rest))) f
+    → FaultFrom (place s.pos s.rest due ps) f
 fault_after due tag s c s' ps f took k h =
-    let q = subst (λ (m : ℕ). FaultFrom (place m s'.rest (behind due c.rest) (passed_by due ps (tag, c.rest))) f) k.moved h in
-    subst (λ (xs : List ℕ). FaultFrom (place s.pos xs due ps) f) (sym k.parts) (q.0, passes tag c.rest s'.rest k.element took q.1, q.2)
+    let q = subst
+    (λ (m : ℕ). FaultFrom (place m s'.rest (behind due c.rest) (passed_by due ps (tag, c.rest))) f) k.moved h in
+    subst (λ (xs : List ℕ). FaultFrom (place s.pos xs due ps) f) (sym k.parts)
+    (q.0, passes tag c.rest s'.rest k.element took q.1, q.2)
 
 not_nil : (t : ℕ) (xs : List ℕ) → has_tag t xs ≡ true → xs ≡ [] → ⊥
 not_nil t [] h g = cc
@@ -43,9 +50,11 @@ not_both t (x ∷ xs) h g = let p = and_parts (is_tag x) (not (eqb x t)) g in le
 abbrev Step : Type 0
 Step = Result (Taken × Spot) Fault
 
-module _ {A B : Type 0} (tag : ℕ) (id : is_tag tag ≡ true) (read : Body A) (enc : A → List ℕ) (Good : A → Type 0) (form : Form)
+module _ {A B : Type 0} (tag : ℕ) (id : is_tag tag ≡ true) (read : Body A) (enc : A → List ℕ) (Good : A → Type 0)
+    (form : Form)
     (law : IsBody read enc Good form)
-    (tag' : ℕ) (id' : is_tag tag' ≡ true) (read' : Body B) (enc' : B → List ℕ) (Good' : B → Type 0) (form' : Form) (law' : IsBody read' enc' Good' form')
+    (tag' : ℕ) (id' : is_tag tag' ≡ true) (read' : Body B) (enc' : B → List ℕ) (Good' : B → Type 0) (form' : Form)
+    (law' : IsBody read' enc' Good' form')
     (inside : ℕ → Form) (is : inside tag ≡ form) (is' : inside tag' ≡ form') (apart : eqb tag' tag ≡ false) where
   abbrev pub enc_either : A ⊎ B → List ℕ
   enc_either (inl x) = el tag (enc x)
@@ -117,17 +126,21 @@ module _ {A B : Type 0} (tag : ℕ) (id : is_tag tag ≡ true) (read : Body A) (
 
   either_again : (x : A ⊎ B) (n : ℕ) (r : List ℕ) → GoodEither x
       → either tag read tag' read' (spot n (enc_either x ++ r)) ≡ Ok (x, spot (n + length (enc_either x)) r)
-  either_again (inl x) n r h = let e : eqb tag tag ≡ true = eq-eqb tag tag refl in rw (e, within_again tag id read enc Good form law x n r h) refl
+  either_again (inl x) n r h = let e : eqb tag tag ≡ true = eq-eqb tag tag refl in
+      rw (e, within_again tag id read enc Good form law x n r h) refl
   either_again (inr y) n r h = rw (apart, within_again tag' id' read' enc' Good' form' law' y n r h) refl
 
-  refuses : (n : ℕ) (xs : List ℕ) (after : Form) → has_tag tag xs ≡ false → is_other tag' xs ≡ true → Fact Tag (place n xs (due after) []) n
+  refuses : (n : ℕ) (xs : List ℕ) (after : Form) → has_tag tag xs ≡ false → is_other tag' xs ≡ true
+      → Fact Tag (place n xs (due after) []) n
   refuses n [] after h g = absurd cc
   refuses n (t ∷ xs) after h g =
       let p = and_parts (is_tag t) (not (eqb t tag')) g in
-      let none : may_stand (due after) t ≡ false = rw (swapped tag t h, swapped tag' t (not-true (eqb t tag') p.1)) refl in
+      let none : may_stand (due after) t ≡ false =
+      rw (swapped tag t h, swapped tag' t (not-true (eqb t tag') p.1)) refl in
       (t, xs, ((tt, refl), p.0), none, refl)
 
-  first_fault : (s : Spot) (f : Fault) → IsBytes s.rest → has_tag tag s.rest ≡ true → within tag read s ≡ Err f → (after : Form)
+  first_fault : (s : Spot) (f : Fault) → IsBytes s.rest → has_tag tag s.rest ≡ true → within tag read s ≡ Err f
+      → (after : Form)
       → FaultFrom (place s.pos s.rest (due after) []) f
   unfolding enter_at expect_at
   first_fault s f fits there e after =
@@ -138,19 +151,22 @@ module _ {A B : Type 0} (tag : ℕ) (id : is_tag tag ≡ true) (read : Body A) (
           | inr b ↦ absurd (let z = b.2 in cc)
           | inl b ↦ elim (chosen (is_other tag s.rest) other (next_at s) (fails f) b) [
             | inl h ↦ absurd (not_both tag s.rest there h.0)
-            | inr h ↦ (p, stays, next_fault s f p fits refl refl tt (λ none. absurd (not_nil tag s.rest there none)) h.1)
+            | inr h ↦
+                (p, stays, next_fault s f p fits refl refl tt (λ none. absurd (not_nil tag s.rest there none)) h.1)
           ]
         ]
         | inr a ↦
             let k = enter_ok tag s a.0 fits a.1 in
             elim (bind_err (read a.0.0) (λ v. Ok (v, a.0.1)) f a.2) [
               | inl b ↦ fault_in (due after) tag s a.0.0 a.0.1 [] f (takes_first after) k
-                  (subst (λ (g : Form). FaultFrom (place a.0.0.pos a.0.0.rest (body_of g) []) f) (sym is) (law.faults a.0.0 f k.fits b))
+                  (subst (λ (g : Form). FaultFrom (place a.0.0.pos a.0.0.rest (body_of g) []) f) (sym is)
+                  (law.faults a.0.0 f k.fits b))
               | inr b ↦ absurd (let z = b.2 in cc)
             ]
       ]
 
-  second_fault : (s : Spot) (f : Fault) → IsBytes s.rest → has_tag tag s.rest ≡ false → within tag' read' s ≡ Err f → (after : Form)
+  second_fault : (s : Spot) (f : Fault) → IsBytes s.rest → has_tag tag s.rest ≡ false → within tag' read' s ≡ Err f
+      → (after : Form)
       → FaultFrom (place s.pos s.rest (due after) []) f
   unfolding enter_at expect_at
   second_fault s f fits there e after =
@@ -168,7 +184,8 @@ module _ {A B : Type 0} (tag : ℕ) (id : is_tag tag ≡ true) (read : Body A) (
             let k = enter_ok tag' s a.0 fits a.1 in
             elim (bind_err (read' a.0.0) (λ v. Ok (v, a.0.1)) f a.2) [
               | inl b ↦ fault_in (due after) tag' s a.0.0 a.0.1 [] f (takes_second after) k
-                  (subst (λ (g : Form). FaultFrom (place a.0.0.pos a.0.0.rest (body_of g) []) f) (sym is') (law'.faults a.0.0 f k.fits b))
+                  (subst (λ (g : Form). FaultFrom (place a.0.0.pos a.0.0.rest (body_of g) []) f) (sym is')
+                  (law'.faults a.0.0 f k.fits b))
               | inr b ↦ absurd (let z = b.2 in cc)
             ]
       ]
@@ -187,7 +204,8 @@ module _ {A B : Type 0} (tag : ℕ) (id : is_tag tag ≡ true) (read : Body A) (
         ]
       ]
 
-  either_encodes : (x : A ⊎ B) (r : List ℕ) (after : Form) → GoodEither x → Encodes [] after r → Encodes [] (due after) (enc_either x ++ r)
+  either_encodes : (x : A ⊎ B) (r : List ℕ) (after : Form) → GoodEither x → Encodes [] after r
+      → Encodes [] (due after) (enc_either x ++ r)
   either_encodes (inl x) r after h m = next tag (enc x) r refl (record { identifier = id; size = h.1 })
       (takes_first after) refl refl (subst (λ (g : Form). Encodes [] g (enc x)) (sym is) (law.encodes x h.0)) m
   either_encodes (inr y) r after h m = next tag' (enc' y) r refl (record { identifier = id'; size = h.1 })
@@ -205,6 +223,7 @@ module _ {A B : Type 0} (tag : ℕ) (id : is_tag tag ≡ true) (read : Body A) (
     );
     again = λ x n r h l. either_again x n r h;
     faults = λ s f fits e after b. either_fault s f fits e after;
-    goes = λ s y fits e after f h. let w = was s y fits e in fault_after (due after) w.t s w.c y.1 [] f (w.takes_it after) w.entered h;
+    goes = λ s y fits e after f h. let w = was s y fits e in
+        fault_after (due after) w.t s w.c y.1 [] f (w.takes_it after) w.entered h;
     encodes = either_encodes;
   }

@@ -1,11 +1,13 @@
 -- A test that octets are an encoding, so that a row which says so of given octets is proved by computing.
-use Rattle.std.proofs.Common.{◌≡◌, ℕ, zero, suc, ◌+◌, ◌-◌, ◌*◌, ◌^◌, List, [], ◌∷◌, ◌++◌, length, take, drop, Bool, true, false, cond, not, refl, inl, inr}
+use Rattle.std.proofs.Common.{◌≡◌, ℕ, zero, suc, ◌+◌, ◌-◌, ◌*◌, ◌^◌, List, [], ◌∷◌, ◌++◌, length, take, drop, Bool}
+use Rattle.std.proofs.Common.{true, false, cond, not, refl, inl, inr}
 use Rattle.std.proofs.Common.{◌&&◌}
 use Rattle.std.specs.Prelude.{◌⊎◌, ◌==◌, ◌≢◌, nat_lt}
 use Rattle.std.proofs.lemmas.Bool.{eqb-true, ltb-true}
 use Rattle.der_core.specs.Element.{is_tag, el, IsElement}
 use Rattle.der_core.specs.Lists.{is_same}
-use Rattle.der_core.specs.Form.{Form, opaque, contents, full, part, opaques, switch, filled, takes, inside_of, behind, may_drop, dropped, Element, passed_by}
+use Rattle.der_core.specs.Form.{Form, opaque, contents, full, part, opaques, switch, filled, takes, inside_of, behind}
+use Rattle.der_core.specs.Form.{may_drop, dropped, Element, passed_by}
 use Rattle.der_core.specs.Form.{is_early, is_second}
 use Rattle.der_core.specs.Encoding.{IsEncoding, Encodes, anything, held, ended, next, absent, has}
 use Rattle.der_core.proofs.Refuted.{and_true, not_true}
@@ -66,7 +68,10 @@ pub standing : (s : List ℕ) (t : ℕ) (b r : List ℕ) → stands s t b r ≡ 
 standing s t b r e =
     let p = and_true (is_same s (el t b ++ r)) (is_tag t && nat_lt (length b) (2 ^ 32)) e in
     let q = and_true (is_tag t) (nat_lt (length b) (2 ^ 32)) p.1 in
-    record { spelled = same s (el t b ++ r) p.0; is = record { identifier = q.0; size = ltb-true (length b) (2 ^ 32) q.1 } }
+    record {
+      spelled = same s (el t b ++ r) p.0;
+      is = record { identifier = q.0; size = ltb-true (length b) (2 ^ 32) q.1 };
+    }
 
 -- ---- encodings
 
@@ -112,30 +117,36 @@ taken_sound judge sound ps due s t b r e =
     let v = and_true (not (is_second due ps (t, b))) _ u.1 in
     let w = and_true (judge [] (inside_of due t) b) (judge (passed_by due ps (t, b)) (behind due b) r) v.1 in
     let h = standing s t b r p.0 in
-    next t b r h.spelled h.is q.0 (not_true _ u.0) (not_true _ v.0) (sound [] (inside_of due t) b w.0) (sound (passed_by due ps (t, b)) (behind due b) r w.1)
+    next t b r h.spelled h.is q.0 (not_true _ u.0) (not_true _ v.0) (sound [] (inside_of due t) b w.0)
+    (sound (passed_by due ps (t, b)) (behind due b) r w.1)
 
 pub chosen : (c x y : Bool) → cond c x y ≡ true → ((c ≡ true) × (x ≡ true)) ⊎ ((c ≡ false) × (y ≡ true))
 chosen true x y e = inl (refl, e)
 chosen false x y e = inr (refl, e)
 
-parts_sound : (judge : Judge) → IsSound judge → (ps : List Element) (due : Form) (s : List ℕ) → by_parts judge ps due s ≡ true → Encodes ps due s
+parts_sound : (judge : Judge) → IsSound judge → (ps : List Element) (due : Form) (s : List ℕ)
+    → by_parts judge ps due s ≡ true → Encodes ps due s
 parts_sound judge sound ps due s e =
     let h = header s in
     let b = take h.size h.beyond in
     let r = drop h.size h.beyond in
     elim (chosen (takes due h.tag) (taken judge ps due s h.tag b r) (may_drop due && judge [] (dropped due) s) e) [
       | inl x ↦ taken_sound judge sound ps due s h.tag b r x.1
-      | inr x ↦ let p = and_true (may_drop due) (judge [] (dropped due) s) x.1 in absent p.0 (sound [] (dropped due) s p.1)
+      | inr x ↦ let p = and_true (may_drop due) (judge [] (dropped due) s) x.1 in
+          absent p.0 (sound [] (dropped due) s p.1)
     ]
 
 form_sound : (judge : Judge) → IsSound judge → IsSound (by_form judge)
 form_sound judge sound ps opaque s e = anything
 form_sound judge sound ps (contents k formed allowed) s e = let p = and_true (formed s) (allowed s) e in held p.0 p.1
 form_sound judge sound ps full s e = ended (empty s e)
-form_sound judge sound ps (filled f) s e = let p = and_true (not (is_empty s)) (judge [] f s) e in has (not_empty s (not_true _ p.0)) (sound [] f s p.1)
-form_sound judge sound ps (part count tags inside after) s e = parts_sound judge sound ps (part count tags inside after) s e
+form_sound judge sound ps (filled f) s e =
+    let p = and_true (not (is_empty s)) (judge [] f s) e in has (not_empty s (not_true _ p.0)) (sound [] f s p.1)
+form_sound judge sound ps (part count tags inside after) s e =
+    parts_sound judge sound ps (part count tags inside after) s e
 form_sound judge sound ps (opaques count after) s e = parts_sound judge sound ps (opaques count after) s e
-form_sound judge sound ps (switch tag inside these same other) s e = parts_sound judge sound ps (switch tag inside these same other) s e
+form_sound judge sound ps (switch tag inside these same other) s e =
+    parts_sound judge sound ps (switch tag inside these same other) s e
 
 pub encoded : (n : ℕ) (ps : List Element) (f : Form) (s : List ℕ) → is_encoded n ps f s ≡ true → Encodes ps f s
 encoded zero ps f s e = absurd cc

@@ -1,5 +1,6 @@
 -- Parts that may be absent, and whose contents have at least one octet if they are present.
-use Rattle.std.proofs.Common.{◌≡◌, ℕ, ◌+◌, ◌<◌, ◌^◌, true, false, eqb, List, [], ◌∷◌, ◌++◌, length, Option, Some, None, Result, Ok, Err, refl, sym, ap, subst}
+use Rattle.std.proofs.Common.{◌≡◌, ℕ, ◌+◌, ◌<◌, ◌^◌, true, false, eqb, List, [], ◌∷◌, ◌++◌, length, Option, Some, None}
+use Rattle.std.proofs.Common.{Result, Ok, Err, refl, sym, ap, subst}
 use Rattle.std.proofs.Common.{◌∙◌, arith, inl, inr, ◌⊎◌}
 use Rattle.std.proofs.lemmas.Bool.{eqb-true, eqb-false, eq-eqb, ne_eqb}
 use Rattle.std.proofs.lemmas.List.{nil_from_length}
@@ -10,20 +11,23 @@ use Rattle.der_core.specs.Form.{Form, Optional, full, filled, body_of}
 use Rattle.der_core.specs.Encoding.{Encodes, next, absent, has}
 use Rattle.der_core.specs.Faults.{Place, place, StandsNot, stays, drops, FaultFrom}
 use Rattle.der_core.specs.Grammar.{opt}
-use Rattle.der_core.specs.Reading.{fault, Spot, spot, enter_at, none_in, none_at, within, filled_in, maybe_filled, last_filled}
+use Rattle.der_core.specs.Reading.{fault, Spot, spot, enter_at, none_in, none_at, within, filled_in, maybe_filled}
+use Rattle.der_core.specs.Reading.{last_filled}
 use Rattle.der_core.specs.Results.{◌>>=◌}
 use Rattle.der_core.specs.Standing.{Enters}
 use Rattle.der_core.proofs.ReadLengths.{chosen, ok_is}
 use Rattle.der_core.proofs.Headers.{fails, err_is, fact_is}
 use Rattle.der_core.proofs.Results.{bind_ok, bind_err}
-use Rattle.der_core.proofs.Readers.{Body, Follows, IsReader, IsBody, Anything, Nothing, took, enter_ok, enter_again, enter_fault_here, fault_inside}
+use Rattle.der_core.proofs.Readers.{Body, Follows, IsReader, IsBody, Anything, Nothing, took, enter_ok, enter_again}
+use Rattle.der_core.proofs.Readers.{enter_fault_here, fault_inside}
 use Rattle.der_core.proofs.Readers.{fault_behind, swapped, last_refuses}
 
 none_stands : (tag : ℕ) (form after : Form) (xs : List ℕ) → has_tag tag xs ≡ false → StandsNot (opt tag form after) xs
 none_stands tag form after [] h = tt
 none_stands tag form after (t ∷ xs) h = rw (swapped tag t h) refl
 
-none_fault : (tag : ℕ) (form : Form) (s : Spot) (xs : List ℕ) (f : Fault) → s.rest ≡ xs → has_tag tag xs ≡ false → none_in s xs ≡ Err f
+none_fault : (tag : ℕ) (form : Form) (s : Spot) (xs : List ℕ) (f : Fault) → s.rest ≡ xs → has_tag tag xs ≡ false
+    → none_in s xs ≡ Err f
     → FaultFrom (place s.pos s.rest (opt tag form full) []) f
 none_fault tag form s [] f is h e = absurd cc
 none_fault tag form s (t ∷ xs) f is h e =
@@ -31,11 +35,16 @@ none_fault tag form s (t ∷ xs) f is h e =
     let other : Result (Unit {0}) Fault = Err (fault Tag s.pos) in
     let high : Result (Unit {0}) Fault = Err (fault HighTag s.pos) in
     elim (chosen (is_tag t) other high (fails f) e) [
-      | inl g ↦ (p, stays, fact_is p (fault Tag s.pos) f (err_is _ _ g.1) (t, xs, ((tt, is), g.0), last_refuses tag t form h, refl))
+      | inl g ↦ (
+        p,
+        stays,
+        fact_is p (fault Tag s.pos) f (err_is _ _ g.1) (t, xs, ((tt, is), g.0), last_refuses tag t form h, refl),
+      )
       | inr g ↦ (p, stays, fact_is p (fault HighTag s.pos) f (err_is _ _ g.1) (t, xs, (tt, is), g.0, refl))
     ]
 
-module _ {A : Type 0} (tag : ℕ) (id : is_tag tag ≡ true) (read : Body A) (enc : A → List ℕ) (Good : A → Type 0) (form : Form)
+module _ {A : Type 0} (tag : ℕ) (id : is_tag tag ≡ true) (read : Body A) (enc : A → List ℕ) (Good : A → Type 0)
+    (form : Form)
     (law : IsBody read enc Good form) (plain : body_of form ≡ form) where
   -- good, and with contents of at least one octet
   abbrev pub GoodFilled : Option A → Type 0
@@ -69,11 +78,13 @@ module _ {A : Type 0} (tag : ℕ) (id : is_tag tag ≡ true) (read : Body A) (en
       let k = enter_ok tag s a.0 fits a.1 in
       let f = filled_ok n a.0.0 b.0 b.1 in
       let t = law.takes a.0.0 b.0 k.fits f.0 in
-      let r = subst (λ (z : A × Spot). Enters tag s a.0.0 z.1 × Good z.0 × (a.0.0.rest ≡ enc z.0)) (ok_is (b.0, a.0.1) y b.2) (k, t.0, t.1) in
+      let r = subst (λ (z : A × Spot). Enters tag s a.0.0 z.1 × Good z.0 × (a.0.0.rest ≡ enc z.0))
+      (ok_is (b.0, a.0.1) y b.2) (k, t.0, t.1) in
       (a.0.0, r.0, r.1, r.2, f.1)
 
   maybe_is : (s : Spot) (y : Option A × Spot) → maybe_filled tag read s ≡ Ok y
-      → ((x : A) × (within tag (filled_in s.pos read) s ≡ Ok (x, y.1)) × (y.0 ≡ Some x)) ⊎ ((has_tag tag s.rest ≡ false) × (y ≡ (None, s)))
+      → ((x : A) × (within tag (filled_in s.pos read) s ≡ Ok (x, y.1)) × (y.0 ≡ Some x))
+      ⊎ ((has_tag tag s.rest ≡ false) × (y ≡ (None, s)))
   maybe_is s y e =
       let some : Part = within tag (filled_in s.pos read) s >>= λ x. Ok (Some x.0, x.1) in
       elim (chosen (has_tag tag s.rest) some (Ok (None, s)) (Ok y) e) [
@@ -88,24 +99,31 @@ module _ {A : Type 0} (tag : ℕ) (id : is_tag tag ≡ true) (read : Body A) (en
         | inr h ↦ inr (h.0, sym (ok_is (None, s) y h.1))
       ]
 
-  filled_takes : (s : Spot) (y : Option A × Spot) → IsBytes s.rest → maybe_filled tag read s ≡ Ok y → GoodFilled y.0 × Follows s (enc_filled y.0) y.1
+  filled_takes : (s : Spot) (y : Option A × Spot) → IsBytes s.rest → maybe_filled tag read s ≡ Ok y
+      → GoodFilled y.0 × Follows s (enc_filled y.0) y.1
   filled_takes s y fits e =
       elim (maybe_is s y e) [
         | inl h ↦
             let w = filled_within s.pos s (h.0, y.1) fits h.1 in
             let some : enc h.0 ≡ [] → ⊥ = λ nil. w.4 (w.3 ∙ nil) in
-            let good : GoodFilled (Some h.0) = ((w.2, subst (λ (b : List ℕ). length b < 2 ^ 32) w.3 w.1.element.size), some) in
+            let good : GoodFilled (Some h.0) =
+            ((w.2, subst (λ (b : List ℕ). length b < 2 ^ 32) w.3 w.1.element.size), some) in
             let follows : Follows s (el tag (enc h.0)) y.1 = subst (λ (b : List ℕ). Follows s (el tag b) y.1) w.3
             (record { parts = w.1.parts; moved = w.1.moved }) in
             subst (λ (o : Option A). GoodFilled o × Follows s (enc_filled o) y.1) (sym h.2) (good, follows)
-        | inr h ↦ subst (λ (z : Option A × Spot). GoodFilled z.0 × Follows s (enc_filled z.0) z.1) (sym h.1) (tt, record { parts = refl; moved = omega arith })
+        | inr h ↦ subst (λ (z : Option A × Spot). GoodFilled z.0 × Follows s (enc_filled z.0) z.1) (sym h.1)
+            (tt, record { parts = refl; moved = omega arith })
       ]
 
   filled_again : (x : A) (n : ℕ) (r : List ℕ) → GoodFilled (Some x)
       → within tag (filled_in n read) (spot n (el tag (enc x) ++ r)) ≡ Ok (x, spot (n + length (el tag (enc x))) r)
   filled_again x n r h =
       let some : eqb (length (enc x)) 0 ≡ false = ne_eqb _ _ (λ z. h.1 (nil_from_length (enc x) z)) in
-      rw (enter_again tag n (enc x) r (record { identifier = id; size = h.0.1 }), some, law.again x (n + (1 + length (len (length (enc x))))) h.0.0) refl
+      rw (
+        enter_again tag n (enc x) r (record { identifier = id; size = h.0.1 }),
+        some,
+        law.again x (n + (1 + length (len (length (enc x))))) h.0.0,
+      ) refl
 
   maybe_again : (x : Option A) (n : ℕ) (r : List ℕ) → GoodFilled x → has_tag tag r ≡ false
       → maybe_filled tag read (spot n (enc_filled x ++ r)) ≡ Ok (x, spot (n + length (enc_filled x)) r)
@@ -113,7 +131,8 @@ module _ {A : Type 0} (tag : ℕ) (id : is_tag tag ≡ true) (read : Body A) (en
   maybe_again (Some x) n r h l = let e : eqb tag tag ≡ true = eq-eqb tag tag refl in rw (e, filled_again x n r h) refl
 
   -- a fault of such an element that is present
-  filled_fault : (s : Spot) (f : Fault) → IsBytes s.rest → has_tag tag s.rest ≡ true → within tag (filled_in s.pos read) s ≡ Err f → (after : Form)
+  filled_fault : (s : Spot) (f : Fault) → IsBytes s.rest → has_tag tag s.rest ≡ true
+      → within tag (filled_in s.pos read) s ≡ Err f → (after : Form)
       → FaultFrom (place s.pos s.rest (due after) []) f
   filled_fault s f fits there e after =
       elim (bind_err (enter_at tag s) (λ x. filled_in s.pos read x.0 >>= λ v. Ok (v, x.1)) f e) [
@@ -128,18 +147,22 @@ module _ {A : Type 0} (tag : ℕ) (id : is_tag tag ≡ true) (read : Body A) (en
                   elim (chosen (eqb (length a.0.0.rest) 0) empty (read a.0.0) (fails f) c) [
                     | inl h ↦
                         let nil : a.0.0.rest ≡ [] = nil_from_length a.0.0.rest (eqb-true _ _ h.0) in
-                        let here = subst (λ (b : List ℕ). IsElement tag b × (s.rest ≡ el tag b ++ a.0.1.rest)) nil (k.element, k.parts) in (
+                        let here = subst (λ (b : List ℕ). IsElement tag b × (s.rest ≡ el tag b ++ a.0.1.rest)) nil
+                        (k.element, k.parts) in (
                           p,
                           stays,
-                          fact_is p (fault Empty s.pos) f (err_is _ _ h.1) (tag, (here.0, took tag (filled form) after, a.0.1.rest, here.1), refl, refl),
+                          fact_is p (fault Empty s.pos) f (err_is _ _ h.1)
+                              (tag, (here.0, took tag (filled form) after, a.0.1.rest, here.1), refl, refl),
                         )
                     | inr h ↦ fault_inside Optional tag s a.0.0 a.0.1 (filled form) after [] f k
-                        (subst (λ (g : Form). FaultFrom (place a.0.0.pos a.0.0.rest g []) f) plain (law.faults a.0.0 f k.fits h.1))
+                        (subst (λ (g : Form). FaultFrom (place a.0.0.pos a.0.0.rest g []) f) plain
+                        (law.faults a.0.0 f k.fits h.1))
                   ]
             ]
       ]
 
-  maybe_fault : (s : Spot) (f : Fault) → IsBytes s.rest → maybe_filled tag read s ≡ Err f → (after : Form) → FaultFrom (place s.pos s.rest (due after) []) f
+  maybe_fault : (s : Spot) (f : Fault) → IsBytes s.rest → maybe_filled tag read s ≡ Err f → (after : Form)
+      → FaultFrom (place s.pos s.rest (due after) []) f
   maybe_fault s f fits e after =
       let some : Part = within tag (filled_in s.pos read) s >>= λ x. Ok (Some x.0, x.1) in
       elim (chosen (has_tag tag s.rest) some (Ok (None, s)) (fails f) e) [
@@ -150,7 +173,8 @@ module _ {A : Type 0} (tag : ℕ) (id : is_tag tag ≡ true) (read : Body A) (en
         ]
       ]
 
-  filled_goes : (s : Spot) (y : Option A × Spot) → IsBytes s.rest → maybe_filled tag read s ≡ Ok y → (after : Form) (f : Fault)
+  filled_goes : (s : Spot) (y : Option A × Spot) → IsBytes s.rest → maybe_filled tag read s ≡ Ok y
+      → (after : Form) (f : Fault)
       → FaultFrom (place y.1.pos y.1.rest after []) f → FaultFrom (place s.pos s.rest (due after) []) f
   filled_goes s y fits e after f q =
       elim (maybe_is s y e) [
@@ -162,13 +186,15 @@ module _ {A : Type 0} (tag : ℕ) (id : is_tag tag ≡ true) (read : Body A) (en
             (p.0, drops refl (none_stands tag (filled form) after s.rest h.0) p.1, p.2)
       ]
 
-  filled_encodes : (x : Option A) (r : List ℕ) (after : Form) → GoodFilled x → Encodes [] after r → Encodes [] (due after) (enc_filled x ++ r)
+  filled_encodes : (x : Option A) (r : List ℕ) (after : Form) → GoodFilled x → Encodes [] after r
+      → Encodes [] (due after) (enc_filled x ++ r)
   filled_encodes None r after h m = absent refl m
   filled_encodes (Some x) r after h m = next tag (enc x) r refl (record { identifier = id; size = h.0.1 })
       (took tag (filled form) after) refl refl (has h.1 (law.encodes x h.0.0)) m
 
   -- such an element, if one is present
-  pub maybe_filled_reader : IsReader (maybe_filled tag read) enc_filled GoodFilled (λ after. opt tag (filled form) after) (λ r. has_tag tag r ≡ false) Anything
+  pub maybe_filled_reader : IsReader (maybe_filled tag read) enc_filled GoodFilled
+      (λ after. opt tag (filled form) after) (λ r. has_tag tag r ≡ false) Anything
   maybe_filled_reader = record {
     plain = λ after. refl;
     takes = filled_takes;
@@ -196,7 +222,8 @@ module _ {A : Type 0} (tag : ℕ) (id : is_tag tag ≡ true) (read : Body A) (en
   last_again None n r h l = let e : n + 0 ≡ n = omega arith in rw (l, e) refl
   last_again (Some x) n r h l = let e : eqb tag tag ≡ true = eq-eqb tag tag refl in rw (e, filled_again x n r h) refl
 
-  last_fault : (s : Spot) (f : Fault) → IsBytes s.rest → last_filled tag read s ≡ Err f → FaultFrom (place s.pos s.rest (due full) []) f
+  last_fault : (s : Spot) (f : Fault) → IsBytes s.rest → last_filled tag read s ≡ Err f
+      → FaultFrom (place s.pos s.rest (due full) []) f
   unfolding none_at
   last_fault s f fits e =
       let some : Part = within tag (filled_in s.pos read) s >>= λ x. Ok (Some x.0, x.1) in
@@ -210,12 +237,14 @@ module _ {A : Type 0} (tag : ℕ) (id : is_tag tag ≡ true) (read : Body A) (en
       ]
 
   -- such an element, if one is present; if none is, the body must end
-  pub last_filled_reader : IsReader (last_filled tag read) enc_filled GoodFilled (λ after. opt tag (filled form) after) (λ r. r ≡ []) Nothing
+  pub last_filled_reader :
+      IsReader (last_filled tag read) enc_filled GoodFilled (λ after. opt tag (filled form) after) (λ r. r ≡ []) Nothing
   last_filled_reader = record {
     plain = λ after. refl;
     takes = λ s y fits e. filled_takes s y fits (last_is s y e);
     again = last_again;
-    faults = λ s f fits e after b. subst (λ (g : Form). FaultFrom (place s.pos s.rest (opt tag (filled form) g) []) f) (sym b) (last_fault s f fits e);
+    faults = λ s f fits e after b. subst (λ (g : Form). FaultFrom (place s.pos s.rest (opt tag (filled form) g) []) f)
+        (sym b) (last_fault s f fits e);
     goes = λ s y fits e after f h. filled_goes s y fits (last_is s y e) after f h;
     encodes = filled_encodes;
   }

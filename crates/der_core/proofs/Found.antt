@@ -1,22 +1,27 @@
 -- A search for a fault of given octets, so that a row which states one is proved by computing.
-use Rattle.std.proofs.Common.{◌≡◌, ℕ, zero, suc, ◌+◌, ◌-◌, ◌<◌, ◌≤◌, ◌^◌, List, [], ◌∷◌, ◌++◌, length, take, drop, Bool, true, false, cond, not, refl, sym}
+use Rattle.std.proofs.Common.{◌≡◌, ℕ, zero, suc, ◌+◌, ◌-◌, ◌<◌, ◌≤◌, ◌^◌, List, [], ◌∷◌, ◌++◌, length, take, drop, Bool}
+use Rattle.std.proofs.Common.{true, false, cond, not, refl, sym}
 use Rattle.std.proofs.Common.{subst, inl, inr, ◌&&◌, ◌||◌}
 use Rattle.std.specs.Prelude.{◌⊎◌, ◌==◌, ◌≢◌, nat_lt, nat_le}
 use Rattle.std.proofs.lemmas.Bool.{eqb-true, ltb-true, leb-true}
 use Rattle.der_core.specs.declared.fault.Kind.{Kind}
-use Rattle.der_core.specs.declared.fault.Kind.TheVariants.{End, HighTag, Indefinite, LengthForm, Overrun, Tag, Trailing, Integer, Oid, Boolean, Bits, Time}
+use Rattle.der_core.specs.declared.fault.Kind.TheVariants.{End, HighTag, Indefinite, LengthForm, Overrun, Tag, Trailing}
+use Rattle.der_core.specs.declared.fault.Kind.TheVariants.{Integer, Oid, Boolean, Bits, Time}
 use Rattle.der_core.specs.declared.fault.Kind.TheVariants.{Value, Order, Empty}
 use Rattle.der_core.specs.declared.fault.Fault.{Fault}
 use Rattle.der_core.specs.Element.{is_tag, len, el}
 use Rattle.der_core.specs.Lists.{is_same}
-use Rattle.der_core.specs.Form.{Form, opaque, contents, full, part, opaques, switch, filled, takes, inside_of, behind, may_drop, dropped, may_stand, body_of}
+use Rattle.der_core.specs.Form.{Form, opaque, contents, full, part, opaques, switch, filled, takes, inside_of, behind}
+use Rattle.der_core.specs.Form.{may_drop, dropped, may_stand, body_of}
 use Rattle.der_core.specs.Form.{is_filled, passed_by, is_early, is_second}
 use Rattle.der_core.specs.Encoding.{Encodes, IsEncoding}
-use Rattle.der_core.specs.Faults.{Place, place, StandsNot, Reaches, stays, passes, enters, drops, IsDue, IsMalformed, IsOther, Stands, Begins, LengthEnds}
+use Rattle.der_core.specs.Faults.{Place, place, StandsNot, Reaches, stays, passes, enters, drops, IsDue, IsMalformed}
+use Rattle.der_core.specs.Faults.{IsOther, Stands, Begins, LengthEnds}
 use Rattle.der_core.specs.Faults.{IsNoLength, IsHere, Fact, Faults}
 use Rattle.der_core.specs.Clear.{clear}
 use Rattle.der_core.proofs.Refuted.{and_true, not_true, refuted}
-use Rattle.der_core.proofs.Encoded.{same, is_empty, empty, not_empty, header, stands, standing, chosen, is_encoded, encoded}
+use Rattle.der_core.proofs.Encoded.{same, is_empty, empty, not_empty, header, stands, standing, chosen, is_encoded}
+use Rattle.der_core.proofs.Encoded.{encoded}
 
 -- ---- tests, and what they prove
 
@@ -55,7 +60,11 @@ abbrev pub something : (s : List ℕ) → Test (s ≢ [])
 something s = record { passed = not (is_empty s); shows = λ e. not_empty s (not_true (is_empty s) e) }
 
 abbrev pub also : {P Q : Type 0} → Test P → Test Q → Test (P × Q)
-also p q = record { passed = p.passed && q.passed; shows = λ e. let b = and_true p.passed q.passed e in (p.shows b.0, q.shows b.1) }
+also p q = record {
+  passed = p.passed && q.passed;
+  shows = λ e. let b = and_true p.passed q.passed e in
+      (p.shows b.0, q.shows b.1);
+}
 
 abbrev pub so : {P Q : Type 0} → (P → Q) → Test P → Test Q
 so f p = record { passed = p.passed; shows = λ e. f (p.shows e) }
@@ -99,7 +108,8 @@ begins p = also (goes_on p) (stated (is_tag (front p.rest)))
 abbrev length_ends : (s : List ℕ) (k : ℕ) → Test (LengthEnds s k)
 length_ends [] k = alike k 0
 length_ends (l ∷ s) k =
-    so (λ (a, b). (a.0, a.1, b.0, b.1)) (also (also (below 128 l) (within l 132)) (also (below (length s) (l - 128)) (alike k (1 + length s))))
+    so (λ (a, b). (a.0, a.1, b.0, b.1))
+    (also (also (below 128 l) (within l 132)) (also (below (length s) (l - 128)) (alike k (1 + length s))))
 
 abbrev no_length : (s : List ℕ) → Test (IsNoLength s)
 no_length [] = fails
@@ -157,7 +167,8 @@ is_second_value p t b r =
     let inside = is_encoded 200 [] (inside_of p.due t) b in
     also (stands_here p t b r) (also (stated second) (record {
       passed = cond second inside false;
-      shows = λ e. encoded 200 [] (inside_of p.due t) b (elim (chosen second inside false e) [ inl x ↦ x.1 | inr x ↦ not_both x.1 ]);
+      shows = λ e. encoded 200 [] (inside_of p.due t) b
+          (elim (chosen second inside false e) [ inl x ↦ x.1 | inr x ↦ not_both x.1 ]);
     }))
 
 -- the element whose header is at the front
@@ -174,20 +185,26 @@ abbrev pub fact : (k : Kind) (p : Place) (n : ℕ) → Test (Fact k p n)
 fact End p n =
     let k = n - (p.at + 1) in
     or (so (λ (a, b, c). ((a.0, a.1), b, c))
-    (so (λ (a, b). (a, b.0, b.1)) (also (also (due p.due) (denied (may_drop p.due))) (also (nothing p.rest) (alike n p.at)))))
-    (so (λ (a, b). (front p.rest, k, follow p.rest, a, b.0, b.1)) (also (begins p) (also (length_ends (follow p.rest) k) (alike n (p.at + 1 + k)))))
-fact HighTag p n = so (λ (a, b). (front p.rest, follow p.rest, a, b.0, b.1)) (also (goes_on p) (also (denied (is_tag (front p.rest))) (alike n p.at)))
+    (so (λ (a, b). (a, b.0, b.1))
+    (also (also (due p.due) (denied (may_drop p.due))) (also (nothing p.rest) (alike n p.at)))))
+    (so (λ (a, b). (front p.rest, k, follow p.rest, a, b.0, b.1))
+    (also (begins p) (also (length_ends (follow p.rest) k) (alike n (p.at + 1 + k)))))
+fact HighTag p n = so (λ (a, b). (front p.rest, follow p.rest, a, b.0, b.1))
+    (also (goes_on p) (also (denied (is_tag (front p.rest))) (alike n p.at)))
 fact Indefinite p n =
     let s = follow (follow p.rest) in
     so (λ (a, b). (front p.rest, s, (a.0, a.1), b))
-    (also (also (also (due p.due) (spelled p.rest (front p.rest ∷ 128 ∷ s))) (stated (is_tag (front p.rest)))) (alike n (p.at + 1)))
-fact LengthForm p n = so (λ (a, b). (front p.rest, follow p.rest, a, b.0, b.1)) (also (begins p) (also (no_length (follow p.rest)) (alike n (p.at + 1))))
+    (also (also (also (due p.due) (spelled p.rest (front p.rest ∷ 128 ∷ s))) (stated (is_tag (front p.rest))))
+    (alike n (p.at + 1)))
+fact LengthForm p n = so (λ (a, b). (front p.rest, follow p.rest, a, b.0, b.1))
+    (also (begins p) (also (no_length (follow p.rest)) (alike n (p.at + 1))))
 fact Overrun p n =
     let h = header p.rest in
     so (λ (a, b). (h.tag, h.size, h.beyond, (a.0, a.1), b.0, b.1.0, b.1.1))
     (also (also (also (due p.due) (spelled p.rest (h.tag ∷ (len h.size ++ h.beyond)))) (stated (is_tag h.tag)))
     (also (below (length h.beyond) h.size) (also (below h.size (2 ^ 32)) (alike n p.at))))
-fact Tag p n = so (λ (a, b). (front p.rest, follow p.rest, a, b.0, b.1)) (also (begins p) (also (denied (may_stand p.due (front p.rest))) (alike n p.at)))
+fact Tag p n = so (λ (a, b). (front p.rest, follow p.rest, a, b.0, b.1))
+    (also (begins p) (also (denied (may_stand p.due (front p.rest))) (alike n p.at)))
 fact Trailing p n = so (λ (a, b). (a, b.0, b.1)) (also (is_full p.due) (also (something p.rest) (alike n p.at)))
 fact Integer p n = also (malformed Integer p.due p.rest) (alike n p.at)
 fact Oid p n = also (malformed Oid p.due p.rest) (alike n p.at)
@@ -196,13 +213,16 @@ fact Bits p n = also (malformed Bits p.due p.rest) (alike n p.at)
 fact Time p n = also (malformed Time p.due p.rest) (alike n p.at)
 fact Value p n =
     or (also (misvalued p.due p.rest) (alike n p.at))
-    (so (λ (a, b). (tag p.rest, body p.rest, a.0, a.1.0, a.1.1, b)) (also (is_second_value p (tag p.rest) (body p.rest) (more p.rest)) (alike n p.at)))
+    (so (λ (a, b). (tag p.rest, body p.rest, a.0, a.1.0, a.1.1, b))
+    (also (is_second_value p (tag p.rest) (body p.rest) (more p.rest)) (alike n p.at)))
 fact Order p n =
     so (λ (a, b). (tag p.rest, body p.rest, a, b.0, b.1))
-    (also (stands_here p (tag p.rest) (body p.rest) (more p.rest)) (also (stated (is_early p.due p.passed (tag p.rest, body p.rest))) (alike n p.at)))
+    (also (stands_here p (tag p.rest) (body p.rest) (more p.rest))
+    (also (stated (is_early p.due p.passed (tag p.rest, body p.rest))) (alike n p.at)))
 fact Empty p n =
     so (λ (a, b). (tag p.rest, a, b.0, b.1))
-    (also (stands_here p (tag p.rest) [] (more p.rest)) (also (stated (is_filled (inside_of p.due (tag p.rest)))) (alike n p.at)))
+    (also (stands_here p (tag p.rest) [] (more p.rest))
+    (also (stated (is_filled (inside_of p.due (tag p.rest)))) (alike n p.at)))
 
 -- ---- places
 
@@ -222,7 +242,8 @@ next_place p = place (p.at + length (el (tag p.rest) (body p.rest))) (more p.res
     (passed_by p.due p.passed (tag p.rest, body p.rest))
 
 abbrev inner_place : Place → Place
-inner_place p = place (p.at + (1 + length (len (length (body p.rest))))) (body p.rest) (body_of (inside_of p.due (tag p.rest))) []
+inner_place p =
+    place (p.at + (1 + length (len (length (body p.rest))))) (body p.rest) (body_of (inside_of p.due (tag p.rest))) []
 
 abbrev later_place : Place → Place
 later_place p = place p.at p.rest (dropped p.due) []
@@ -290,11 +311,13 @@ inside_sound seek meets p k n c t e =
     ]
 
 along_sound : (seek : Seeks) → Meets seek → (p : Place) (k : Kind) (n : ℕ) (c d : Bool) → is_taken p ≡ true
-    → cond d (cond (seek (inner_place p) k n) true (cond c (seek (next_place p) k n) false)) (cond c (seek (next_place p) k n) false) ≡ true → Met p k n
+    → cond d (cond (seek (inner_place p) k n) true (cond c (seek (next_place p) k n) false))
+    (cond c (seek (next_place p) k n) false) ≡ true → Met p k n
 along_sound seek meets p k n c true t e = inside_sound seek meets p k n c t e
 along_sound seek meets p k n c false t e = past_sound seek meets p k n c t e
 
-away_sound : (seek : Seeks) → Meets seek → (p : Place) (k : Kind) (n : ℕ) → cond (is_left p) (seek (later_place p) k n) false ≡ true → Met p k n
+away_sound : (seek : Seeks) → Meets seek → (p : Place) (k : Kind) (n : ℕ)
+    → cond (is_left p) (seek (later_place p) k n) false ≡ true → Met p k n
 away_sound seek meets p k n e =
     elim (chosen (is_left p) (seek (later_place p) k n) false e) [
       | inl x ↦ to_later p k n x.0 (meets (later_place p) k n x.1)
@@ -321,10 +344,12 @@ met zero p k n e = absurd cc
 met (suc m) p k n e = seek_sound (λ p k n. is_found m p k n) (λ p k n e. met m p k n e) p k n e
 
 -- a row: write `found _ _ (fault kind.K n) refl`
-pub found : (form : Form) (bytes : List ℕ) (f : Fault) → is_found 200 (place 0 bytes form []) f.kind f.at ≡ true → Faults form bytes f
+pub found : (form : Form) (bytes : List ℕ) (f : Fault) → is_found 200 (place 0 bytes form []) f.kind f.at ≡ true
+    → Faults form bytes f
 found form bytes f e = met 200 (place 0 bytes form []) f.kind f.at e
 
 -- a row that an input is no encoding: name a fault that it has, as `not_encoded _ _ (fault kind.K n) refl refl`
-pub not_encoded : (form : Form) (bytes : List ℕ) (f : Fault) → clear form ≡ true → is_found 200 (place 0 bytes form []) f.kind f.at ≡ true
+pub not_encoded : (form : Form) (bytes : List ℕ) (f : Fault) → clear form ≡ true
+    → is_found 200 (place 0 bytes form []) f.kind f.at ≡ true
     → IsEncoding form bytes → ⊥
 not_encoded form bytes f ok e is = refuted form bytes f ok is (found form bytes f e)

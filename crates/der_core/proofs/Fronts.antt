@@ -23,7 +23,8 @@ front_apart t b r [] h = tt
 front_apart t b r (u ∷ us) h = (h.0, front_apart t b r us h.1)
 
 -- of one that may be absent
-pub optional_apart : (t : ℕ) (o : Option (List ℕ)) (r : List ℕ) (us : List ℕ) → Others t us → Apart us r → Apart us (optional t o ++ r)
+pub optional_apart : (t : ℕ) (o : Option (List ℕ)) (r : List ℕ) (us : List ℕ) → Others t us → Apart us r
+    → Apart us (optional t o ++ r)
 optional_apart t None r us h l = l
 optional_apart t (Some b) r us h l = front_apart t b r us h
 

@@ -15,7 +15,8 @@ octets_2 n lo hi = let e : n / 256 % 256 ≡ n / 256 = omega arith in rw e (len_
 pub octets_3 : (n : ℕ) → 65536 ≤ n → n < 16777216 → len n ≡ 131 ∷ n / 65536 % 256 ∷ n / 256 % 256 ∷ n % 256 ∷ []
 octets_3 n lo hi = let e : n / 65536 % 256 ≡ n / 65536 = omega arith in rw e (len_3 n lo hi)
 
-pub octets_4 : (n : ℕ) → 16777216 ≤ n → n < 4294967296 → len n ≡ 132 ∷ n / 16777216 % 256 ∷ n / 65536 % 256 ∷ n / 256 % 256 ∷ n % 256 ∷ []
+pub octets_4 : (n : ℕ) → 16777216 ≤ n → n < 4294967296
+    → len n ≡ 132 ∷ n / 16777216 % 256 ∷ n / 65536 % 256 ∷ n / 256 % 256 ∷ n % 256 ∷ []
 octets_4 n lo hi = let e : n / 16777216 % 256 ≡ n / 16777216 = omega arith in rw e (len_4 n lo hi)
 
 -- what length octets are, by the number of them

@@ -1,5 +1,6 @@
 -- The last part of a body that is kept whole is read as one whose contents are kept.
-use Rattle.std.proofs.Common.{◌≡◌, ℕ, ◌+◌, true, false, eqb, List, [], ◌++◌, length, Option, Some, None, Result, Ok, Err, refl, sym, ap, subst, ◌∙◌, arith, inl}
+use Rattle.std.proofs.Common.{◌≡◌, ℕ, ◌+◌, true, false, eqb, List, [], ◌++◌, length, Option, Some, None, Result, Ok}
+use Rattle.std.proofs.Common.{Err, refl, sym, ap, subst, ◌∙◌, arith, inl}
 use Rattle.std.proofs.Common.{inr}
 use Rattle.std.specs.Prelude.{IfSome, option_map}
 use Rattle.std.proofs.lemmas.Bool.{eq-eqb}
@@ -41,11 +42,13 @@ module _ (tag : ℕ) (id : is_tag tag ≡ true) where
   abbrev Kept : Spot → Option (List ℕ) × Spot → Type 0
   Kept s y = (o : Option (List ℕ)) × (last tag any_at s ≡ part (o, y.1)) × (y.0 ≡ option_map (el tag) o)
 
-  contents_there : (s : Spot) (t : Taken × Spot) → has_tag tag s.rest ≡ true → expect_at tag s ≡ Ok t → last tag any_at s ≡ part (Some t.0.body, t.1)
+  contents_there : (s : Spot) (t : Taken × Spot) → has_tag tag s.rest ≡ true → expect_at tag s ≡ Ok t
+      → last tag any_at s ≡ part (Some t.0.body, t.1)
   unfolding enter_at
   contents_there s t h e = rw (h, e) refl
 
-  none_there : (s : Spot) (u : Unit {0}) → has_tag tag s.rest ≡ false → none_at s ≡ Ok u → last tag any_at s ≡ part (None, s)
+  none_there : (s : Spot) (u : Unit {0}) → has_tag tag s.rest ≡ false → none_at s ≡ Ok u
+      → last tag any_at s ≡ part (None, s)
   none_there s u h e = rw (h, e) refl
 
   kept : (s : Spot) (y : Option (List ℕ) × Spot) → IsBytes s.rest → last_element tag s ≡ Ok y → Kept s y
@@ -59,7 +62,8 @@ module _ (tag : ℕ) (id : is_tag tag ≡ true) where
             let c = bind_ok (expect_at tag s) (λ x. Ok (x.0.whole, x.1)) b.0 b.1 in
             let k = expect_is tag s c.0 fits c.1 in
             let w : c.0.0.whole ≡ el tag c.0.0.body = k.1.whole ∙ ap (λ (t : ℕ). el t c.0.0.body) k.0 in
-            let same : (Some c.0.0.whole, c.0.1) ≡ y = ap (λ (z : List ℕ × Spot). (Some z.0, z.1)) (ok_is (c.0.0.whole, c.0.1) b.0 c.2)
+            let same : (Some c.0.0.whole, c.0.1) ≡ y =
+            ap (λ (z : List ℕ × Spot). (Some z.0, z.1)) (ok_is (c.0.0.whole, c.0.1) b.0 c.2)
             ∙ ok_is (Some b.0.0, b.0.1) y b.2 in
             subst (Kept s) same (Some c.0.0.body, contents_there s c.0 h.0 c.1, ap (λ (v : List ℕ). Some v) w)
         | inr h ↦
@@ -94,12 +98,15 @@ module _ (tag : ℕ) (id : is_tag tag ≡ true) where
   good_whole None h = tt
   good_whole (Some b) h = (b, record { identifier = id; size = h.1 }, refl)
 
-  last_takes : (s : Spot) (y : Option (List ℕ) × Spot) → IsBytes s.rest → last_element tag s ≡ Ok y → GoodWhole y.0 × Follows s (optional_whole y.0) y.1
+  last_takes : (s : Spot) (y : Option (List ℕ) × Spot) → IsBytes s.rest → last_element tag s ≡ Ok y
+      → GoodWhole y.0 × Follows s (optional_whole y.0) y.1
   last_takes s y fits e =
       let k = kept s y fits e in
       let t = contents_reader.takes s (k.0, y.1) fits k.1 in
-      let followed : Follows s (optional_whole (option_map (el tag) k.0)) y.1 = subst (λ (b : List ℕ). Follows s b y.1) (same_octets k.0) t.1 in
-      subst (λ (o : Option (List ℕ)). GoodWhole o × Follows s (optional_whole o) y.1) (sym k.2) (good_whole k.0 t.0, followed)
+      let followed : Follows s (optional_whole (option_map (el tag) k.0)) y.1 =
+      subst (λ (b : List ℕ). Follows s b y.1) (same_octets k.0) t.1 in
+      subst (λ (o : Option (List ℕ)). GoodWhole o × Follows s (optional_whole o) y.1) (sym k.2)
+      (good_whole k.0 t.0, followed)
 
   last_again : (x : Option (List ℕ)) (n : ℕ) (r : List ℕ) → GoodWhole x → r ≡ []
       → last_element tag (spot n (optional_whole x ++ r)) ≡ Ok (x, spot (n + length (optional_whole x)) r)
@@ -109,15 +116,18 @@ module _ (tag : ℕ) (id : is_tag tag ≡ true) where
       let b = h.0 in
       let e : eqb tag tag ≡ true = eq-eqb tag tag refl in
       let a = (element_reader tag).again (el tag b) n r (b, h.1, refl) tt in
-      let one : last_element tag (spot n (el tag b ++ r)) ≡ part (Some (el tag b), spot (n + length (el tag b)) r) = rw (e, a) refl in
+      let one : last_element tag (spot n (el tag b ++ r)) ≡ part (Some (el tag b), spot (n + length (el tag b)) r) =
+      rw (e, a) refl in
       subst (λ (w : List ℕ). last_element tag (spot n (w ++ r)) ≡ part (Some w, spot (n + length w) r)) (sym h.2) one
 
   last_encodes : (x : Option (List ℕ)) (r : List ℕ) (after : Form) → GoodWhole x → Encodes [] after r
       → Encodes [] (opt tag opaque after) (optional_whole x ++ r)
   last_encodes None r after h m = absent refl m
-  last_encodes (Some x) r after h m = next tag h.0 r (ap (λ (y : List ℕ). y ++ r) h.2) h.1 (took tag opaque after) refl refl anything m
+  last_encodes (Some x) r after h m =
+      next tag h.0 r (ap (λ (y : List ℕ). y ++ r) h.2) h.1 (took tag opaque after) refl refl anything m
 
-  pub last_element_reader : IsReader (last_element tag) optional_whole (λ o. IfSome o (IsWhole tag)) (opt tag opaque) Last Nothing
+  pub last_element_reader :
+      IsReader (last_element tag) optional_whole (λ o. IfSome o (IsWhole tag)) (opt tag opaque) Last Nothing
   last_element_reader = record {
     plain = contents_reader.plain;
     takes = last_takes;

@@ -1,5 +1,6 @@
 -- Length octets: what they look like, and that octets begin with at most one element.
-use Rattle.std.proofs.Common.{◌≡◌, ℕ, ◌+◌, ◌-◌, ◌*◌, ◌/◌, ◌%◌, ◌<◌, ◌≤◌, ltb, eqb, cond, List, [], ◌∷◌, ◌++◌, length, get_or, take, drop, true, refl, sym, ap}
+use Rattle.std.proofs.Common.{◌≡◌, ℕ, ◌+◌, ◌-◌, ◌*◌, ◌/◌, ◌%◌, ◌<◌, ◌≤◌, ltb, eqb, cond, List, [], ◌∷◌, ◌++◌, length}
+use Rattle.std.proofs.Common.{get_or, take, drop, true, refl, sym, ap}
 use Rattle.std.proofs.Common.{subst, ◌∙◌, append_assoc, arith, inl, inr}
 use Rattle.std.specs.Prelude.{◌⊎◌}
 use Rattle.std.proofs.lemmas.Bool.{lt-ltb, le-ltb, cases_lt}
@@ -17,19 +18,28 @@ len_1 n lo hi = let e : n % 256 ≡ n = omega arith in rw (le-ltb n 128 lo, lt-l
 
 pub len_2 : (n : ℕ) → 256 ≤ n → n < 65536 → len n ≡ 130 ∷ n / 256 ∷ n % 256 ∷ []
 unfolding len
-len_2 n lo hi = let e : n / 256 % 256 ≡ n / 256 = omega arith in rw (le-ltb n 128 (omega arith), le-ltb n 256 lo, lt-ltb n 65536 hi, e) refl
+len_2 n lo hi = let e : n / 256 % 256 ≡ n / 256 = omega arith in
+    rw (le-ltb n 128 (omega arith), le-ltb n 256 lo, lt-ltb n 65536 hi, e) refl
 
 pub len_3 : (n : ℕ) → 65536 ≤ n → n < 16777216 → len n ≡ 131 ∷ n / 65536 ∷ n / 256 % 256 ∷ n % 256 ∷ []
 unfolding len
 len_3 n lo hi = let e : n / 256 / 256 % 256 ≡ n / 65536 = omega arith in
     rw (le-ltb n 128 (omega arith), le-ltb n 256 (omega arith), le-ltb n 65536 lo, lt-ltb n 16777216 hi, e) refl
 
-pub len_4 : (n : ℕ) → 16777216 ≤ n → n < 4294967296 → len n ≡ 132 ∷ n / 16777216 ∷ n / 65536 % 256 ∷ n / 256 % 256 ∷ n % 256 ∷ []
+pub len_4 : (n : ℕ) → 16777216 ≤ n → n < 4294967296
+    → len n ≡ 132 ∷ n / 16777216 ∷ n / 65536 % 256 ∷ n / 256 % 256 ∷ n % 256 ∷ []
 unfolding len
 len_4 n lo hi =
     let e : n / 256 / 256 / 256 % 256 ≡ n / 16777216 = omega arith in
     let f : n / 256 / 256 % 256 ≡ n / 65536 % 256 = omega arith in
-    rw (le-ltb n 128 (omega arith), le-ltb n 256 (omega arith), le-ltb n 65536 (omega arith), le-ltb n 16777216 lo, e, f) refl
+    rw (
+      le-ltb n 128 (omega arith),
+      le-ltb n 256 (omega arith),
+      le-ltb n 65536 (omega arith),
+      le-ltb n 16777216 lo,
+      e,
+      f,
+    ) refl
 
 -- what length octets say, and how many there are
 abbrev value_at : List ℕ → ℕ
@@ -54,10 +64,13 @@ says n x h = elim (cases_lt n 128) [
   | inr a ↦ elim (cases_lt n 256) [
     | inl b ↦ subst (λ (l : List ℕ). Says n x (l ++ x)) (sym (len_1 n a b)) (record { value = refl; behind = refl })
     | inr b ↦ elim (cases_lt n 65536) [
-      | inl d ↦ subst (λ (l : List ℕ). Says n x (l ++ x)) (sym (len_2 n b d)) (record { value = omega arith; behind = refl })
+      | inl d ↦
+          subst (λ (l : List ℕ). Says n x (l ++ x)) (sym (len_2 n b d)) (record { value = omega arith; behind = refl })
       | inr d ↦ elim (cases_lt n 16777216) [
-        | inl f ↦ subst (λ (l : List ℕ). Says n x (l ++ x)) (sym (len_3 n d f)) (record { value = omega arith; behind = refl })
-        | inr f ↦ subst (λ (l : List ℕ). Says n x (l ++ x)) (sym (len_4 n f h)) (record { value = omega arith; behind = refl })
+        | inl f ↦ subst (λ (l : List ℕ). Says n x (l ++ x)) (sym (len_3 n d f))
+            (record { value = omega arith; behind = refl })
+        | inr f ↦ subst (λ (l : List ℕ). Says n x (l ++ x)) (sym (len_4 n f h))
+            (record { value = omega arith; behind = refl })
       ]
     ]
   ]
@@ -78,12 +91,14 @@ pub heads : (a b : ℕ) (x y : List ℕ) → a ∷ x ≡ b ∷ y → (a ≡ b) �
 heads a b x y e = (cc, cc)
 
 -- octets begin with at most one element
-pub el_same : (t : ℕ) (c r : List ℕ) (t' : ℕ) (c' r' : List ℕ) → IsElement t c → IsElement t' c' → el t c ++ r ≡ el t' c' ++ r' → Same t c r t' c' r'
+pub el_same : (t : ℕ) (c r : List ℕ) (t' : ℕ) (c' r' : List ℕ) → IsElement t c → IsElement t' c'
+    → el t c ++ r ≡ el t' c' ++ r' → Same t c r t' c' r'
 el_same t c r t' c' r' is is' e =
     let h : length c < 4294967296 = omega (arith, is.size) in
     let h' : length c' < 4294967296 = omega (arith, is'.size) in
     let p = heads t t' ((len (length c) ++ c) ++ r) ((len (length c') ++ c') ++ r') e in
-    let q = len_same (length c) (length c') (c ++ r) (c' ++ r') h h' (sym (append_assoc (len (length c)) c r) ∙ p.1 ∙ append_assoc (len (length c')) c' r') in
+    let q = len_same (length c) (length c') (c ++ r) (c' ++ r') h h'
+    (sym (append_assoc (len (length c)) c r) ∙ p.1 ∙ append_assoc (len (length c')) c' r') in
     record {
       tag = p.0;
       body = sym (take_at c r (length c) refl) ∙ ap (take (length c)) q.1 ∙ take_at c' r' (length c) (sym q.0);
@@ -93,7 +108,8 @@ el_same t c r t' c' r' is is' e =
 -- what length octets look like
 abbrev pub Forms : ℕ → List ℕ → Type 0
 Forms first more = ((first < 128) × (length more ≡ 0))
-    ⊎ ((128 < first) × (first ≤ 132) × (length more ≡ first - 128) × (first ≡ 129 → 128 ≤ get_or more 0 0) × (129 < first → 0 < get_or more 0 0))
+    ⊎ ((128 < first) × (first ≤ 132) × (length more ≡ first - 128) × (first ≡ 129 → 128 ≤ get_or more 0 0)
+    × (129 < first → 0 < get_or more 0 0))
 
 pub record Shape (n : ℕ) : Type 0 where
   pub first : ℕ
@@ -105,7 +121,12 @@ pub shape : (n : ℕ) → n < 4294967296 → Shape n
 shape n h = elim (cases_lt n 128) [
   | inl a ↦ record { first = n; more = []; is = len_0 n a; forms = inl (a, refl) }
   | inr a ↦ elim (cases_lt n 256) [
-    | inl b ↦ record { first = 129; more = n ∷ []; is = len_1 n a b; forms = inr (omega arith, omega arith, refl, λ _. a, λ _. omega arith) }
+    | inl b ↦ record {
+      first = 129;
+      more = n ∷ [];
+      is = len_1 n a b;
+      forms = inr (omega arith, omega arith, refl, λ _. a, λ _. omega arith);
+    }
     | inr b ↦ elim (cases_lt n 65536) [
       | inl d ↦ record {
         first = 130;
@@ -141,7 +162,8 @@ long_ends first k more c (inr a) f = omega (arith, f.2, a.2, length-append more 
 
 -- the octets don't end inside complete length octets
 pub ends_not : (n k : ℕ) (c : List ℕ) → n < 4294967296 → LengthEnds (len n ++ c) k → ⊥
-ends_not n k c h f = let s = shape n h in long_ends s.first k s.more c s.forms (subst (λ (l : List ℕ). LengthEnds (l ++ c) k) s.is f)
+ends_not n k c h f =
+    let s = shape n h in long_ends s.first k s.more c s.forms (subst (λ (l : List ℕ). LengthEnds (l ++ c) k) s.is f)
 
 long_no : (first : ℕ) (more c rest : List ℕ) → Forms first more → rest ≡ more ++ c → IsNoLength (first ∷ rest) → ⊥
 long_no first more c [] (inl a) e f = omega (arith, f, a.0)
@@ -164,7 +186,8 @@ long_no first more c (o ∷ rest) (inr a) e (inr (inr f)) =
 
 -- complete length octets are a length
 pub is_length : (n : ℕ) (c : List ℕ) → n < 4294967296 → IsNoLength (len n ++ c) → ⊥
-is_length n c h f = let s = shape n h in long_no s.first s.more c (s.more ++ c) s.forms refl (subst (λ (l : List ℕ). IsNoLength (l ++ c)) s.is f)
+is_length n c h f = let s = shape n h in
+    long_no s.first s.more c (s.more ++ c) s.forms refl (subst (λ (l : List ℕ). IsNoLength (l ++ c)) s.is f)
 
 -- none begins with 80
 pub definite : (n : ℕ) (c r : List ℕ) → n < 4294967296 → len n ++ c ≡ 128 ∷ r → ⊥

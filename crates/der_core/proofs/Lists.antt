@@ -1,5 +1,6 @@
 -- Lists of elements with one identifier.
-use Rattle.std.proofs.Common.{◌≡◌, ℕ, zero, suc, ◌+◌, ◌-◌, ◌^◌, ◌<◌, ◌≤◌, true, false, not, eqb, List, [], ◌∷◌, ◌++◌, length, Result, Ok, Err, refl, sym, ap}
+use Rattle.std.proofs.Common.{◌≡◌, ℕ, zero, suc, ◌+◌, ◌-◌, ◌^◌, ◌<◌, ◌≤◌, true, false, not, eqb, List, [], ◌∷◌, ◌++◌}
+use Rattle.std.proofs.Common.{length, Result, Ok, Err, refl, sym, ap}
 use Rattle.std.proofs.Common.{subst, ◌∙◌, arith, inl, inr}
 use Rattle.std.specs.List.{flat_map, AllByRecursion}
 use Rattle.std.proofs.lemmas.Bool.{eqb-true, eqb-false, and_parts, not-true, ne_eqb}
@@ -12,14 +13,16 @@ use Rattle.der_core.specs.Form.{Many, Form, full, may_stand, Element}
 use Rattle.der_core.specs.Encoding.{Encodes, ended, next, absent}
 use Rattle.der_core.specs.Faults.{Place, place, stays, Fact, FaultFrom}
 use Rattle.der_core.specs.Grammar.{list}
-use Rattle.der_core.specs.Reading.{fault, Spot, spot, Taken, next_at, is_other, expect_at, enter_at, within, many_from, many_in}
+use Rattle.der_core.specs.Reading.{fault, Spot, spot, Taken, next_at, is_other, expect_at, enter_at, within, many_from}
+use Rattle.der_core.specs.Reading.{many_in}
 use Rattle.der_core.specs.Results.{◌>>=◌}
 use Rattle.der_core.specs.Standing.{Enters}
 use Rattle.der_core.proofs.ReadLengths.{chosen, ok_is}
 use Rattle.der_core.proofs.Headers.{fails, err_is, fact_is}
 use Rattle.der_core.proofs.Elements.{next_fault}
 use Rattle.der_core.proofs.Results.{bind_ok, bind_err}
-use Rattle.der_core.proofs.Readers.{swapped, took, Reader, Body, IsBody, enter_ok, fault_inside, fault_behind, within_ok, within_again}
+use Rattle.der_core.proofs.Readers.{swapped, took, Reader, Body, IsBody, enter_ok, fault_inside, fault_behind}
+use Rattle.der_core.proofs.Readers.{within_ok, within_again}
 
 abbrev Step : Type 0
 Step = Result (Taken × Spot) Fault
@@ -31,7 +34,8 @@ at_list tag form s ps = place s.pos s.rest (list tag form) ps
 list_stands : (tag t : ℕ) (form : Form) → eqb t tag ≡ false → may_stand (list tag form) t ≡ false
 list_stands tag t form h = rw (swapped tag t h) refl
 
-list_refuses : (tag n : ℕ) (xs : List ℕ) (form : Form) (ps : List Element) → is_other tag xs ≡ true → Fact Tag (place n xs (list tag form) ps) n
+list_refuses : (tag n : ℕ) (xs : List ℕ) (form : Form) (ps : List Element) → is_other tag xs ≡ true
+    → Fact Tag (place n xs (list tag form) ps) n
 list_refuses tag n [] form ps h = absurd cc
 list_refuses tag n (t ∷ xs) form ps h =
     let p = and_parts (is_tag t) (not (eqb t tag)) h in
@@ -51,7 +55,8 @@ list_enter_fault tag s f fits some e form ps =
       ]
     ]
 
-module _ {A : Type 0} (tag : ℕ) (id : is_tag tag ≡ true) (read : Body A) (enc : A → List ℕ) (Good : A → Type 0) (form : Form)
+module _ {A : Type 0} (tag : ℕ) (id : is_tag tag ≡ true) (read : Body A) (enc : A → List ℕ) (Good : A → Type 0)
+    (form : Form)
     (law : IsBody read enc Good form) where
   abbrev pub items : List A → List ℕ
   items xs = flat_map (λ x. el tag (enc x)) xs
@@ -71,26 +76,33 @@ module _ {A : Type 0} (tag : ℕ) (id : is_tag tag ≡ true) (read : Body A) (en
   abbrev some_of : ℕ → Spot → Items
   some_of k s = Item s >>= λ x. many_from Item k x.1 >>= λ xs. Ok (x.0 ∷ xs)
 
-  many_ok : (k : ℕ) (s : Spot) (xs : List A) → IsBytes s.rest → length s.rest ≤ k → many_from Item k s ≡ Ok xs → AllByRecursion Inside xs × (s.rest ≡ items xs)
+  many_ok : (k : ℕ) (s : Spot) (xs : List A) → IsBytes s.rest → length s.rest ≤ k → many_from Item k s ≡ Ok xs
+      → AllByRecursion Inside xs × (s.rest ≡ items xs)
   unfolding many_from
-  many_ok zero s xs fits le e = subst (λ (v : List A). AllByRecursion Inside v × (s.rest ≡ items v)) (ok_is [] xs e) (tt, nil_from_length s.rest (omega arith))
+  many_ok zero s xs fits le e = subst (λ (v : List A). AllByRecursion Inside v × (s.rest ≡ items v)) (ok_is [] xs e)
+      (tt, nil_from_length s.rest (omega arith))
   many_ok (suc k) s xs fits le e =
       elim (chosen (eqb (length s.rest) 0) (done []) (some_of k s) (Ok xs) e) [
-        | inl h ↦ subst (λ (v : List A). AllByRecursion Inside v × (s.rest ≡ items v)) (ok_is [] xs h.1) (tt, nil_from_length s.rest (eqb-true _ _ h.0))
+        | inl h ↦ subst (λ (v : List A). AllByRecursion Inside v × (s.rest ≡ items v)) (ok_is [] xs h.1)
+            (tt, nil_from_length s.rest (eqb-true _ _ h.0))
         | inr h ↦
             let a = bind_ok (Item s) (λ x. many_from Item k x.1 >>= λ ys. Ok (x.0 ∷ ys)) xs h.1 in
             let b = bind_ok (many_from Item k a.0.1) (λ ys. Ok (a.0.0 ∷ ys)) xs a.2 in
             let w = within_ok tag id read enc Good form law s a.0 fits a.1 in
-            let parts : s.rest ≡ el tag (enc a.0.0) ++ a.0.1.rest = subst (λ (c : List ℕ). s.rest ≡ el tag c ++ a.0.1.rest) w.3 w.1.parts in
-            let shorter : length a.0.1.rest ≤ k = omega (arith, ap length parts, length-append (el tag (enc a.0.0)) a.0.1.rest) in
+            let parts : s.rest ≡ el tag (enc a.0.0) ++ a.0.1.rest =
+            subst (λ (c : List ℕ). s.rest ≡ el tag c ++ a.0.1.rest) w.3 w.1.parts in
+            let shorter : length a.0.1.rest ≤ k =
+            omega (arith, ap length parts, length-append (el tag (enc a.0.0)) a.0.1.rest) in
             let ih = many_ok k a.0.1 b.0 w.1.fits_rest shorter b.1 in
             let good : Inside a.0.0 = (w.2, subst (λ (c : List ℕ). length c < 2 ^ 32) w.3 w.1.element.size) in
             let all : s.rest ≡ items (a.0.0 ∷ b.0) = parts ∙ ap (λ (r : List ℕ). el tag (enc a.0.0) ++ r) ih.1
             ∙ sym (flat_map-cons (λ x. el tag (enc x)) a.0.0 b.0) in
-            subst (λ (v : List A). AllByRecursion Inside v × (s.rest ≡ items v)) (ok_is (a.0.0 ∷ b.0) xs b.2) ((good, ih.0), all)
+            subst (λ (v : List A). AllByRecursion Inside v × (s.rest ≡ items v)) (ok_is (a.0.0 ∷ b.0) xs b.2)
+            ((good, ih.0), all)
       ]
 
-  many_again : (k : ℕ) (xs : List A) (n : ℕ) → AllByRecursion Inside xs → length (items xs) ≤ k → many_from Item k (spot n (items xs)) ≡ Ok xs
+  many_again : (k : ℕ) (xs : List A) (n : ℕ) → AllByRecursion Inside xs → length (items xs) ≤ k
+      → many_from Item k (spot n (items xs)) ≡ Ok xs
   unfolding many_from
   many_again zero [] n h le = refl
   many_again (suc k) [] n h le = refl
@@ -101,9 +113,14 @@ module _ {A : Type 0} (tag : ℕ) (id : is_tag tag ≡ true) (read : Body A) (en
       let some : eqb (length (el tag (enc x) ++ items xs)) 0 ≡ false = ne_eqb _ _ (λ z. omega (arith, z)) in
       let shorter : length (items xs) ≤ k = omega (arith, ap length is, size) in
       ap (λ (t : List ℕ). many_from Item (suc k) (spot n t)) is
-      ∙ rw (some, within_again tag id read enc Good form law x n (items xs) h.0, many_again k xs (n + length (el tag (enc x))) h.1 shorter) refl
+      ∙ rw (
+        some,
+        within_again tag id read enc Good form law x n (items xs) h.0,
+        many_again k xs (n + length (el tag (enc x))) h.1 shorter,
+      ) refl
 
-  many_fault : (k : ℕ) (s : Spot) (f : Fault) (ps : List Element) → IsBytes s.rest → many_from Item k s ≡ Err f → FaultFrom (at_list tag form s ps) f
+  many_fault : (k : ℕ) (s : Spot) (f : Fault) (ps : List Element) → IsBytes s.rest → many_from Item k s ≡ Err f
+      → FaultFrom (at_list tag form s ps) f
   unfolding many_from
   many_fault zero s f ps fits e = absurd (let z = e in cc)
   many_fault (suc k) s f ps fits e =
@@ -123,7 +140,8 @@ module _ {A : Type 0} (tag : ℕ) (id : is_tag tag ≡ true) (read : Body A) (en
             | inr b ↦ absurd (let z = b.2 in cc)
             | inl b ↦
                 let w = within_ok tag id read enc Good form law s a.0 fits a.1 in
-                fault_behind Many tag s w.0 a.0.1 form full ps f w.1 (many_fault k a.0.1 f (ps ++ (tag, w.0.rest) ∷ []) w.1.fits_rest b)
+                fault_behind Many tag s w.0 a.0.1 form full ps f w.1
+                (many_fault k a.0.1 f (ps ++ (tag, w.0.rest) ∷ []) w.1.fits_rest b)
           ]
         ]
       ]
@@ -146,12 +164,14 @@ module _ {A : Type 0} (tag : ℕ) (id : is_tag tag ≡ true) (read : Body A) (en
 
 -- ---- an element that is taken
 
-pub bind_same : {A B : Type 0} (r : Result A Fault) (f g : A → Result B Fault) → ((x : A) → r ≡ Ok x → f x ≡ g x) → (r >>= f) ≡ (r >>= g)
+pub bind_same : {A B : Type 0} (r : Result A Fault) (f g : A → Result B Fault) → ((x : A) → r ≡ Ok x → f x ≡ g x)
+    → (r >>= f) ≡ (r >>= g)
 bind_same (Ok x) f g h = h x refl
 bind_same (Err d) f g h = refl
 
 module _ {A : Type 0} (tag : ℕ) (read : Body A) where
-  pub inside_of : (s : Spot) (y : A × Spot) → IsBytes s.rest → within tag read s ≡ Ok y → (c : Spot) × Enters tag s c y.1
+  pub inside_of : (s : Spot) (y : A × Spot) → IsBytes s.rest → within tag read s ≡ Ok y
+      → (c : Spot) × Enters tag s c y.1
   inside_of s y fits e =
       let a = bind_ok (enter_at tag s) (λ x. read x.0 >>= λ v. Ok (v, x.1)) y e in
       let b = bind_ok (read a.0.0) (λ v. Ok (v, a.0.1)) y a.2 in

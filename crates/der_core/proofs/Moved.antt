@@ -1,5 +1,6 @@
 -- What a call of the cursor must satisfy, from what reading gives.
-use Rattle.std.proofs.Common.{◌≡◌, ℕ, ◌+◌, ◌-◌, true, false, List, [], ◌∷◌, ◌++◌, length, Option, Some, None, Result, Ok, Err, refl, sym, ap, subst, ◌∙◌, eqb}
+use Rattle.std.proofs.Common.{◌≡◌, ℕ, ◌+◌, ◌-◌, true, false, List, [], ◌∷◌, ◌++◌, length, Option, Some, None, Result}
+use Rattle.std.proofs.Common.{Ok, Err, refl, sym, ap, subst, ◌∙◌, eqb}
 use Rattle.std.proofs.Common.{inl, inr}
 use Rattle.std.proofs.lemmas.Bool.{eq-eqb, eqb-true}
 use Rattle.std.specs.Prelude.{IfOk, IfErr, IfSome, IsSomeAnd, IsOk, ◌⊎◌, option_map, ◌↔◌}
@@ -19,23 +20,33 @@ use Rattle.der_core.proofs.Readers.{enter_ok, not_other, refuses}
 use Rattle.der_core.proofs.Elements.{next_takes, next_again, next_fault}
 use Rattle.der_core.proofs.Results.{bind_ok, bind_err}
 
-pub next_found : (s s' : Spot) (r : Result Element Fault) → IsBytes s.rest → Moves seen r s s' (next_at s) → IfOk r (λ e. IsTaken s (seen e) s')
+pub next_found : (s s' : Spot) (r : Result Element Fault) → IsBytes s.rest → Moves seen r s s' (next_at s)
+    → IfOk r (λ e. IsTaken s (seen e) s')
 next_found s s' (Ok e) fits h = next_takes s (seen e, s') fits h
 next_found s s' (Err f) fits h = tt
 
-pub next_faulty : (s s' : Spot) (r : Result Element Fault) → IsBytes s.rest → Moves seen r s s' (next_at s) → IfErr r (λ f. IsFaultAt s f)
+pub next_faulty : (s s' : Spot) (r : Result Element Fault) → IsBytes s.rest → Moves seen r s s' (next_at s)
+    → IfErr r (λ f. IsFaultAt s f)
 next_faulty s s' (Ok e) fits h = tt
 next_faulty s s' (Err f) fits h = λ p at is must. next_fault s f p fits at is must.0 (λ _. must) h.0
 
 one_read : Taken → Spot → Result (Taken × Spot) Fault
 one_read x s = Ok (x, s)
 
-pub next_only : (s s' : Spot) (r : Result Element Fault) → Moves seen r s s' (next_at s) → (t : ℕ) (b rest : List ℕ) → IsElement t b → s.rest ≡ el t b ++ rest
+pub next_only : (s s' : Spot) (r : Result Element Fault) → Moves seen r s s' (next_at s) → (t : ℕ) (b rest : List ℕ)
+    → IsElement t b → s.rest ≡ el t b ++ rest
     → IfOk r (λ e. (e.tag ≡ t) × (e.body.now ≡ b) × (s'.rest ≡ rest)) × IsOk r
 next_only s s' (Ok e) h t b rest k is =
     let a = ap (λ (xs : List ℕ). next_at (spot s.pos xs)) is ∙ next_again s.pos t b rest k in
-    let both : (seen e, s') ≡ (record { tag = t; body = b; whole = el t b }, spot (s.pos + length (el t b)) rest) = let z = sym h ∙ a in cc in
-    ((ap (λ (p : Taken × Spot). p.0.tag) both, ap (λ (p : Taken × Spot). p.0.body) both, ap (λ (p : Taken × Spot). p.1.rest) both), refl)
+    let both : (seen e, s') ≡ (record { tag = t; body = b; whole = el t b }, spot (s.pos + length (el t b)) rest) =
+    let z = sym h ∙ a in cc in (
+      (
+        ap (λ (p : Taken × Spot). p.0.tag) both,
+        ap (λ (p : Taken × Spot). p.0.body) both,
+        ap (λ (p : Taken × Spot). p.1.rest) both,
+      ),
+      refl,
+    )
 next_only s s' (Err f) h t b rest k is =
     let a = ap (λ (xs : List ℕ). next_at (spot s.pos xs)) is ∙ next_again s.pos t b rest k in
     absurd (let z = sym h.0 ∙ a in cc)
@@ -48,36 +59,45 @@ Step = Result (Taken × Spot) Fault
 abbrev Wants : ℕ → Spot → Element → Spot → Type 0
 Wants tag s e s' = (e.tag ≡ tag) × IsTaken s (seen e) s'
 
-pub expect_is : (tag : ℕ) (s : Spot) (x : Taken × Spot) → IsBytes s.rest → expect_at tag s ≡ Ok x → (x.0.tag ≡ tag) × IsTaken s x.0 x.1
+pub expect_is : (tag : ℕ) (s : Spot) (x : Taken × Spot) → IsBytes s.rest → expect_at tag s ≡ Ok x
+    → (x.0.tag ≡ tag) × IsTaken s x.0 x.1
 unfolding expect_at
 expect_is tag s x fits e =
     let other : Step = Err (fault Tag s.pos) in
     elim (chosen (is_other tag s.rest) other (next_at s) (Ok x) e) [
       | inl h ↦ absurd (let z = h.1 in cc)
       | inr h ↦
-          let k = next_takes s x fits h.1 in
-          (not_other tag x.0.tag x.0.body x.1.rest k.element.identifier (subst (λ (xs : List ℕ). is_other tag xs ≡ false) k.parts h.0), k)
+          let k = next_takes s x fits h.1 in (
+            not_other tag x.0.tag x.0.body x.1.rest k.element.identifier
+                (subst (λ (xs : List ℕ). is_other tag xs ≡ false) k.parts h.0),
+            k,
+          )
     ]
 
-pub expect_found : (tag : ℕ) (s s' : Spot) (r : Result Element Fault) → IsBytes s.rest → Moves seen r s s' (expect_at tag s)
+pub expect_found : (tag : ℕ) (s s' : Spot) (r : Result Element Fault) → IsBytes s.rest
+    → Moves seen r s s' (expect_at tag s)
     → IfOk r (λ e. (e.tag ≡ tag) × IsTaken s (seen e) s')
 expect_found tag s s' (Ok e) fits h = expect_is tag s (seen e, s') fits h
 expect_found tag s s' (Err f) fits h = tt
 
 pub expect_again : (tag n : ℕ) (b r : List ℕ) → IsElement tag b
-    → expect_at tag (spot n (el tag b ++ r)) ≡ Ok (record { tag = tag; body = b; whole = el tag b }, spot (n + length (el tag b)) r)
+    → expect_at tag (spot n (el tag b ++ r))
+    ≡ Ok (record { tag = tag; body = b; whole = el tag b }, spot (n + length (el tag b)) r)
 unfolding expect_at
 expect_again tag n b r h =
     let same : eqb tag tag ≡ true = eq-eqb tag tag refl in
     let id : is_tag tag ≡ true = h.identifier in
     rw (same, id, next_again n tag b r h) refl
 
-pub expect_only : (tag : ℕ) (s s' : Spot) (r : Result Element Fault) → Moves seen r s s' (expect_at tag s) → (b rest : List ℕ) → IsElement tag b
+pub expect_only : (tag : ℕ) (s s' : Spot) (r : Result Element Fault) → Moves seen r s s' (expect_at tag s)
+    → (b rest : List ℕ) → IsElement tag b
     → s.rest ≡ el tag b ++ rest
     → IfOk r (λ e. (e.body.now ≡ b) × (s'.rest ≡ rest)) × IsOk r
 expect_only tag s s' (Ok e) h b rest k is =
     let a = ap (λ (xs : List ℕ). expect_at tag (spot s.pos xs)) is ∙ expect_again tag s.pos b rest k in
-    let both : (seen e, s') ≡ (record { tag = tag; body = b; whole = el tag b }, spot (s.pos + length (el tag b)) rest) = let z = sym h ∙ a in cc in
+    let both : (seen e, s')
+    ≡ (record { tag = tag; body = b; whole = el tag b }, spot (s.pos + length (el tag b)) rest) = let z = sym h
+    ∙ a in cc in
     ((ap (λ (p : Taken × Spot). p.0.body) both, ap (λ (p : Taken × Spot). p.1.rest) both), refl)
 expect_only tag s s' (Err f) h b rest k is =
     let a = ap (λ (xs : List ℕ). expect_at tag (spot s.pos xs)) is ∙ expect_again tag s.pos b rest k in
@@ -93,17 +113,20 @@ expect_fact tag s f fits e inside after =
       | inr h ↦ next_fault s f p fits refl refl tt (λ _. (tt, refl)) h.1
     ]
 
-pub expect_faulty : (tag : ℕ) (s s' : Spot) (r : Result Element Fault) → IsBytes s.rest → Moves seen r s s' (expect_at tag s)
+pub expect_faulty : (tag : ℕ) (s s' : Spot) (r : Result Element Fault) → IsBytes s.rest
+    → Moves seen r s s' (expect_at tag s)
     → IfErr r (λ f. IsFaultOfOne tag s f)
 expect_faulty tag s s' (Ok e) fits h = tt
 expect_faulty tag s s' (Err f) fits h = expect_fact tag s f fits h.0
 
-pub open_found : (tag : ℕ) (s s' : Spot) (r : Result (Element × Spot) Fault) → IsBytes s.rest → Moves (λ x. x.1) r s s' (enter_at tag s)
+pub open_found : (tag : ℕ) (s s' : Spot) (r : Result (Element × Spot) Fault) → IsBytes s.rest
+    → Moves (λ x. x.1) r s s' (enter_at tag s)
     → IfOk r (λ x. Enters tag s x.1 s')
 open_found tag s s' (Ok x) fits h = enter_ok tag s (x.1, s') fits h
 open_found tag s s' (Err f) fits h = tt
 
-pub open_faulty : (tag : ℕ) (s s' : Spot) (r : Result (Element × Spot) Fault) → IsBytes s.rest → Moves (λ x. x.1) r s s' (enter_at tag s)
+pub open_faulty : (tag : ℕ) (s s' : Spot) (r : Result (Element × Spot) Fault) → IsBytes s.rest
+    → Moves (λ x. x.1) r s s' (enter_at tag s)
     → IfErr r (λ f. IsFaultOfOne tag s f)
 unfolding enter_at
 open_faulty tag s s' (Ok c) fits h = tt
@@ -126,7 +149,8 @@ stands_is : (tag t : ℕ) (b r : List ℕ) → has_tag tag (el t b ++ r) ≡ tru
 stands_is tag t b r h = eqb-true t tag h
 
 optional_some : (tag : ℕ) (s : Spot) (o : Option Taken) (s' : Spot) → optional_at tag s ≡ Ok (o, s')
-    → ((x : Taken) × (o ≡ Some x) × (has_tag tag s.rest ≡ true) × (next_at s ≡ Ok (x, s'))) ⊎ ((o ≡ None) × (has_tag tag s.rest ≡ false) × (s' ≡ s))
+    → ((x : Taken) × (o ≡ Some x) × (has_tag tag s.rest ≡ true) × (next_at s ≡ Ok (x, s')))
+    ⊎ ((o ≡ None) × (has_tag tag s.rest ≡ false) × (s' ≡ s))
 unfolding optional_at
 optional_some tag s o s' e =
     let some : Part = next_at s >>= λ x. Ok (Some x.0, x.1) in
@@ -156,7 +180,8 @@ no_fault : (tag : ℕ) (s : Spot) (f : Fault) → optional_at tag s ≡ Err f �
 unfolding optional_at
 no_fault tag s f e g = let a : optional_at tag s ≡ Ok (None, s) = rw g refl in let z = sym e ∙ a in cc
 
-pub optional_none : (tag : ℕ) (s s' : Spot) (r : Answer) → Moves (option_map seen) r s s' (optional_at tag s) → (r ≡ Ok None) ↔ (has_tag tag s.rest ≡ false)
+pub optional_none : (tag : ℕ) (s s' : Spot) (r : Answer) → Moves (option_map seen) r s s' (optional_at tag s)
+    → (r ≡ Ok None) ↔ (has_tag tag s.rest ≡ false)
 optional_none tag s s' (Ok None) h =
     elim (optional_some tag s None s' h) [
       | inl a ↦ absurd (let z = a.1 in cc)
@@ -169,27 +194,31 @@ optional_none tag s s' (Ok (Some e)) h =
     ]
 optional_none tag s s' (Err f) h = ((λ e. absurd cc), λ g. absurd (no_fault tag s f h.0 g))
 
-pub optional_stays : (tag : ℕ) (s s' : Spot) (r : Answer) → Moves (option_map seen) r s s' (optional_at tag s) → r ≡ Ok None → s' ≡ s
+pub optional_stays : (tag : ℕ) (s s' : Spot) (r : Answer) → Moves (option_map seen) r s s' (optional_at tag s)
+    → r ≡ Ok None → s' ≡ s
 optional_stays tag s s' (Ok None) h e =
     elim (optional_some tag s None s' h) [ inl a ↦ absurd (let z = a.1 in cc) | inr a ↦ a.2 ]
 optional_stays tag s s' (Ok (Some x)) h e = absurd cc
 optional_stays tag s s' (Err f) h e = absurd cc
 
-pub optional_found : (tag : ℕ) (s s' : Spot) (r : Answer) → IsBytes s.rest → Moves (option_map seen) r s s' (optional_at tag s)
+pub optional_found : (tag : ℕ) (s s' : Spot) (r : Answer) → IsBytes s.rest
+    → Moves (option_map seen) r s s' (optional_at tag s)
     → IfOk r (λ o. IfSome o (λ e. (e.tag ≡ tag) × IsTaken s (seen e) s'))
 optional_found tag s s' (Ok None) fits h = tt
 optional_found tag s s' (Ok (Some e)) fits h =
     elim (optional_some tag s (Some (seen e)) s' h) [
       | inl a ↦
           let x-is : seen e ≡ a.0 = let z = a.1 in cc in
-          let k : IsTaken s (seen e) s' = next_takes s (seen e, s') fits (subst (λ (x : Taken). next_at s ≡ Ok (x, s')) (sym x-is) a.3) in
+          let k : IsTaken s (seen e) s' =
+          next_takes s (seen e, s') fits (subst (λ (x : Taken). next_at s ≡ Ok (x, s')) (sym x-is) a.3) in
           (stands_is tag e.tag e.body.now s'.rest (subst (λ (xs : List ℕ). has_tag tag xs ≡ true) k.parts a.2), k)
       | inr a ↦ absurd (let z = a.0 in cc)
     ]
 optional_found tag s s' (Err f) fits h = tt
 
 optional_again : (tag n : ℕ) (b r : List ℕ) → IsElement tag b
-    → optional_at tag (spot n (el tag b ++ r)) ≡ Ok (Some (record { tag = tag; body = b; whole = el tag b }), spot (n + length (el tag b)) r)
+    → optional_at tag (spot n (el tag b ++ r))
+    ≡ Ok (Some (record { tag = tag; body = b; whole = el tag b }), spot (n + length (el tag b)) r)
 unfolding optional_at
 optional_again tag n b r h =
     let same : eqb tag tag ≡ true = eq-eqb tag tag refl in
@@ -207,7 +236,8 @@ a_taken x = Some x
 some_is : (x y : Taken) → a_taken x ≡ Some y → x ≡ y
 some_is x y e = cc
 
-pub optional_only : (tag : ℕ) (s s' : Spot) (r : Answer) → Moves (option_map seen) r s s' (optional_at tag s) → (b rest : List ℕ) → IsElement tag b
+pub optional_only : (tag : ℕ) (s s' : Spot) (r : Answer) → Moves (option_map seen) r s s' (optional_at tag s)
+    → (b rest : List ℕ) → IsElement tag b
     → s.rest ≡ el tag b ++ rest
     → IfOk r (λ o. IsSomeAnd o (λ e. (e.body.now ≡ b) × (s'.rest ≡ rest))) × IsOk r
 optional_only tag s s' (Ok (Some e)) h b rest k is =
@@ -219,12 +249,14 @@ optional_only tag s s' (Ok (Some e)) h b rest k is =
 optional_only tag s s' (Ok None) h b rest k is =
     let a = ap (λ (xs : List ℕ). optional_at tag (spot s.pos xs)) is ∙ optional_again tag s.pos b rest k in
     absurd (none_some (record { tag = tag; body = b; whole = el tag b }) (ap (λ (z : Option Taken × Spot). z.0)
-    (ok_is (None, s') (Some (record { tag = tag; body = b; whole = el tag b }), spot (s.pos + length (el tag b)) rest) (sym h ∙ a))))
+    (ok_is (None, s') (Some (record { tag = tag; body = b; whole = el tag b }), spot (s.pos + length (el tag b)) rest)
+    (sym h ∙ a))))
 optional_only tag s s' (Err f) h b rest k is =
     let a = ap (λ (xs : List ℕ). optional_at tag (spot s.pos xs)) is ∙ optional_again tag s.pos b rest k in
     absurd (let z = sym h.0 ∙ a in cc)
 
-optional_fact : (tag : ℕ) (s : Spot) (f : Fault) → IsBytes s.rest → optional_at tag s ≡ Err f → IsFaultOfOptional tag s f
+optional_fact : (tag : ℕ) (s : Spot) (f : Fault) → IsBytes s.rest → optional_at tag s ≡ Err f
+    → IsFaultOfOptional tag s f
 unfolding optional_at
 optional_fact tag s f fits e inside after =
     let p : Place = place s.pos s.rest (opt tag inside after) [] in
@@ -238,7 +270,8 @@ optional_fact tag s f fits e inside after =
       | inr h ↦ absurd (let z = h.1 in cc)
     ]
 
-pub optional_faulty : (tag : ℕ) (s s' : Spot) (r : Answer) → IsBytes s.rest → Moves (option_map seen) r s s' (optional_at tag s)
+pub optional_faulty : (tag : ℕ) (s s' : Spot) (r : Answer) → IsBytes s.rest
+    → Moves (option_map seen) r s s' (optional_at tag s)
     → IfErr r (λ f. IsFaultOfOptional tag s f)
 optional_faulty tag s s' (Ok o) fits h = tt
 optional_faulty tag s s' (Err f) fits h = optional_fact tag s f fits h.0

@@ -1,5 +1,6 @@
 -- The readings of the parts that types are made of.
-use Rattle.std.proofs.Common.{◌≡◌, ℕ, zero, suc, ◌+◌, Bool, true, false, eqb, List, [], ◌∷◌, ◌++◌, length, Option, Some, None, Result, Ok, Err, refl, sym, ap}
+use Rattle.std.proofs.Common.{◌≡◌, ℕ, zero, suc, ◌+◌, Bool, true, false, eqb, List, [], ◌∷◌, ◌++◌, length, Option, Some}
+use Rattle.std.proofs.Common.{None, Result, Ok, Err, refl, sym, ap}
 use Rattle.std.proofs.Common.{subst, ◌∙◌, arith, inl, inr, lit<}
 use Rattle.std.specs.Prelude.{IfSome}
 use Rattle.std.proofs.lemmas.Bool.{eqb-true, or_cases}
@@ -16,7 +17,8 @@ use Rattle.der_core.specs.Form.{Optional, Form, opaque, contents, opaques}
 use Rattle.der_core.specs.Encoding.{Encodes, anything, next, absent}
 use Rattle.der_core.specs.Faults.{Place, place, StandsNot, IsMalformed, stays, passes, drops, Fact, FaultFrom}
 use Rattle.der_core.specs.Grammar.{one, opt, any, is_of, version, bits, oid, integer, boolean}
-use Rattle.der_core.specs.Reading.{Spot, spot, Taken, next_at, expect_at, element_at, within, maybe, last, contents_at, any_at, oid_in, integer_in, bits_in}
+use Rattle.der_core.specs.Reading.{Spot, spot, Taken, next_at, expect_at, element_at, within, maybe, last, contents_at}
+use Rattle.der_core.specs.Reading.{any_at, oid_in, integer_in, bits_in}
 use Rattle.der_core.specs.Reading.{version_in, boolean_in, opaque_in, opaque_at}
 use Rattle.der_core.specs.Flags.{flag_of, flag_contents, flag_at}
 use Rattle.der_core.specs.Standing.{IsTaken}
@@ -24,12 +26,14 @@ use Rattle.der_core.proofs.ReadLengths.{ok_is}
 use Rattle.der_core.proofs.Elements.{next_takes, next_again, next_fault}
 use Rattle.der_core.proofs.Results.{bind_ok, bind_err}
 use Rattle.der_core.proofs.Moved.{expect_is, expect_again, expect_fact}
-use Rattle.der_core.proofs.Readers.{Reader, Body, Follows, Anything, Nothing, took, IsReader, IsBody, contents_body, any_body, within_reader, maybe_reader}
+use Rattle.der_core.proofs.Readers.{Reader, Body, Follows, Anything, Nothing, took, IsReader, IsBody, contents_body}
+use Rattle.der_core.proofs.Readers.{any_body, within_reader, maybe_reader}
 use Rattle.der_core.proofs.Readers.{last_reader, named_reader, enc_option, GoodOption}
 
 -- ---- the same law in other words
 
-module _ {A : Type 0} (enc enc' : A → List ℕ) (Good Good' : A → Type 0) (same : (x : A) → enc x ≡ enc' x) (to : (x : A) → Good x → Good' x)
+module _ {A : Type 0} (enc enc' : A → List ℕ) (Good Good' : A → Type 0) (same : (x : A) → enc x ≡ enc' x)
+    (to : (x : A) → Good x → Good' x)
     (from : (x : A) → Good' x → Good x) where
   pub alike_body : (read : Body A) (form : Form) → IsBody read enc Good form → IsBody read enc' Good' form
   alike_body read form law = record {
@@ -39,15 +43,19 @@ module _ {A : Type 0} (enc enc' : A → List ℕ) (Good Good' : A → Type 0) (s
     encodes = λ x h. subst (Encodes [] form) (same x) (law.encodes x (from x h));
   }
 
-  pub alike_reader : (read : Reader A) (due : Form → Form) (Lets Lets' : List ℕ → Type 0) (Before : Form → Type 0) → ((r : List ℕ) → Lets' r → Lets r)
+  pub alike_reader : (read : Reader A) (due : Form → Form) (Lets Lets' : List ℕ → Type 0) (Before : Form → Type 0)
+      → ((r : List ℕ) → Lets' r → Lets r)
       → IsReader read enc Good due Lets Before → IsReader read enc' Good' due Lets' Before
   alike_reader read due Lets Lets' Before lets law = record {
     plain = law.plain;
-    takes = λ s y fits e. let t = law.takes s y fits e in (to y.0 t.0, subst (λ (b : List ℕ). Follows s b y.1) (same y.0) t.1);
-    again = λ x n r h l. subst (λ (b : List ℕ). read (spot n (b ++ r)) ≡ Ok (x, spot (n + length b) r)) (same x) (law.again x n r (from x h) (lets r l));
+    takes = λ s y fits e. let t = law.takes s y fits e in
+        (to y.0 t.0, subst (λ (b : List ℕ). Follows s b y.1) (same y.0) t.1);
+    again = λ x n r h l. subst (λ (b : List ℕ). read (spot n (b ++ r)) ≡ Ok (x, spot (n + length b) r)) (same x)
+        (law.again x n r (from x h) (lets r l));
     faults = law.faults;
     goes = law.goes;
-    encodes = λ x r after h m. subst (λ (b : List ℕ). Encodes [] (due after) (b ++ r)) (same x) (law.encodes x r after (from x h) m);
+    encodes = λ x r after h m.
+        subst (λ (b : List ℕ). Encodes [] (due after) (b ++ r)) (same x) (law.encodes x r after (from x h) m);
   }
 
 -- ---- contents
@@ -55,13 +63,16 @@ module _ {A : Type 0} (enc enc' : A → List ℕ) (Good Good' : A → Type 0) (s
 abbrev Same : List ℕ → List ℕ
 Same b = b
 
-pub malformed : (k : Kind) (formed allowed : List ℕ → Bool) (p : Place) → p.due ≡ contents k formed allowed → formed p.rest ≡ false
+pub malformed : (k : Kind) (formed allowed : List ℕ → Bool) (p : Place) → p.due ≡ contents k formed allowed
+    → formed p.rest ≡ false
     → IsMalformed k p.due p.rest × (p.at ≡ p.at)
 malformed k formed allowed p e h = (subst (λ (d : Form). IsMalformed k d p.rest) (sym e) (refl, h), refl)
 
-module _ (k : Kind) (formed : List ℕ → Bool) (fact : (p : Place) → p.due ≡ contents k formed any → formed p.rest ≡ false → Fact k p p.at) where
+module _ (k : Kind) (formed : List ℕ → Bool)
+    (fact : (p : Place) → p.due ≡ contents k formed any → formed p.rest ≡ false → Fact k p p.at) where
   pub formed_body : IsBody (contents_at k formed any) Same (λ b. formed b ≡ true) (contents k formed any)
-  formed_body = alike_body Same Same (λ b. (formed b ≡ true) × (any b ≡ true)) (λ b. formed b ≡ true) (λ x. refl) (λ x h. h.0) (λ x h. (h, refl))
+  formed_body = alike_body Same Same (λ b. (formed b ≡ true) × (any b ≡ true)) (λ b. formed b ≡ true) (λ x. refl)
+      (λ x h. h.0) (λ x h. (h, refl))
       (contents_at k formed any) (contents k formed any)
       (contents_body k formed any fact)
 
@@ -75,14 +86,16 @@ pub boolean_body : IsBody boolean_in Same (λ b. is_boolean b ≡ true) boolean
 boolean_body = formed_body kind.Boolean is_boolean (malformed kind.Boolean is_boolean any)
 
 -- an INTEGER of one of the values that a test allows
-pub integer_of_body : (allowed : List ℕ → Bool) → IsBody (contents_at kind.Integer is_integer allowed) Same (λ b. (is_integer b ≡ true)
+pub integer_of_body : (allowed : List ℕ → Bool)
+    → IsBody (contents_at kind.Integer is_integer allowed) Same (λ b. (is_integer b ≡ true)
     × (allowed b ≡ true)) (contents kind.Integer is_integer allowed)
 integer_of_body allowed = contents_body kind.Integer is_integer allowed (malformed kind.Integer is_integer allowed)
 
 pub bits_body : IsBody bits_in Same (λ b. is_bits b ≡ true) bits
 bits_body = formed_body kind.Bits is_bits (malformed kind.Bits is_bits any)
 
-pub version_body : (allowed : List ℕ) → IsBody (version_in allowed) Same (λ b. (is_integer b ≡ true) × (is_of allowed b ≡ true)) (version allowed)
+pub version_body : (allowed : List ℕ)
+    → IsBody (version_in allowed) Same (λ b. (is_integer b ≡ true) × (is_of allowed b ≡ true)) (version allowed)
 version_body allowed = integer_of_body (is_of allowed)
 
 -- ---- elements
@@ -102,11 +115,13 @@ pub oid_reader : IsReader (within 0x06 oid_in) (λ b. el 0x06 b) IsOid (one 0x06
 oid_reader = within_reader 0x06 refl oid_in Same (λ b. is_oid b ≡ true) oid oid_body
 
 pub octets_reader : IsReader (within 0x04 any_at) (λ b. el 0x04 b) HasLength (one 0x04 opaque) Always Anything
-octets_reader = alike_reader (λ b. el 0x04 b) (λ b. el 0x04 b) (λ b. Unit {0} × HasLength b) HasLength (λ x. refl) (λ x h. h.1) (λ x h. (tt, h))
+octets_reader = alike_reader (λ b. el 0x04 b) (λ b. el 0x04 b) (λ b. Unit {0} × HasLength b) HasLength (λ x. refl)
+    (λ x h. h.1) (λ x h. (tt, h))
     (within 0x04 any_at) (one 0x04 opaque) Always Always Anything (λ r l. l)
     (within_reader 0x04 refl any_at Same (λ b. Unit {0}) opaque any_body)
 
-module _ (tag : ℕ) (id : is_tag tag ≡ true) (read : Body (List ℕ)) (Good : List ℕ → Type 0) (form : Form) (law : IsBody read Same Good form) where
+module _ (tag : ℕ) (id : is_tag tag ≡ true) (read : Body (List ℕ)) (Good : List ℕ → Type 0) (form : Form)
+    (law : IsBody read Same Good form) where
   same_opt : (o : Option (List ℕ)) → enc_option tag id read Same Good form law o ≡ optional tag o
   same_opt None = refl
   same_opt (Some b) = refl
@@ -119,19 +134,25 @@ module _ (tag : ℕ) (id : is_tag tag ≡ true) (read : Body (List ℕ)) (Good :
   opt_good None h = tt
   opt_good (Some b) h = h
 
-  pub opt_reader : IsReader (maybe tag read) (optional tag) (λ o. IfSome o (λ b. Good b × HasLength b)) (opt tag form) (Not tag) Anything
-  opt_reader = alike_reader (enc_option tag id read Same Good form law) (optional tag) (GoodOption tag id read Same Good form law)
+  pub opt_reader : IsReader (maybe tag read) (optional tag) (λ o. IfSome o (λ b. Good b × HasLength b)) (opt tag form)
+      (Not tag) Anything
+  opt_reader = alike_reader (enc_option tag id read Same Good form law) (optional tag)
+      (GoodOption tag id read Same Good form law)
       (λ o. IfSome o (λ b. Good b × HasLength b)) same_opt good_opt opt_good
-      (maybe tag read) (opt tag form) (Not tag) (Not tag) Anything (λ r l. l) (maybe_reader tag id read Same Good form law)
+      (maybe tag read) (opt tag form) (Not tag) (Not tag) Anything (λ r l. l)
+      (maybe_reader tag id read Same Good form law)
 
   -- the last part of a body, kept as its contents
-  pub opt_last_reader : IsReader (last tag read) (optional tag) (λ o. IfSome o (λ b. Good b × HasLength b)) (opt tag form) Last Nothing
-  opt_last_reader = alike_reader (enc_option tag id read Same Good form law) (optional tag) (GoodOption tag id read Same Good form law)
+  pub opt_last_reader :
+      IsReader (last tag read) (optional tag) (λ o. IfSome o (λ b. Good b × HasLength b)) (opt tag form) Last Nothing
+  opt_last_reader = alike_reader (enc_option tag id read Same Good form law) (optional tag)
+      (GoodOption tag id read Same Good form law)
       (λ o. IfSome o (λ b. Good b × HasLength b)) same_opt good_opt opt_good
       (last tag read) (opt tag form) Last Last Nothing (λ r l. l) (last_reader tag id read Same Good form law)
 
 -- what follows an optional part isn't the optional part before it
-pub opt_apart : (tag t : ℕ) (o : Option (List ℕ)) (r : List ℕ) → eqb t tag ≡ false → Not tag r → Not tag (optional t o ++ r)
+pub opt_apart : (tag t : ℕ) (o : Option (List ℕ)) (r : List ℕ) → eqb t tag ≡ false → Not tag r
+    → Not tag (optional t o ++ r)
 opt_apart tag t None r h l = l
 opt_apart tag t (Some b) r h l = h
 
@@ -175,7 +196,8 @@ flag_good True = (refl, lit< tt)
 
 pub flag_reader : IsReader flag_at flag (λ f. Unit {0}) (opt 0x01 boolean) (Not 0x01) Anything
 unfolding flag_at GoodFlag
-flag_reader = alike_reader (λ f. optional 0x01 (flag_contents f)) flag (λ f. GoodFlag (flag_contents f)) (λ f. Unit {0}) flag_same (λ f h. tt)
+flag_reader = alike_reader (λ f. optional 0x01 (flag_contents f)) flag (λ f. GoodFlag (flag_contents f))
+    (λ f. Unit {0}) flag_same (λ f h. tt)
     (λ f h. flag_good f) flag_at (opt 0x01 boolean) (Not 0x01) (Not 0x01) Anything (λ r l. l)
     (named_reader flag_of flag_contents flag_there (maybe 0x01 boolean_in) (optional 0x01) GoodFlag (opt 0x01 boolean)
     (Not 0x01) Anything (opt_reader 0x01 refl boolean_in (λ b. is_boolean b ≡ true) boolean boolean_body) flag_back)
@@ -188,48 +210,62 @@ Part = Result (Option (List ℕ) × Spot) Fault
 abbrev part_ok : Option (List ℕ) × Spot → Part
 part_ok y = Ok y
 
-opaque_takes : (s : Spot) (xs : List ℕ) (y : Option (List ℕ) × Spot) → s.rest ≡ xs → IsBytes s.rest → opaque_in s xs ≡ Ok y
+opaque_takes : (s : Spot) (xs : List ℕ) (y : Option (List ℕ) × Spot) → s.rest ≡ xs → IsBytes s.rest
+    → opaque_in s xs ≡ Ok y
     → IfSome y.0 IsOpaque × Follows s (optional_whole y.0) y.1
-opaque_takes s [] y is fits e = subst (λ (z : Option (List ℕ) × Spot). IfSome z.0 IsOpaque × Follows s (optional_whole z.0) z.1) (ok_is (None, s) y e)
+opaque_takes s [] y is fits e = subst
+    (λ (z : Option (List ℕ) × Spot). IfSome z.0 IsOpaque × Follows s (optional_whole z.0) z.1) (ok_is (None, s) y e)
     (tt, record { parts = refl; moved = omega arith })
 opaque_takes s (t ∷ xs) y is fits e =
     let b = bind_ok (next_at s) (λ x. Ok (Some x.0.whole, x.1)) y e in
     let k = next_takes s b.0 fits b.1 in
     let w : b.0.0.whole ≡ el b.0.0.tag b.0.0.body = k.whole in
-    let f : Follows s b.0.0.whole b.0.1 = subst (λ (v : List ℕ). Follows s v b.0.1) (sym w) (record { parts = k.parts; moved = k.moved }) in
-    subst (λ (z : Option (List ℕ) × Spot). IfSome z.0 IsOpaque × Follows s (optional_whole z.0) z.1) (ok_is (Some b.0.0.whole, b.0.1) y b.2)
+    let f : Follows s b.0.0.whole b.0.1 =
+    subst (λ (v : List ℕ). Follows s v b.0.1) (sym w) (record { parts = k.parts; moved = k.moved }) in
+    subst (λ (z : Option (List ℕ) × Spot). IfSome z.0 IsOpaque × Follows s (optional_whole z.0) z.1)
+    (ok_is (Some b.0.0.whole, b.0.1) y b.2)
     ((b.0.0.tag, b.0.0.body, k.element, w), f)
 
-opaque_again : (o : Option (List ℕ)) (n : ℕ) → IfSome o IsOpaque → opaque_at (spot n (optional_whole o)) ≡ Ok (o, spot (n + length (optional_whole o)) [])
+opaque_again : (o : Option (List ℕ)) (n : ℕ) → IfSome o IsOpaque
+    → opaque_at (spot n (optional_whole o)) ≡ Ok (o, spot (n + length (optional_whole o)) [])
 unfolding opaque_at
 opaque_again None n h = let e : n + 0 ≡ n = omega arith in rw e refl
 opaque_again (Some x) n h =
     let t = h.0 in let b = h.1 in
-    let a : next_at (spot n (el t b)) ≡ Ok (record { tag = t; body = b; whole = el t b }, spot (n + length (el t b)) []) =
-    subst (λ (v : List ℕ). next_at (spot n v) ≡ Ok (record { tag = t; body = b; whole = el t b }, spot (n + length (el t b)) []))
+    let a : next_at (spot n (el t b))
+    ≡ Ok (record { tag = t; body = b; whole = el t b }, spot (n + length (el t b)) []) =
+    subst (λ (v : List ℕ). next_at (spot n v)
+    ≡ Ok (record { tag = t; body = b; whole = el t b }, spot (n + length (el t b)) []))
     (append-nil (el t b)) (next_again n t b [] h.2) in
-    let one : opaque_in (spot n (el t b)) (el t b) ≡ part_ok (Some (el t b), spot (n + length (el t b)) []) = rw a refl in
+    let one : opaque_in (spot n (el t b)) (el t b) ≡ part_ok (Some (el t b), spot (n + length (el t b)) []) =
+    rw a refl in
     subst (λ (v : List ℕ). opaque_in (spot n v) v ≡ part_ok (Some v, spot (n + length v) [])) (sym h.3) one
 
 -- an element is present exactly as its identifier says
-any_stands : (s : Spot) (y : Taken × Spot) (after : Form) (f : Fault) → IsTaken s y.0 y.1 → FaultFrom (place y.1.pos y.1.rest after []) f
+any_stands : (s : Spot) (y : Taken × Spot) (after : Form) (f : Fault) → IsTaken s y.0 y.1
+    → FaultFrom (place y.1.pos y.1.rest after []) f
     → FaultFrom (place s.pos s.rest (opaques Optional after) []) f
 any_stands s y after f k h =
     let q = subst (λ (m : ℕ). FaultFrom (place m y.1.rest after []) f) k.moved h in
     subst (λ (xs : List ℕ). FaultFrom (place s.pos xs (opaques Optional after) []) f) (sym k.parts)
     (q.0, passes y.0.tag y.0.body y.1.rest k.element k.element.identifier q.1, q.2)
 
-opaque_goes : (s : Spot) (xs : List ℕ) (y : Option (List ℕ) × Spot) → s.rest ≡ xs → IsBytes s.rest → opaque_in s xs ≡ Ok y
-    → (after : Form) (f : Fault) → FaultFrom (place y.1.pos y.1.rest after []) f → FaultFrom (place s.pos s.rest (opaques Optional after) []) f
+opaque_goes : (s : Spot) (xs : List ℕ) (y : Option (List ℕ) × Spot) → s.rest ≡ xs → IsBytes s.rest
+    → opaque_in s xs ≡ Ok y
+    → (after : Form) (f : Fault) → FaultFrom (place y.1.pos y.1.rest after []) f
+    → FaultFrom (place s.pos s.rest (opaques Optional after) []) f
 opaque_goes s [] y is fits e after f h =
-    let p = subst (λ (z : Option (List ℕ) × Spot). FaultFrom (place z.1.pos z.1.rest after []) f) (sym (ok_is (None, s) y e)) h in
+    let p = subst (λ (z : Option (List ℕ) × Spot). FaultFrom (place z.1.pos z.1.rest after []) f)
+    (sym (ok_is (None, s) y e)) h in
     (p.0, drops refl (subst (StandsNot (opaques Optional after)) (sym is) tt) p.1, p.2)
 opaque_goes s (t ∷ xs) y is fits e after f h =
     let b = bind_ok (next_at s) (λ x. Ok (Some x.0.whole, x.1)) y e in
-    any_stands s b.0 after f (next_takes s b.0 fits b.1) (subst (λ (z : Option (List ℕ) × Spot). FaultFrom (place z.1.pos z.1.rest after []) f)
+    any_stands s b.0 after f (next_takes s b.0 fits b.1)
+    (subst (λ (z : Option (List ℕ) × Spot). FaultFrom (place z.1.pos z.1.rest after []) f)
     (sym (ok_is (Some b.0.0.whole, b.0.1) y b.2)) h)
 
-opaque_fault : (s : Spot) (xs : List ℕ) (f : Fault) → s.rest ≡ xs → IsBytes s.rest → opaque_in s xs ≡ Err f → (after : Form)
+opaque_fault : (s : Spot) (xs : List ℕ) (f : Fault) → s.rest ≡ xs → IsBytes s.rest → opaque_in s xs ≡ Err f
+    → (after : Form)
     → FaultFrom (place s.pos s.rest (opaques Optional after) []) f
 opaque_fault s [] f is fits e after = absurd (let z = e in cc)
 opaque_fault s (t ∷ xs) f is fits e after =
@@ -242,7 +278,8 @@ opaque_fault s (t ∷ xs) f is fits e after =
 opaque_encodes : (o : Option (List ℕ)) (r : List ℕ) (after : Form) → IfSome o IsOpaque → Encodes [] after r
     → Encodes [] (opaques Optional after) (optional_whole o ++ r)
 opaque_encodes None r after h m = absent refl m
-opaque_encodes (Some x) r after h m = next h.0 h.1 r (ap (λ (y : List ℕ). y ++ r) h.3) h.2 h.2.identifier refl refl anything m
+opaque_encodes (Some x) r after h m =
+    next h.0 h.1 r (ap (λ (y : List ℕ). y ++ r) h.3) h.2 h.2.identifier refl refl anything m
 
 pub opaque_reader : IsReader opaque_at optional_whole (λ o. IfSome o IsOpaque) (opaques Optional) Last Anything
 unfolding opaque_at
@@ -267,21 +304,28 @@ part_whole y = Ok y
 abbrev pub IsWhole : ℕ → List ℕ → Type 0
 IsWhole tag x = (b : List ℕ) × IsElement tag b × (x ≡ el tag b)
 
-element_takes : (tag : ℕ) (s : Spot) (y : List ℕ × Spot) → IsBytes s.rest → element_at tag s ≡ Ok y → IsWhole tag y.0 × Follows s y.0 y.1
+element_takes : (tag : ℕ) (s : Spot) (y : List ℕ × Spot) → IsBytes s.rest → element_at tag s ≡ Ok y
+    → IsWhole tag y.0 × Follows s y.0 y.1
 unfolding element_at
 element_takes tag s y fits e =
     let b = bind_ok (expect_at tag s) (λ x. Ok (x.0.whole, x.1)) y e in
     let k = expect_is tag s b.0 fits b.1 in
     let made : IsWhole tag b.0.0.whole × Follows s b.0.0.whole b.0.1 = (
-      (b.0.0.body, subst (λ (t : ℕ). IsElement t b.0.0.body) k.0 k.1.element, k.1.whole ∙ ap (λ (t : ℕ). el t b.0.0.body) k.0),
+      (
+        b.0.0.body,
+        subst (λ (t : ℕ). IsElement t b.0.0.body) k.0 k.1.element,
+        k.1.whole ∙ ap (λ (t : ℕ). el t b.0.0.body) k.0,
+      ),
       subst (λ (w : List ℕ). Follows s w b.0.1) (sym k.1.whole) (record { parts = k.1.parts; moved = k.1.moved }),
     ) in
     subst (λ (z : List ℕ × Spot). IsWhole tag z.0 × Follows s z.0 z.1) (ok_is (b.0.0.whole, b.0.1) y b.2) made
 
-element_again : (tag : ℕ) (x : List ℕ) (n : ℕ) (r : List ℕ) → IsWhole tag x → element_at tag (spot n (x ++ r)) ≡ Ok (x, spot (n + length x) r)
+element_again : (tag : ℕ) (x : List ℕ) (n : ℕ) (r : List ℕ) → IsWhole tag x
+    → element_at tag (spot n (x ++ r)) ≡ Ok (x, spot (n + length x) r)
 unfolding element_at
 element_again tag x n r h =
-    let one : element_at tag (spot n (el tag h.0 ++ r)) ≡ part_whole (el tag h.0, spot (n + length (el tag h.0)) r) = rw (expect_again tag n h.0 r h.1) refl in
+    let one : element_at tag (spot n (el tag h.0 ++ r)) ≡ part_whole (el tag h.0, spot (n + length (el tag h.0)) r) =
+    rw (expect_again tag n h.0 r h.1) refl in
     subst (λ (w : List ℕ). element_at tag (spot n (w ++ r)) ≡ part_whole (w, spot (n + length w) r)) (sym h.2) one
 
 element_fault : (tag : ℕ) (s : Spot) (f : Fault) → IsBytes s.rest → element_at tag s ≡ Err f → (after : Form)
@@ -293,13 +337,15 @@ element_fault tag s f fits e after =
       | inr b ↦ absurd (let z = b.2 in cc)
     ]
 
-element_goes : (tag : ℕ) (s : Spot) (y : List ℕ × Spot) → IsBytes s.rest → element_at tag s ≡ Ok y → (after : Form) (f : Fault)
+element_goes : (tag : ℕ) (s : Spot) (y : List ℕ × Spot) → IsBytes s.rest → element_at tag s ≡ Ok y
+    → (after : Form) (f : Fault)
     → FaultFrom (place y.1.pos y.1.rest after []) f → FaultFrom (place s.pos s.rest (one tag opaque after) []) f
 element_goes tag s y fits e after f h =
     let t = element_takes tag s y fits e in
     let moved : y.1.pos ≡ s.pos + length (el tag t.0.0) = t.1.moved ∙ ap (λ (w : List ℕ). s.pos + length w) t.0.2 in
     let q = subst (λ (m : ℕ). FaultFrom (place m y.1.rest after []) f) moved h in
-    subst (λ (xs : List ℕ). FaultFrom (place s.pos xs (one tag opaque after) []) f) (sym (t.1.parts ∙ ap (λ (w : List ℕ). w ++ y.1.rest) t.0.2))
+    subst (λ (xs : List ℕ). FaultFrom (place s.pos xs (one tag opaque after) []) f)
+    (sym (t.1.parts ∙ ap (λ (w : List ℕ). w ++ y.1.rest) t.0.2))
     (q.0, passes tag t.0.0 y.1.rest t.0.1 (took tag opaque after) q.1, q.2)
 
 pub element_reader : (tag : ℕ) → IsReader (element_at tag) (λ x. x) (IsWhole tag) (one tag opaque) Always Anything
@@ -309,5 +355,6 @@ element_reader tag = record {
   again = λ x n r h l. element_again tag x n r h;
   faults = λ s f fits e after b. element_fault tag s f fits e after;
   goes = element_goes tag;
-  encodes = λ x r after h m. next tag h.0 r (ap (λ (y : List ℕ). y ++ r) h.2) h.1 (took tag opaque after) refl refl anything m;
+  encodes = λ x r after h m.
+      next tag h.0 r (ap (λ (y : List ℕ). y ++ r) h.2) h.1 (took tag opaque after) refl refl anything m;
 }

@@ -1,5 +1,6 @@
 -- What a reading must satisfy for its encoding and its grammar, and readings made of readings.
-use Rattle.std.proofs.Common.{◌≡◌, ℕ, ◌+◌, ◌-◌, ◌^◌, ◌<◌, Bool, true, false, not, ◌&&◌, cond, eqb, List, [], ◌∷◌, ◌++◌, length, Option, Some, None, Result, Ok}
+use Rattle.std.proofs.Common.{◌≡◌, ℕ, ◌+◌, ◌-◌, ◌^◌, ◌<◌, Bool, true, false, not, ◌&&◌, cond, eqb, List, [], ◌∷◌, ◌++◌}
+use Rattle.std.proofs.Common.{length, Option, Some, None, Result, Ok}
 use Rattle.std.proofs.Common.{Err, refl, sym, ap, subst, ◌∙◌, arith, inl, inr, ◌⊎◌, append_assoc}
 use Rattle.std.proofs.lemmas.Bool.{eqb-true, eqb-false, eq-eqb, ne_eqb, and_parts, not-true, not-false}
 use Rattle.std.proofs.lemmas.List.{drop_at, length-append, append-nil, nil_from_length}
@@ -7,11 +8,13 @@ use Rattle.der_core.specs.declared.fault.Fault.{Fault}
 use Rattle.der_core.specs.declared.fault.Kind.{Kind}
 use Rattle.der_core.specs.declared.fault.Kind.TheVariants.{HighTag, Tag, Trailing, Value}
 use Rattle.der_core.specs.Element.{is_tag, len, el, IsElement, IsBytes, has_tag}
-use Rattle.der_core.specs.Form.{Count, One, Optional, Form, opaque, contents, full, part, takes, behind, may_stand, body_of, passed_by, Element}
+use Rattle.der_core.specs.Form.{Count, One, Optional, Form, opaque, contents, full, part, takes, behind, may_stand}
+use Rattle.der_core.specs.Form.{body_of, passed_by, Element}
 use Rattle.der_core.specs.Encoding.{Encodes, anything, held, ended, next, absent}
 use Rattle.der_core.specs.Faults.{Place, place, StandsNot, stays, passes, enters, drops, Fact, FaultFrom}
 use Rattle.der_core.specs.Grammar.{one, opt}
-use Rattle.der_core.specs.Reading.{fault, Spot, spot, Taken, next_at, is_other, expect_at, enter_at, end_at, none_in, none_at, within, maybe, last, ◌then◌}
+use Rattle.der_core.specs.Reading.{fault, Spot, spot, Taken, next_at, is_other, expect_at, enter_at, end_at, none_in}
+use Rattle.der_core.specs.Reading.{none_at, within, maybe, last, ◌then◌}
 use Rattle.der_core.specs.Reading.{whole_of, made, named, contents_at, any_at}
 use Rattle.der_core.specs.Results.{◌>>=◌}
 use Rattle.der_core.specs.Standing.{Enters}
@@ -41,13 +44,17 @@ Nothing f = f ≡ full
 -- A value that is read from the front is good and its encoding is there; a good value whose encoding is there is read,
 -- if what follows allows it; a fault is one of the grammar, if what is due after the part is as required; so is each
 -- fault of what follows; and a good value has an encoding by the grammar.
-pub record IsReader {A : Type 0} (read : Reader A) (enc : A → List ℕ) (Good : A → Type 0) (due : Form → Form) (Lets : List ℕ → Type 0)
+pub record IsReader {A : Type 0} (read : Reader A) (enc : A → List ℕ) (Good : A → Type 0) (due : Form → Form)
+    (Lets : List ℕ → Type 0)
     (Before : Form → Type 0) : Type 0 where
   pub plain : (after : Form) → body_of (due after) ≡ due after
   pub takes : (s : Spot) (y : A × Spot) → IsBytes s.rest → read s ≡ Ok y → Good y.0 × Follows s (enc y.0) y.1
-  pub again : (x : A) (n : ℕ) (r : List ℕ) → Good x → Lets r → read (spot n (enc x ++ r)) ≡ Ok (x, spot (n + length (enc x)) r)
-  pub faults : (s : Spot) (f : Fault) → IsBytes s.rest → read s ≡ Err f → (after : Form) → Before after → FaultFrom (place s.pos s.rest (due after) []) f
-  pub goes : (s : Spot) (y : A × Spot) → IsBytes s.rest → read s ≡ Ok y → (after : Form) (f : Fault) → FaultFrom (place y.1.pos y.1.rest after []) f
+  pub again : (x : A) (n : ℕ) (r : List ℕ) → Good x → Lets r
+      → read (spot n (enc x ++ r)) ≡ Ok (x, spot (n + length (enc x)) r)
+  pub faults : (s : Spot) (f : Fault) → IsBytes s.rest → read s ≡ Err f → (after : Form) → Before after
+      → FaultFrom (place s.pos s.rest (due after) []) f
+  pub goes : (s : Spot) (y : A × Spot) → IsBytes s.rest → read s ≡ Ok y → (after : Form) (f : Fault)
+      → FaultFrom (place y.1.pos y.1.rest after []) f
       → FaultFrom (place s.pos s.rest (due after) []) f
   pub encodes : (x : A) (r : List ℕ) (after : Form) → Good x → Encodes [] after r → Encodes [] (due after) (enc x ++ r)
 
@@ -55,7 +62,8 @@ pub record IsReader {A : Type 0} (read : Reader A) (enc : A → List ℕ) (Good 
 pub record IsBody {A : Type 0} (read : Body A) (enc : A → List ℕ) (Good : A → Type 0) (form : Form) : Type 0 where
   pub takes : (s : Spot) (x : A) → IsBytes s.rest → read s ≡ Ok x → Good x × (s.rest ≡ enc x)
   pub again : (x : A) (n : ℕ) → Good x → read (spot n (enc x)) ≡ Ok x
-  pub faults : (s : Spot) (f : Fault) → IsBytes s.rest → read s ≡ Err f → FaultFrom (place s.pos s.rest (body_of form) []) f
+  pub faults : (s : Spot) (f : Fault) → IsBytes s.rest → read s ≡ Err f
+      → FaultFrom (place s.pos s.rest (body_of form) []) f
   pub encodes : (x : A) → Good x → Encodes [] form (enc x)
 
 -- ---- contents
@@ -68,11 +76,13 @@ any_body = record {
   encodes = λ x h. anything;
 }
 
-module _ (k : Kind) (formed allowed : List ℕ → Bool) (fact : (p : Place) → p.due ≡ contents k formed allowed → formed p.rest ≡ false → Fact k p p.at) where
+module _ (k : Kind) (formed allowed : List ℕ → Bool)
+    (fact : (p : Place) → p.due ≡ contents k formed allowed → formed p.rest ≡ false → Fact k p p.at) where
   abbrev Read : Type 0
   Read = Result (List ℕ) Fault
 
-  contents_ok : (s : Spot) (x : List ℕ) → contents_at k formed allowed s ≡ Ok x → (formed x ≡ true) × (allowed x ≡ true) × (s.rest ≡ x)
+  contents_ok : (s : Spot) (x : List ℕ) → contents_at k formed allowed s ≡ Ok x
+      → (formed x ≡ true) × (allowed x ≡ true) × (s.rest ≡ x)
   contents_ok s x e =
       let bad : Read = Err (fault k s.pos) in
       let other : Read = Err (fault Value s.pos) in
@@ -86,7 +96,8 @@ module _ (k : Kind) (formed allowed : List ℕ → Bool) (fact : (p : Place) →
         ]
       ]
 
-  contents_fault : (s : Spot) (f : Fault) → contents_at k formed allowed s ≡ Err f → FaultFrom (place s.pos s.rest (contents k formed allowed) []) f
+  contents_fault : (s : Spot) (f : Fault) → contents_at k formed allowed s ≡ Err f
+      → FaultFrom (place s.pos s.rest (contents k formed allowed) []) f
   contents_fault s f e =
       let bad : Read = Err (fault k s.pos) in
       let other : Read = Err (fault Value s.pos) in
@@ -100,7 +111,8 @@ module _ (k : Kind) (formed allowed : List ℕ → Bool) (fact : (p : Place) →
         ]
       ]
 
-  pub contents_body : IsBody (contents_at k formed allowed) (λ b. b) (λ b. (formed b ≡ true) × (allowed b ≡ true)) (contents k formed allowed)
+  pub contents_body : IsBody (contents_at k formed allowed) (λ b. b) (λ b. (formed b ≡ true) × (allowed b ≡ true))
+      (contents k formed allowed)
   contents_body = record {
     takes = λ s x fits e. let h = contents_ok s x e in ((h.0, h.1), h.2);
     again = λ x n h. rw (h.0, h.1) refl;
@@ -134,7 +146,10 @@ enter_ok tag s y fits e =
           let size = length-append (len (length x.0.body)) x.0.body in
           let made : Spot × Spot = (spot (x.1.pos - length x.0.body) x.0.body, x.1) in
           subst (λ (z : Spot × Spot). Enters tag s z.0 z.1) (ok_is made y b.2) (record {
-            element = record { identifier = subst (λ (u : ℕ). is_tag u ≡ true) t-is k.element.identifier; size = k.element.size };
+            element = record {
+              identifier = subst (λ (u : ℕ). is_tag u ≡ true) t-is k.element.identifier;
+              size = k.element.size;
+            };
             parts = subst (λ (u : ℕ). s.rest ≡ el u x.0.body ++ x.1.rest) t-is k.parts;
             moved = k.moved;
             begin = omega (arith, k.moved, size);
@@ -144,12 +159,14 @@ enter_ok tag s y fits e =
     ]
 
 pub enter_again : (tag n : ℕ) (b r : List ℕ) → IsElement tag b
-    → enter_at tag (spot n (el tag b ++ r)) ≡ Ok (spot (n + (1 + length (len (length b)))) b, spot (n + length (el tag b)) r)
+    → enter_at tag (spot n (el tag b ++ r))
+    ≡ Ok (spot (n + (1 + length (len (length b)))) b, spot (n + length (el tag b)) r)
 unfolding enter_at expect_at
 enter_again tag n b r h =
     let same : eqb tag tag ≡ true = eq-eqb tag tag refl in
     let id : is_tag tag ≡ true = h.identifier in
-    let at : n + length (el tag b) - length b ≡ n + (1 + length (len (length b))) = omega (arith, length-append (len (length b)) b) in
+    let at : n + length (el tag b) - length b ≡ n + (1 + length (len (length b))) =
+    omega (arith, length-append (len (length b)) b) in
     rw (same, id, next_again n tag b r h, at) refl
 
 -- an identifier other than the one that is due
@@ -165,7 +182,8 @@ last_refuses tag t form h = rw (swapped tag t h) refl
 pub took : (tag : ℕ) (form after : Form) → takes (one tag form after) tag ≡ true
 took tag form after = rw (eq-eqb tag tag refl) refl
 
-pub refuses : (tag n : ℕ) (xs : List ℕ) (form after : Form) → is_other tag xs ≡ true → Fact Tag (place n xs (one tag form after) []) n
+pub refuses : (tag n : ℕ) (xs : List ℕ) (form after : Form) → is_other tag xs ≡ true
+    → Fact Tag (place n xs (one tag form after) []) n
 refuses tag n [] form after h = absurd cc
 refuses tag n (t ∷ xs) form after h =
     let p = and_parts (is_tag t) (not (eqb t tag)) h in
@@ -186,7 +204,8 @@ enter_fault tag s f fits e form after =
     ]
 
 -- the same if the element that is there has the identifier, so that it need not be demanded
-pub enter_fault_here : (tag : ℕ) (s : Spot) (f : Fault) → IsBytes s.rest → has_tag tag s.rest ≡ true → enter_at tag s ≡ Err f → (form after : Form)
+pub enter_fault_here : (tag : ℕ) (s : Spot) (f : Fault) → IsBytes s.rest → has_tag tag s.rest ≡ true
+    → enter_at tag s ≡ Err f → (form after : Form)
     → FaultFrom (place s.pos s.rest (opt tag form after) []) f
 unfolding enter_at expect_at
 enter_fault_here tag s f fits there e form after =
@@ -213,15 +232,19 @@ enter_fault_here tag s f fits there e form after =
 abbrev pub single : Count → ℕ → Form → Form → Form
 single count tag form after = part count (tag ∷ []) (λ _. form) after
 
-pub fault_inside : (count : Count) (tag : ℕ) (s c s' : Spot) (form after : Form) (ps : List Element) (f : Fault) → Enters tag s c s'
-    → FaultFrom (place c.pos c.rest (body_of form) []) f → FaultFrom (place s.pos s.rest (single count tag form after) ps) f
+pub fault_inside : (count : Count) (tag : ℕ) (s c s' : Spot) (form after : Form) (ps : List Element) (f : Fault)
+    → Enters tag s c s'
+    → FaultFrom (place c.pos c.rest (body_of form) []) f
+    → FaultFrom (place s.pos s.rest (single count tag form after) ps) f
 fault_inside count tag s c s' form after ps f k h =
     let q = subst (λ (m : ℕ). FaultFrom (place m c.rest (body_of form) []) f) k.begin h in
     subst (λ (xs : List ℕ). FaultFrom (place s.pos xs (single count tag form after) ps) f) (sym k.parts)
     (q.0, enters tag c.rest s'.rest k.element (took tag form after) q.1, q.2)
 
-pub fault_behind : (count : Count) (tag : ℕ) (s c s' : Spot) (form after : Form) (ps : List Element) (f : Fault) → Enters tag s c s'
-    → FaultFrom (place s'.pos s'.rest (behind (single count tag form after) c.rest) (passed_by (single count tag form after) ps (tag, c.rest))) f
+pub fault_behind : (count : Count) (tag : ℕ) (s c s' : Spot) (form after : Form) (ps : List Element) (f : Fault)
+    → Enters tag s c s'
+    → FaultFrom (place s'.pos s'.rest (behind (single count tag form after) c.rest)
+    (passed_by (single count tag form after) ps (tag, c.rest))) f
     → FaultFrom (place s.pos s.rest (single count tag form after) ps) f
 fault_behind count tag s c s' form after ps f k h =
     let q = subst (λ (m : ℕ). FaultFrom (place m s'.rest (behind (single count tag form after) c.rest)
@@ -231,12 +254,14 @@ fault_behind count tag s c s' form after ps f k h =
 
 -- ---- readings made of readings
 
-module _ {A : Type 0} (tag : ℕ) (id : is_tag tag ≡ true) (read : Body A) (enc : A → List ℕ) (Good : A → Type 0) (form : Form)
+module _ {A : Type 0} (tag : ℕ) (id : is_tag tag ≡ true) (read : Body A) (enc : A → List ℕ) (Good : A → Type 0)
+    (form : Form)
     (law : IsBody read enc Good form) where
   abbrev pub GoodInside : A → Type 0
   GoodInside x = Good x × (length (enc x) < 2 ^ 32)
 
-  pub within_ok : (s : Spot) (y : A × Spot) → IsBytes s.rest → within tag read s ≡ Ok y → (c : Spot) × Enters tag s c y.1 × Good y.0 × (c.rest ≡ enc y.0)
+  pub within_ok : (s : Spot) (y : A × Spot) → IsBytes s.rest → within tag read s ≡ Ok y
+      → (c : Spot) × Enters tag s c y.1 × Good y.0 × (c.rest ≡ enc y.0)
   within_ok s y fits e =
       let a = bind_ok (enter_at tag s) (λ x. read x.0 >>= λ v. Ok (v, x.1)) y e in
       let b = bind_ok (read a.0.0) (λ v. Ok (v, a.0.1)) y a.2 in
@@ -246,7 +271,8 @@ module _ {A : Type 0} (tag : ℕ) (id : is_tag tag ≡ true) (read : Body A) (en
       let r = subst (λ (z : A × Spot). Enters tag s a.0.0 z.1 × Good z.0 × (a.0.0.rest ≡ enc z.0)) is (k, t.0, t.1) in
       (a.0.0, r.0, r.1, r.2)
 
-  within_takes : (s : Spot) (y : A × Spot) → IsBytes s.rest → within tag read s ≡ Ok y → GoodInside y.0 × Follows s (el tag (enc y.0)) y.1
+  within_takes : (s : Spot) (y : A × Spot) → IsBytes s.rest → within tag read s ≡ Ok y
+      → GoodInside y.0 × Follows s (el tag (enc y.0)) y.1
   within_takes s y fits e =
       let h = within_ok s y fits e in
       let k = h.1 in (
@@ -254,11 +280,16 @@ module _ {A : Type 0} (tag : ℕ) (id : is_tag tag ≡ true) (read : Body A) (en
         subst (λ (b : List ℕ). Follows s (el tag b) y.1) h.3 (record { parts = k.parts; moved = k.moved }),
       )
 
-  pub within_again : (x : A) (n : ℕ) (r : List ℕ) → GoodInside x → within tag read (spot n (el tag (enc x) ++ r)) ≡ Ok (x, spot (n + length (el tag (enc x))) r)
+  pub within_again : (x : A) (n : ℕ) (r : List ℕ) → GoodInside x
+      → within tag read (spot n (el tag (enc x) ++ r)) ≡ Ok (x, spot (n + length (el tag (enc x))) r)
   within_again x n r h =
-      rw (enter_again tag n (enc x) r (record { identifier = id; size = h.1 }), law.again x (n + (1 + length (len (length (enc x))))) h.0) refl
+      rw (
+        enter_again tag n (enc x) r (record { identifier = id; size = h.1 }),
+        law.again x (n + (1 + length (len (length (enc x))))) h.0,
+      ) refl
 
-  within_fault : (s : Spot) (f : Fault) → IsBytes s.rest → within tag read s ≡ Err f → (after : Form) → FaultFrom (place s.pos s.rest (one tag form after) []) f
+  within_fault : (s : Spot) (f : Fault) → IsBytes s.rest → within tag read s ≡ Err f → (after : Form)
+      → FaultFrom (place s.pos s.rest (one tag form after) []) f
   within_fault s f fits e after =
       elim (bind_err (enter_at tag s) (λ x. read x.0 >>= λ v. Ok (v, x.1)) f e) [
         | inl a ↦ enter_fault tag s f fits a form after
@@ -271,14 +302,16 @@ module _ {A : Type 0} (tag : ℕ) (id : is_tag tag ≡ true) (read : Body A) (en
       ]
 
   -- an element with this identifier, and these contents
-  pub within_reader : IsReader (within tag read) (λ x. el tag (enc x)) GoodInside (one tag form) (λ r. Unit {0}) Anything
+  pub within_reader :
+      IsReader (within tag read) (λ x. el tag (enc x)) GoodInside (one tag form) (λ r. Unit {0}) Anything
   within_reader = record {
     plain = λ after. refl;
     takes = within_takes;
     again = λ x n r h l. within_again x n r h;
     faults = λ s f fits e after b. within_fault s f fits e after;
     goes = λ s y fits e after f h. let k = within_ok s y fits e in fault_behind One tag s k.0 y.1 form after [] f k.1 h;
-    encodes = λ x r after h m. next tag (enc x) r refl (record { identifier = id; size = h.1 }) (took tag form after) refl refl (law.encodes x h.0) m;
+    encodes = λ x r after h m. next tag (enc x) r refl (record { identifier = id; size = h.1 })
+        (took tag form after) refl refl (law.encodes x h.0) m;
   }
 
   abbrev pub enc_option : Option A → List ℕ
@@ -294,14 +327,19 @@ module _ {A : Type 0} (tag : ℕ) (id : is_tag tag ≡ true) (read : Body A) (en
 
   -- the cases of an optional element
   maybe_ok : (s : Spot) (y : Option A × Spot) → maybe tag read s ≡ Ok y
-      → ((x : A) × (within tag read s ≡ Ok (x, y.1)) × (y.0 ≡ Some x)) ⊎ ((has_tag tag s.rest ≡ false) × (y ≡ (None, s)))
+      → ((x : A) × (within tag read s ≡ Ok (x, y.1)) × (y.0 ≡ Some x))
+      ⊎ ((has_tag tag s.rest ≡ false) × (y ≡ (None, s)))
   maybe_ok s y e =
       let some : Part = within tag read s >>= λ x. Ok (Some x.0, x.1) in
       elim (chosen (has_tag tag s.rest) some (Ok (None, s)) (Ok y) e) [
         | inl h ↦
             let b = bind_ok (within tag read s) (λ x. Ok (Some x.0, x.1)) y h.1 in
             let is : (Some b.0.0, b.0.1) ≡ y = ok_is (Some b.0.0, b.0.1) y b.2 in
-            inl (b.0.0, subst (λ (z : Option A × Spot). within tag read s ≡ Ok (b.0.0, z.1)) is b.1, sym (ap (λ (z : Option A × Spot). z.0) is))
+            inl (
+              b.0.0,
+              subst (λ (z : Option A × Spot). within tag read s ≡ Ok (b.0.0, z.1)) is b.1,
+              sym (ap (λ (z : Option A × Spot). z.0) is),
+            )
         | inr h ↦ inr (h.0, sym (ok_is (None, s) y h.1))
       ]
 
@@ -309,13 +347,15 @@ module _ {A : Type 0} (tag : ℕ) (id : is_tag tag ≡ true) (read : Body A) (en
   none_stands [] after h = tt
   none_stands (t ∷ xs) after h = rw (swapped tag t h) refl
 
-  maybe_takes : (s : Spot) (y : Option A × Spot) → IsBytes s.rest → maybe tag read s ≡ Ok y → GoodOption y.0 × Follows s (enc_option y.0) y.1
+  maybe_takes : (s : Spot) (y : Option A × Spot) → IsBytes s.rest → maybe tag read s ≡ Ok y
+      → GoodOption y.0 × Follows s (enc_option y.0) y.1
   maybe_takes s y fits e =
       elim (maybe_ok s y e) [
         | inl h ↦
             let t = within_takes s (h.0, y.1) fits h.1 in
             subst (λ (o : Option A). GoodOption o × Follows s (enc_option o) y.1) (sym h.2) t
-        | inr h ↦ subst (λ (z : Option A × Spot). GoodOption z.0 × Follows s (enc_option z.0) z.1) (sym h.1) (tt, record { parts = refl; moved = omega arith })
+        | inr h ↦ subst (λ (z : Option A × Spot). GoodOption z.0 × Follows s (enc_option z.0) z.1) (sym h.1)
+            (tt, record { parts = refl; moved = omega arith })
       ]
 
   maybe_again : (x : Option A) (n : ℕ) (r : List ℕ) → GoodOption x → has_tag tag r ≡ false
@@ -323,7 +363,8 @@ module _ {A : Type 0} (tag : ℕ) (id : is_tag tag ≡ true) (read : Body A) (en
   maybe_again None n r h l = let e : n + 0 ≡ n = omega arith in rw (l, e) refl
   maybe_again (Some x) n r h l = let e : eqb tag tag ≡ true = eq-eqb tag tag refl in rw (e, within_again x n r h) refl
 
-  maybe_fault : (s : Spot) (f : Fault) → IsBytes s.rest → maybe tag read s ≡ Err f → (after : Form) → FaultFrom (place s.pos s.rest (opt tag form after) []) f
+  maybe_fault : (s : Spot) (f : Fault) → IsBytes s.rest → maybe tag read s ≡ Err f → (after : Form)
+      → FaultFrom (place s.pos s.rest (opt tag form after) []) f
   maybe_fault s f fits e after =
       let some : Part = within tag read s >>= λ x. Ok (Some x.0, x.1) in
       elim (chosen (has_tag tag s.rest) some (Ok (None, s)) (fails f) e) [
@@ -352,12 +393,15 @@ module _ {A : Type 0} (tag : ℕ) (id : is_tag tag ≡ true) (read : Body A) (en
             (p.0, drops refl (none_stands s.rest after h.0) p.1, p.2)
       ]
 
-  maybe_encodes : (x : Option A) (r : List ℕ) (after : Form) → GoodOption x → Encodes [] after r → Encodes [] (opt tag form after) (enc_option x ++ r)
+  maybe_encodes : (x : Option A) (r : List ℕ) (after : Form) → GoodOption x → Encodes [] after r
+      → Encodes [] (opt tag form after) (enc_option x ++ r)
   maybe_encodes None r after h m = absent refl m
-  maybe_encodes (Some x) r after h m = next tag (enc x) r refl (record { identifier = id; size = h.1 }) (took tag form after) refl refl (law.encodes x h.0) m
+  maybe_encodes (Some x) r after h m = next tag (enc x) r refl (record { identifier = id; size = h.1 })
+      (took tag form after) refl refl (law.encodes x h.0) m
 
   -- such an element, if one is present
-  pub maybe_reader : IsReader (maybe tag read) enc_option GoodOption (opt tag form) (λ r. has_tag tag r ≡ false) Anything
+  pub maybe_reader :
+      IsReader (maybe tag read) enc_option GoodOption (opt tag form) (λ r. has_tag tag r ≡ false) Anything
   maybe_reader = record {
     plain = λ after. refl;
     takes = maybe_takes;
@@ -374,7 +418,8 @@ module _ {A : Type 0} (tag : ℕ) (id : is_tag tag ≡ true) (read : Body A) (en
   none_ok s (t ∷ xs) u e =
       let other : Result (Unit {0}) Fault = Err (fault Tag s.pos) in
       let high : Result (Unit {0}) Fault = Err (fault HighTag s.pos) in
-      elim (chosen (is_tag t) other high (Ok u) e) [ inl h ↦ absurd (let z = h.1 in cc) | inr h ↦ absurd (let z = h.1 in cc) ]
+      elim (chosen (is_tag t) other high
+      (Ok u) e) [ inl h ↦ absurd (let z = h.1 in cc) | inr h ↦ absurd (let z = h.1 in cc) ]
 
   none_fault : (s : Spot) (xs : List ℕ) (f : Fault) → s.rest ≡ xs → has_tag tag xs ≡ false → none_in s xs ≡ Err f
       → FaultFrom (place s.pos s.rest (opt tag form full) []) f
@@ -384,7 +429,11 @@ module _ {A : Type 0} (tag : ℕ) (id : is_tag tag ≡ true) (read : Body A) (en
       let other : Result (Unit {0}) Fault = Err (fault Tag s.pos) in
       let high : Result (Unit {0}) Fault = Err (fault HighTag s.pos) in
       elim (chosen (is_tag t) other high (fails f) e) [
-        | inl g ↦ (p, stays, fact_is p (fault Tag s.pos) f (err_is _ _ g.1) (t, xs, ((tt, is), g.0), last_refuses tag t form h, refl))
+        | inl g ↦ (
+          p,
+          stays,
+          fact_is p (fault Tag s.pos) f (err_is _ _ g.1) (t, xs, ((tt, is), g.0), last_refuses tag t form h, refl),
+        )
         | inr g ↦ (p, stays, fact_is p (fault HighTag s.pos) f (err_is _ _ g.1) (t, xs, (tt, is), g.0, refl))
       ]
 
@@ -405,7 +454,8 @@ module _ {A : Type 0} (tag : ℕ) (id : is_tag tag ≡ true) (read : Body A) (en
   last_again None n r h l = let e : n + 0 ≡ n = omega arith in rw (l, e) refl
   last_again (Some x) n r h l = let e : eqb tag tag ≡ true = eq-eqb tag tag refl in rw (e, within_again x n r h) refl
 
-  last_fault : (s : Spot) (f : Fault) → IsBytes s.rest → last tag read s ≡ Err f → FaultFrom (place s.pos s.rest (opt tag form full) []) f
+  last_fault : (s : Spot) (f : Fault) → IsBytes s.rest → last tag read s ≡ Err f
+      → FaultFrom (place s.pos s.rest (opt tag form full) []) f
   unfolding none_at
   last_fault s f fits e =
       let some : Part = within tag read s >>= λ x. Ok (Some x.0, x.1) in
@@ -424,15 +474,18 @@ module _ {A : Type 0} (tag : ℕ) (id : is_tag tag ≡ true) (read : Body A) (en
     plain = λ after. refl;
     takes = λ s y fits e. maybe_takes s y fits (last_ok s y e);
     again = last_again;
-    faults = λ s f fits e after b. subst (λ (g : Form). FaultFrom (place s.pos s.rest (opt tag form g) []) f) (sym b) (last_fault s f fits e);
+    faults = λ s f fits e after b.
+        subst (λ (g : Form). FaultFrom (place s.pos s.rest (opt tag form g) []) f) (sym b) (last_fault s f fits e);
     goes = λ s y fits e after f h. maybe_goes s y fits (last_ok s y e) after f h;
     encodes = maybe_encodes;
   }
 
 -- one reading and then another
-module _ {A B : Type 0} (first : Reader A) (enc : A → List ℕ) (Good : A → Type 0) (due : Form → Form) (Lets : List ℕ → Type 0)
+module _ {A B : Type 0} (first : Reader A) (enc : A → List ℕ) (Good : A → Type 0) (due : Form → Form)
+    (Lets : List ℕ → Type 0)
     (law : IsReader first enc Good due Lets Anything)
-    (second : Reader B) (enc' : B → List ℕ) (Good' : B → Type 0) (due' : Form → Form) (Lets' : List ℕ → Type 0) (Before' : Form → Type 0)
+    (second : Reader B) (enc' : B → List ℕ) (Good' : B → Type 0) (due' : Form → Form) (Lets' : List ℕ → Type 0)
+    (Before' : Form → Type 0)
     (law' : IsReader second enc' Good' due' Lets' Before')
     (meets : (y : B) (r : List ℕ) → Good' y → Lets' r → Lets (enc' y ++ r)) where
   Follows-then : (s t u : Spot) (x y : List ℕ) → Follows s x t → Follows t y u → Follows s (x ++ y) u
@@ -442,7 +495,8 @@ module _ {A B : Type 0} (first : Reader A) (enc : A → List ℕ) (Good : A → 
   }
 
   IsBytes-behind : (s t : Spot) (x : List ℕ) → Follows s x t → IsBytes s.rest → IsBytes t.rest
-  IsBytes-behind s t x p fits = subst IsBytes (drop_at x t.rest (length x) refl) (IsBytes-drop (length x) (x ++ t.rest) (subst IsBytes p.parts fits))
+  IsBytes-behind s t x p fits = subst IsBytes (drop_at x t.rest (length x) refl)
+      (IsBytes-drop (length x) (x ++ t.rest) (subst IsBytes p.parts fits))
 
   then_ok : (s : Spot) (y : (A × B) × Spot) → (first then second) s ≡ Ok y
       → (a : A × Spot) × (b : B × Spot) × (first s ≡ Ok a) × (second a.1 ≡ Ok b) × (((a.0, b.0), b.1) ≡ y)
@@ -451,7 +505,8 @@ module _ {A B : Type 0} (first : Reader A) (enc : A → List ℕ) (Good : A → 
       let b = bind_ok (second a.0.1) (λ z. Ok ((a.0.0, z.0), z.1)) y a.2 in
       (a.0, b.0, a.1, b.1, ok_is ((a.0.0, b.0.0), b.0.1) y b.2)
 
-  pub then_reader : IsReader (first then second) (λ p. enc p.0 ++ enc' p.1) (λ p. Good p.0 × Good' p.1) (λ f. due (due' f)) Lets' Before'
+  pub then_reader : IsReader (first then second) (λ p. enc p.0 ++ enc' p.1) (λ p. Good p.0 × Good' p.1)
+      (λ f. due (due' f)) Lets' Before'
   then_reader = record {
     plain = λ after. law.plain (due' after);
     takes = λ s y fits e.
@@ -462,22 +517,27 @@ module _ {A B : Type 0} (first : Reader A) (enc : A → List ℕ) (Good : A → 
         ((p.0, q.0), Follows-then s k.0.1 k.1.1 (enc k.0.0) (enc' k.1.0) p.1 q.1);
     again = λ x n r h l.
         let regrouped : (enc x.0 ++ enc' x.1) ++ r ≡ enc x.0 ++ (enc' x.1 ++ r) = append_assoc (enc x.0) (enc' x.1) r in
-        let at : n + length (enc x.0) + length (enc' x.1) ≡ n + length (enc x.0 ++ enc' x.1) = omega (arith, length-append (enc x.0) (enc' x.1)) in
+        let at : n + length (enc x.0) + length (enc' x.1) ≡ n + length (enc x.0 ++ enc' x.1) =
+        omega (arith, length-append (enc x.0) (enc' x.1)) in
         ap (λ (t : List ℕ). (first then second) (spot n t)) regrouped
-        ∙ rw (law.again x.0 n (enc' x.1 ++ r) h.0 (meets x.1 r h.1 l), law'.again x.1 (n + length (enc x.0)) r h.1 l, at) refl;
+        ∙ rw
+        (law.again x.0 n (enc' x.1 ++ r) h.0 (meets x.1 r h.1 l), law'.again x.1 (n + length (enc x.0)) r h.1 l, at)
+        refl;
     faults = λ s f fits e after ends.
         elim (bind_err (first s) (λ x. second x.1 >>= λ z. Ok ((x.0, z.0), z.1)) f e) [
           | inl a ↦ law.faults s f fits a (due' after) tt
           | inr a ↦ elim (bind_err (second a.0.1) (λ z. Ok ((a.0.0, z.0), z.1)) f a.2) [
             | inl b ↦ law.goes s a.0 fits a.1 (due' after) f
-                (law'.faults a.0.1 f (IsBytes-behind s a.0.1 (enc a.0.0) (law.takes s a.0 fits a.1).1 fits) b after ends)
+                (law'.faults a.0.1 f
+                (IsBytes-behind s a.0.1 (enc a.0.0) (law.takes s a.0 fits a.1).1 fits) b after ends)
             | inr b ↦ absurd (let z = b.2 in cc)
           ]
         ];
     goes = λ s y fits e after f h.
         let k = then_ok s y e in
         let p = law.takes s k.0 fits k.2 in
-        law.goes s k.0 fits k.2 (due' after) f (law'.goes k.0.1 k.1 (IsBytes-behind s k.0.1 (enc k.0.0) p.1 fits) k.3 after f
+        law.goes s k.0 fits k.2 (due' after) f
+        (law'.goes k.0.1 k.1 (IsBytes-behind s k.0.1 (enc k.0.0) p.1 fits) k.3 after f
         (subst (λ (z : (A × B) × Spot). FaultFrom (place z.1.pos z.1.rest after []) f) (sym k.4) h));
     encodes = λ x r after h m.
         subst (Encodes [] (due (due' after))) (sym (append_assoc (enc x.0) (enc' x.1) r))
@@ -485,7 +545,8 @@ module _ {A B : Type 0} (first : Reader A) (enc : A → List ℕ) (Good : A → 
   }
 
 -- a whole body
-module _ {A : Type 0} (read : Reader A) (enc : A → List ℕ) (Good : A → Type 0) (due : Form → Form) (Lets : List ℕ → Type 0) (Before : Form → Type 0)
+module _ {A : Type 0} (read : Reader A) (enc : A → List ℕ) (Good : A → Type 0) (due : Form → Form)
+    (Lets : List ℕ → Type 0) (Before : Form → Type 0)
     (law : IsReader read enc Good due Lets Before) (ends : Lets []) (last_of : Before full) where
   abbrev End_read : Type 0
   End_read = Result (Unit {0}) Fault
@@ -506,7 +567,12 @@ module _ {A : Type 0} (read : Reader A) (enc : A → List ℕ) (Good : A → Typ
       let p : Place = place s.pos s.rest full [] in
       elim (chosen (eqb (length s.rest) 0) (Ok tt) past (fails f) e) [
         | inl h ↦ absurd (let z = h.1 in cc)
-        | inr h ↦ (p, stays, fact_is p (fault Trailing s.pos) f (err_is _ _ h.1) (refl, λ none. eqb-false _ _ h.0 (ap length none), refl))
+        | inr h ↦ (
+          p,
+          stays,
+          fact_is p (fault Trailing s.pos) f (err_is _ _ h.1)
+              (refl, λ none. eqb-false _ _ h.0 (ap length none), refl),
+        )
       ]
 
   pub whole_body : IsBody (whole_of read) enc Good (due full)
@@ -521,7 +587,8 @@ module _ {A : Type 0} (read : Reader A) (enc : A → List ℕ) (Good : A → Typ
         subst (λ (v : A). Good v × (s.rest ≡ enc v)) (ok_is a.0.0 x b.2) (t.0, all);
     again = λ x n h.
         let a : read (spot n (enc x)) ≡ Ok (x, spot (n + length (enc x)) []) =
-        subst (λ (t : List ℕ). read (spot n t) ≡ Ok (x, spot (n + length (enc x)) [])) (append-nil (enc x)) (law.again x n [] h ends) in
+        subst (λ (t : List ℕ). read (spot n t) ≡ Ok (x, spot (n + length (enc x)) [])) (append-nil (enc x))
+        (law.again x n [] h ends) in
         rw a refl;
     faults = λ s f fits e.
         rw law.plain (elim (bind_err (read s) (λ y. end_at y.1 >>= λ u. Ok y.0) f e) [
@@ -553,7 +620,8 @@ module _ {A B : Type 0} (to : A → B) (from : B → A) (there : (b : B) → to 
     encodes = λ x h. law.encodes (from x) h;
   }
 
-  pub named_reader : (read : Reader A) (enc : A → List ℕ) (Good : A → Type 0) (due : Form → Form) (Lets : List ℕ → Type 0) (Before : Form → Type 0)
+  pub named_reader : (read : Reader A) (enc : A → List ℕ) (Good : A → Type 0) (due : Form → Form)
+      (Lets : List ℕ → Type 0) (Before : Form → Type 0)
       → IsReader read enc Good due Lets Before → ((a : A) → Good a → from (to a) ≡ a)
       → IsReader (named to read) (λ b. enc (from b)) (λ b. Good (from b)) due Lets Before
   named_reader read enc Good due Lets Before law back = record {
@@ -564,7 +632,8 @@ module _ {A B : Type 0} (to : A → B) (from : B → A) (there : (b : B) → to 
         let q = ok_is (to a.0.0, a.0.1) y a.2 in
         let is : from y.0 ≡ a.0.0 = ap from (sym (ap (λ (z : B × Spot). z.0) q)) ∙ back a.0.0 t.0 in
         let behind_is : a.0.1 ≡ y.1 = ap (λ (z : B × Spot). z.1) q in
-        subst (λ (v : A). Good v × Follows s (enc v) y.1) (sym is) (subst (λ (u : Spot). Good a.0.0 × Follows s (enc a.0.0) u) behind_is t);
+        subst (λ (v : A). Good v × Follows s (enc v) y.1) (sym is)
+        (subst (λ (u : Spot). Good a.0.0 × Follows s (enc a.0.0) u) behind_is t);
     again = λ x n r h l. rw (law.again (from x) n r h l, there x) refl;
     faults = λ s f fits e after b.
         elim (bind_err (read s) (λ v. Ok (to v.0, v.1)) f e) [
@@ -574,6 +643,7 @@ module _ {A B : Type 0} (to : A → B) (from : B → A) (there : (b : B) → to 
     goes = λ s y fits e after f h.
         let a = bind_ok (read s) (λ v. Ok (to v.0, v.1)) y e in
         let behind_is : a.0.1 ≡ y.1 = ap (λ (z : B × Spot). z.1) (ok_is (to a.0.0, a.0.1) y a.2) in
-        law.goes s a.0 fits a.1 after f (subst (λ (u : Spot). FaultFrom (place u.pos u.rest after []) f) (sym behind_is) h);
+        law.goes s a.0 fits a.1 after f
+        (subst (λ (u : Spot). FaultFrom (place u.pos u.rest after []) f) (sym behind_is) h);
     encodes = λ x r after h m. law.encodes (from x) r after h m;
   }

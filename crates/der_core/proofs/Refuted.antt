@@ -1,19 +1,23 @@
 -- An encoding begins in one way, and has no fault.
-use Rattle.std.proofs.Common.{◌≡◌, ℕ, ◌+◌, ◌<◌, List, [], ◌∷◌, ◌++◌, length, Bool, true, false, cond, not, eqb, refl, sym, ap, subst, ◌∙◌, append_assoc, arith}
+use Rattle.std.proofs.Common.{◌≡◌, ℕ, ◌+◌, ◌<◌, List, [], ◌∷◌, ◌++◌, length, Bool, true, false, cond, not, eqb, refl}
+use Rattle.std.proofs.Common.{sym, ap, subst, ◌∙◌, append_assoc, arith}
 use Rattle.std.proofs.Common.{inl, inr, ◌&&◌, ◌||◌}
 use Rattle.std.specs.Prelude.{◌⊎◌, ◌==◌}
 use Rattle.std.proofs.lemmas.Bool.{eqb-true}
 use Rattle.std.proofs.lemmas.List.{length-append}
 use Rattle.der_core.specs.declared.fault.Fault.{Fault}
 use Rattle.der_core.specs.declared.fault.Kind.{Kind}
-use Rattle.der_core.specs.declared.fault.Kind.TheVariants.{End, HighTag, Indefinite, LengthForm, Overrun, Tag, Trailing, Integer, Oid, Boolean, Bits, Time}
+use Rattle.der_core.specs.declared.fault.Kind.TheVariants.{End, HighTag, Indefinite, LengthForm, Overrun, Tag, Trailing}
+use Rattle.der_core.specs.declared.fault.Kind.TheVariants.{Integer, Oid, Boolean, Bits, Time}
 use Rattle.der_core.specs.declared.fault.Kind.TheVariants.{Value, Order, Empty}
 use Rattle.der_core.specs.Element.{is_tag, len, el, IsElement}
 use Rattle.der_core.specs.Lists.{every, some, is_same}
-use Rattle.der_core.specs.Form.{Form, opaque, contents, full, part, opaques, switch, filled, is_droppable, is_list, takes, inside_of, behind, may_drop, dropped}
+use Rattle.der_core.specs.Form.{Form, opaque, contents, full, part, opaques, switch, filled, is_droppable, is_list}
+use Rattle.der_core.specs.Form.{takes, inside_of, behind, may_drop, dropped}
 use Rattle.der_core.specs.Form.{may_stand, body_of, is_filled, Element, passed_by, is_early, is_second}
 use Rattle.der_core.specs.Encoding.{Encodes, anything, held, ended, next, absent, has, IsEncoding}
-use Rattle.der_core.specs.Faults.{Place, place, StandsNot, Reaches, stays, passes, enters, drops, IsDue, IsDemanded, IsMalformed, IsOther, Stands, LengthEnds}
+use Rattle.der_core.specs.Faults.{Place, place, StandsNot, Reaches, stays, passes, enters, drops, IsDue, IsDemanded}
+use Rattle.der_core.specs.Faults.{IsMalformed, IsOther, Stands, LengthEnds}
 use Rattle.der_core.specs.Faults.{IsNoLength, IsHere, Fact, Faults}
 use Rattle.der_core.specs.Clear.{is_full, are_parts, clear}
 use Rattle.der_core.proofs.Lengths.{el_same, heads, len_same, ends_not, is_length, definite}
@@ -78,7 +82,8 @@ none_at test [] t e f = absurd cc
 none_at test (u ∷ ts) t e f =
     elim (cases (eqb u t)) [
       | inl h ↦ subst (λ (v : ℕ). test v ≡ false) (eqb-true u t h) (or_false (test u) (some test ts) e).0
-      | inr h ↦ none_at test ts t (or_false (test u) (some test ts) e).1 (sym (ap (λ (b : Bool). b || some (λ u. u == t) ts) h) ∙ f)
+      | inr h ↦ none_at test ts t (or_false (test u) (some test ts) e).1
+          (sym (ap (λ (b : Bool). b || some (λ u. u == t) ts) h) ∙ f)
     ]
 
 -- ---- forms that are clear
@@ -91,7 +96,10 @@ pub is_clear : (f : Form) → clear f ≡ true → IsClear f
 is_clear (part count tags inside after) e =
     let p = and_true (not (is_droppable count && some (λ t. may_stand after t) tags) && are_parts after)
     (every (λ t. clear (inside t)) tags && clear after) e in
-    record { after = (and_true (every (λ t. clear (inside t)) tags) (clear after) p.1).1; parts = (and_true _ (are_parts after) p.0).1 }
+    record {
+      after = (and_true (every (λ t. clear (inside t)) tags) (clear after) p.1).1;
+      parts = (and_true _ (are_parts after) p.0).1;
+    }
 is_clear (opaques count after) e =
     let p = and_true (not (is_droppable count && not (is_full after)) && are_parts after) (clear after) e in
     record { after = p.1; parts = (and_true _ (are_parts after) p.0).1 }
@@ -138,7 +146,8 @@ apart : (f : Form) (t : ℕ) → clear f ≡ true → takes f t ≡ true → may
 apart (part count tags inside after) t e ok d =
     let p = and_true (not (is_droppable count && some (λ t. may_stand after t) tags) && are_parts after)
     (every (λ t. clear (inside t)) tags && clear after) e in
-    let q = not_true _ (and_true (not (is_droppable count && some (λ t. may_stand after t) tags)) (are_parts after) p.0).0 in
+    let q = not_true _
+    (and_true (not (is_droppable count && some (λ t. may_stand after t) tags)) (are_parts after) p.0).0 in
     none_at (λ t. may_stand after t) tags t (sym (ap (λ (b : Bool). b && some (λ t. may_stand after t) tags) d) ∙ q) ok
 apart (opaques count after) t e ok d =
     let p = and_true (not (is_droppable count && not (is_full after)) && are_parts after) (clear after) e in
@@ -184,7 +193,8 @@ due_parts (filled f) d = absurd d
 -- ---- how an encoding begins
 
 -- an identifier that is at the front may be there
-met : {ps : List Element} (f : Form) (s : List ℕ) (t : ℕ) (xs : List ℕ) → Encodes ps f s → s ≡ t ∷ xs → may_stand f t ≡ true
+met : {ps : List Element} (f : Form) (s : List ℕ) (t : ℕ) (xs : List ℕ) → Encodes ps f s → s ≡ t ∷ xs
+    → may_stand f t ≡ true
 met opaque s t xs anything e = refl
 met (contents k formed allowed) s t xs (held a b) e = refl
 met full s t xs (ended h) e = absurd cc
@@ -202,11 +212,13 @@ pub record Starts (s : List ℕ) : Type 0 where
   pub is : IsElement t b
   pub spelled : s ≡ el t b ++ r
 
-starts : {ps : List Element} (f : Form) (s : List ℕ) (x : ℕ) (xs : List ℕ) → Encodes ps f s → clear f ≡ true → are_parts f ≡ true → s ≡ x ∷ xs → Starts s
+starts : {ps : List Element} (f : Form) (s : List ℕ) (x : ℕ) (xs : List ℕ) → Encodes ps f s → clear f ≡ true
+    → are_parts f ≡ true → s ≡ x ∷ xs → Starts s
 starts opaque s x xs anything ok parts e = absurd cc
 starts (contents k formed allowed) s x xs (held a b) ok parts e = absurd cc
 starts full s x xs (ended h) ok parts e = absurd cc
-starts f s x xs (next u b r is el-is took early second i m) ok parts e = record { t = u; b = b; r = r; is = el-is; spelled = is }
+starts f s x xs (next u b r is el-is took early second i m) ok parts e =
+    record { t = u; b = b; r = r; is = el-is; spelled = is }
 starts f s x xs (absent d m) ok parts e = starts (dropped f) s x xs m (is_clear f ok).after (is_clear f ok).parts e
 starts (filled f) s x xs (has h m) ok parts e = absurd cc
 
@@ -219,7 +231,8 @@ taken_parts opaque t ok = absurd cc
 taken_parts (contents k formed allowed) t ok = absurd cc
 taken_parts (filled f) t ok = absurd cc
 
-pub starts_at : {ps : List Element} (f : Form) (s : List ℕ) (x : ℕ) (xs : List ℕ) → Encodes ps f s → clear f ≡ true → takes f x ≡ true → s ≡ x ∷ xs → Starts s
+pub starts_at : {ps : List Element} (f : Form) (s : List ℕ) (x : ℕ) (xs : List ℕ) → Encodes ps f s → clear f ≡ true
+    → takes f x ≡ true → s ≡ x ∷ xs → Starts s
 starts_at f s x xs e ok took is = starts f s x xs e ok (taken_parts f x took) is
 
 pub clear_after : (f : Form) → clear f ≡ true → clear (dropped f) ≡ true
@@ -232,23 +245,28 @@ pub record Opened (ps : List Element) (f : Form) (t : ℕ) (b r : List ℕ) : Ty
   pub in_it : Encodes [] (inside_of f t) b
   pub behind_it : Encodes (passed_by f ps (t, b)) (behind f b) r
 
-open_at : (ps : List Element) (f : Form) (u : ℕ) (c q : List ℕ) (t : ℕ) (b r : List ℕ) → u ≡ t → c ≡ b → q ≡ r → Opened ps f u c q → Opened ps f t b r
+open_at : (ps : List Element) (f : Form) (u : ℕ) (c q : List ℕ) (t : ℕ) (b r : List ℕ) → u ≡ t → c ≡ b → q ≡ r
+    → Opened ps f u c q → Opened ps f t b r
 open_at ps f u c q t b r e g h o =
-    subst (λ (v : ℕ). Opened ps f v b r) e (subst (λ (d : List ℕ). Opened ps f u d r) g (subst (λ (w : List ℕ). Opened ps f u c w) h o))
+    subst (λ (v : ℕ). Opened ps f v b r) e
+    (subst (λ (d : List ℕ). Opened ps f u d r) g (subst (λ (w : List ℕ). Opened ps f u c w) h o))
 
-pub opened : (ps : List Element) (f : Form) (s : List ℕ) (t : ℕ) (b r : List ℕ) → Encodes ps f s → clear f ≡ true → takes f t ≡ true → IsElement t b
+pub opened : (ps : List Element) (f : Form) (s : List ℕ) (t : ℕ) (b r : List ℕ) → Encodes ps f s → clear f ≡ true
+    → takes f t ≡ true → IsElement t b
     → s ≡ el t b ++ r → Opened ps f t b r
 opened ps opaque s t b r anything ok took is e = absurd cc
 opened ps (contents k formed allowed) s t b r (held x y) ok took is e = absurd cc
 opened ps full s t b r (ended h) ok took is e = absurd cc
 opened ps f s t b r (next u c q is' el-is took' early second i m) ok took is e =
     let same = el_same u c q t b r el-is is (sym is' ∙ e) in
-    open_at ps f u c q t b r same.tag same.body same.rest (record { early = early; second = second; in_it = i; behind_it = m })
+    open_at ps f u c q t b r same.tag same.body same.rest
+    (record { early = early; second = second; in_it = i; behind_it = m })
 opened ps f s t b r (absent d m) ok took is e = absurd (never _ (met (dropped f) s t _ m e) (apart f t ok took d))
 opened ps (filled f) s t b r (has h m) ok took is e = absurd cc
 
 -- what is left if a part is absent
-pub left_out : {ps : List Element} (f : Form) (s : List ℕ) → Encodes ps f s → StandsNot f s → may_drop f ≡ true → Encodes [] (dropped f) s
+pub left_out : {ps : List Element} (f : Form) (s : List ℕ) → Encodes ps f s → StandsNot f s → may_drop f ≡ true
+    → Encodes [] (dropped f) s
 left_out opaque s anything not-here d = absurd cc
 left_out (contents k formed allowed) s (held a b) not-here d = absurd cc
 left_out full s (ended h) not-here d = absurd cc
@@ -293,9 +311,13 @@ reached p q (passes {n} {due} {ps} t b r is took m) h =
 reached p q (enters {n} {due} {ps} t b r is took m) h =
     let o = opened ps due (el t b ++ r) t b r h.encoded h.clearly took is refl in
     reached (place (n + (1 + length (len (length b)))) b (body_of (inside_of due t)) []) q m
-    (record { encoded = entered (inside_of due t) b o.in_it; clearly = clear_body (inside_of due t) (clear_inside due t took h.clearly) })
+    (record {
+      encoded = entered (inside_of due t) b o.in_it;
+      clearly = clear_body (inside_of due t) (clear_inside due t took h.clearly);
+    })
 reached p q (drops {n} {s} {due} {ps} d out m) h =
-    reached (place n s (dropped due) []) q m (record { encoded = left_out due s h.encoded out d; clearly = (is_clear due h.clearly).after })
+    reached (place n s (dropped due) []) q m
+    (record { encoded = left_out due s h.encoded out d; clearly = (is_clear due h.clearly).after })
 
 -- ---- no fact holds at a place of an encoding
 
@@ -313,7 +335,12 @@ header : (q : Place) → Holds q → (t : ℕ) (xs : List ℕ) → Stands q t xs
 header q h t xs s =
     let k = starts q.due q.rest t xs h.encoded h.clearly (due_parts q.due s.0) s.1 in
     let p = heads t k.t xs ((len (length k.b) ++ k.b) ++ k.r) (sym s.1 ∙ k.spelled) in
-    record { b = k.b; r = k.r; is = subst (λ (u : ℕ). IsElement u k.b) (sym p.0) k.is; spelled = p.1 ∙ append_assoc (len (length k.b)) k.b k.r }
+    record {
+      b = k.b;
+      r = k.r;
+      is = subst (λ (u : ℕ). IsElement u k.b) (sym p.0) k.is;
+      spelled = p.1 ∙ append_assoc (len (length k.b)) k.b k.r;
+    }
 
 well_formed : {ps : List Element} (k : Kind) (f : Form) (s : List ℕ) → Encodes ps f s → IsMalformed k f s → ⊥
 well_formed k (contents k' formed allowed) s (held a b) m = never _ a m.1
@@ -371,7 +398,8 @@ refuted_at Overrun q n h (t, l, s, (stands, id), short, fits, e) =
     let p = len_same (length x.b) l (x.b ++ x.r) s (size_of t x.b x.is) (omega (arith, fits)) (sym x.spelled) in
     omega (arith, p.0, ap length p.1, length-append x.b x.r, short)
 refuted_at Tag q n h (t, s, (stands, id), out, e) = never _ (met q.due q.rest t s h.encoded stands.1) out
-refuted_at Trailing q n h (due, more, e) = more (at_end q.rest (subst (λ (f : Form). Encodes q.passed f q.rest) due h.encoded))
+refuted_at Trailing q n h (due, more, e) =
+    more (at_end q.rest (subst (λ (f : Form). Encodes q.passed f q.rest) due h.encoded))
 refuted_at Integer q n h (m, e) = well_formed Integer q.due q.rest h.encoded m
 refuted_at Oid q n h (m, e) = well_formed Oid q.due q.rest h.encoded m
 refuted_at Boolean q n h (m, e) = well_formed Boolean q.due q.rest h.encoded m
@@ -383,5 +411,7 @@ refuted_at Order q n h (t, b, x, early, e) = never _ early (here q h t b x).earl
 refuted_at Empty q n h (t, x, wants, e) = has_member (inside_of q.due t) [] (here q h t [] x).in_it wants refl
 
 -- what is an encoding has no fault
-pub refuted : (form : Form) (bytes : List ℕ) (f : Fault) → clear form ≡ true → IsEncoding form bytes → Faults form bytes f → ⊥
-refuted form bytes f ok e (q, m, fact) = refuted_at f.kind q f.at (reached (place 0 bytes form []) q m (record { encoded = e; clearly = ok })) fact
+pub refuted : (form : Form) (bytes : List ℕ) (f : Fault) → clear form ≡ true → IsEncoding form bytes
+    → Faults form bytes f → ⊥
+refuted form bytes f ok e (q, m, fact) =
+    refuted_at f.kind q f.at (reached (place 0 bytes form []) q m (record { encoded = e; clearly = ok })) fact

@@ -21,4 +21,5 @@ is_then_same xs ys e = subst (λ (l : List ℕ). is_same xs l ≡ true) e (same_
 
 -- a comparison of octets that were read says whether these are alike
 pub compared : (a a' b b' : List ℕ) (r : Bool) → a ≡ a' → b ≡ b' → r ≡ is_same a b → IsTrue r ↔ (a' ≡ b')
-compared a a' b b' r at_a at_b at_r = (λ h. sym at_a ∙ (same a b (sym at_r ∙ h) ∙ at_b), λ e. at_r ∙ is_then_same a b (at_a ∙ (e ∙ sym at_b)))
+compared a a' b b' r at_a at_b at_r =
+    (λ h. sym at_a ∙ (same a b (sym at_r ∙ h) ∙ at_b), λ e. at_r ∙ is_then_same a b (at_a ∙ (e ∙ sym at_b)))

@@ -1,5 +1,6 @@
 -- A body whose first element decides how the rest is read.
-use Rattle.std.proofs.Common.{◌≡◌, ℕ, ◌+◌, ◌<◌, ◌^◌, true, false, cond, eqb, List, [], ◌∷◌, ◌++◌, length, Result, Ok, Err, refl, sym, ap, subst, ◌∙◌, inl, inr}
+use Rattle.std.proofs.Common.{◌≡◌, ℕ, ◌+◌, ◌<◌, ◌^◌, true, false, cond, eqb, List, [], ◌∷◌, ◌++◌, length, Result, Ok}
+use Rattle.std.proofs.Common.{Err, refl, sym, ap, subst, ◌∙◌, inl, inr}
 use Rattle.std.proofs.Common.{◌⊎◌}
 use Rattle.std.proofs.lemmas.Bool.{eq-eqb, and_parts, not-true}
 use Rattle.der_core.specs.declared.fault.Fault.{Fault}
@@ -22,11 +23,14 @@ use Rattle.der_core.proofs.Readers.{Body, IsBody, swapped, enter_ok, within_ok, 
 abbrev Step : Type 0
 Step = Result (Taken × Spot) Fault
 
-module _ {A B : Type 0} (tag : ℕ) (id : is_tag tag ≡ true) (inside : Body (List ℕ)) (Good : List ℕ → Type 0) (form : Form)
+module _ {A B : Type 0} (tag : ℕ) (id : is_tag tag ≡ true) (inside : Body (List ℕ)) (Good : List ℕ → Type 0)
+    (form : Form)
     (law : IsBody inside (λ b. b) Good form)
     (these : List ℕ) (itself : is_same these these ≡ true) (here : Good these) (small : length these < 2 ^ 32)
-    (first : Body A) (enc : A → List ℕ) (GoodFirst : A → Type 0) (form' : Form) (law' : IsBody first enc GoodFirst form') (plain' : body_of form' ≡ form')
-    (second : Body B) (enc' : B → List ℕ) (GoodSecond : B → Type 0) (form'' : Form) (law'' : IsBody second enc' GoodSecond form'')
+    (first : Body A) (enc : A → List ℕ) (GoodFirst : A → Type 0) (form' : Form)
+    (law' : IsBody first enc GoodFirst form') (plain' : body_of form' ≡ form')
+    (second : Body B) (enc' : B → List ℕ) (GoodSecond : B → Type 0) (form'' : Form)
+    (law'' : IsBody second enc' GoodSecond form'')
     (plain'' : body_of form'' ≡ form'') where
   abbrev due : Form
   due = switch tag form these form' form''
@@ -70,19 +74,24 @@ module _ {A B : Type 0} (tag : ℕ) (id : is_tag tag ≡ true) (inside : Body (L
             let a = bind_ok (first x.0.1) (λ a. Ok (inl a)) v h.1 in
             let t = law'.takes x.0.1 a.0 w.1.fits_rest a.1 in
             let is : these ≡ x.0.0 = same these x.0.0 h.0 in
-            let parts : s.rest ≡ el tag these ++ enc a.0 = w.1.parts ∙ ap (λ (b : List ℕ). el tag b ++ x.0.1.rest) (w.3 ∙ sym is)
+            let parts : s.rest ≡ el tag these ++ enc a.0 = w.1.parts
+            ∙ ap (λ (b : List ℕ). el tag b ++ x.0.1.rest) (w.3 ∙ sym is)
             ∙ ap (λ (r : List ℕ). el tag these ++ r) t.1 in
-            subst (λ (u : A ⊎ (List ℕ × B)). GoodSwitched u × (s.rest ≡ enc_switched u)) (ok_is (inl a.0) v a.2) (t.0, parts)
+            subst (λ (u : A ⊎ (List ℕ × B)). GoodSwitched u × (s.rest ≡ enc_switched u)) (ok_is (inl a.0) v a.2)
+            (t.0, parts)
         | inr h ↦
             let a = bind_ok (second x.0.1) (λ c. Ok (inr (x.0.0, c))) v h.1 in
             let t = law''.takes x.0.1 a.0 w.1.fits_rest a.1 in
             let parts : s.rest ≡ el tag x.0.0 ++ enc' a.0 = w.1.parts ∙ ap (λ (b : List ℕ). el tag b ++ x.0.1.rest) w.3
             ∙ ap (λ (r : List ℕ). el tag x.0.0 ++ r) t.1 in
-            let good : GoodSwitched (inr (x.0.0, a.0)) = ((w.2, subst (λ (b : List ℕ). length b < 2 ^ 32) w.3 w.1.element.size), h.0, t.0) in
-            subst (λ (u : A ⊎ (List ℕ × B)). GoodSwitched u × (s.rest ≡ enc_switched u)) (ok_is (inr (x.0.0, a.0)) v a.2) (good, parts)
+            let good : GoodSwitched (inr (x.0.0, a.0)) =
+            ((w.2, subst (λ (b : List ℕ). length b < 2 ^ 32) w.3 w.1.element.size), h.0, t.0) in
+            subst (λ (u : A ⊎ (List ℕ × B)). GoodSwitched u × (s.rest ≡ enc_switched u))
+            (ok_is (inr (x.0.0, a.0)) v a.2) (good, parts)
       ]
 
-  switched_again : (v : A ⊎ (List ℕ × B)) (n : ℕ) → GoodSwitched v → switched tag inside these first second (spot n (enc_switched v)) ≡ Ok v
+  switched_again : (v : A ⊎ (List ℕ × B)) (n : ℕ) → GoodSwitched v
+      → switched tag inside these first second (spot n (enc_switched v)) ≡ Ok v
   switched_again (inl a) n h = rw (
     within_again tag id inside (λ b. b) Good form law these n (enc a) (here, small),
     itself,
@@ -101,7 +110,8 @@ module _ {A B : Type 0} (tag : ℕ) (id : is_tag tag ≡ true) (inside : Body (L
       let none : may_stand due t ≡ false = swapped tag t (not-true (eqb t tag) p.1) in
       (t, xs, ((tt, refl), p.0), none, refl)
 
-  enter_fault : (s : Spot) (f : Fault) → IsBytes s.rest → enter_at tag s ≡ Err f → FaultFrom (place s.pos s.rest due []) f
+  enter_fault : (s : Spot) (f : Fault) → IsBytes s.rest → enter_at tag s ≡ Err f
+      → FaultFrom (place s.pos s.rest due []) f
   unfolding enter_at expect_at
   enter_fault s f fits e =
       let p : Place = place s.pos s.rest due [] in
@@ -114,7 +124,8 @@ module _ {A B : Type 0} (tag : ℕ) (id : is_tag tag ≡ true) (inside : Body (L
         ]
       ]
 
-  switched_fault : (s : Spot) (f : Fault) → IsBytes s.rest → switched tag inside these first second s ≡ Err f → FaultFrom (place s.pos s.rest due []) f
+  switched_fault : (s : Spot) (f : Fault) → IsBytes s.rest → switched tag inside these first second s ≡ Err f
+      → FaultFrom (place s.pos s.rest due []) f
   switched_fault s f fits e =
       elim (bind_err (within tag inside s) after f e) [
         | inl x ↦ elim (bind_err (enter_at tag s) (λ c. inside c.0 >>= λ v. Ok (v, c.1)) f x) [
@@ -133,17 +144,23 @@ module _ {A B : Type 0} (tag : ℕ) (id : is_tag tag ≡ true) (inside : Body (L
                 | inr a ↦ absurd (let z = a.2 in cc)
                 | inl a ↦
                     let g : FaultFrom (place x.0.1.pos x.0.1.rest form' []) f =
-                    subst (λ (d : Form). FaultFrom (place x.0.1.pos x.0.1.rest d []) f) plain' (law'.faults x.0.1 f w.1.fits_rest a) in
-                    let due-is : behind due w.0.rest ≡ form' = behind_first w.0.rest (subst (λ (b : List ℕ). is_same these b ≡ true) (sym w.3) h.0) in
-                    fault_after due tag s w.0 x.0.1 [] f took w.1 (subst (λ (d : Form). FaultFrom (place x.0.1.pos x.0.1.rest d []) f) (sym due-is) g)
+                    subst (λ (d : Form). FaultFrom (place x.0.1.pos x.0.1.rest d []) f) plain'
+                    (law'.faults x.0.1 f w.1.fits_rest a) in
+                    let due-is : behind due w.0.rest ≡ form' =
+                    behind_first w.0.rest (subst (λ (b : List ℕ). is_same these b ≡ true) (sym w.3) h.0) in
+                    fault_after due tag s w.0 x.0.1 [] f took w.1
+                    (subst (λ (d : Form). FaultFrom (place x.0.1.pos x.0.1.rest d []) f) (sym due-is) g)
               ]
               | inr h ↦ elim (bind_err (second x.0.1) (λ c. Ok (inr (x.0.0, c))) f h.1) [
                 | inr a ↦ absurd (let z = a.2 in cc)
                 | inl a ↦
                     let g : FaultFrom (place x.0.1.pos x.0.1.rest form'' []) f =
-                    subst (λ (d : Form). FaultFrom (place x.0.1.pos x.0.1.rest d []) f) plain'' (law''.faults x.0.1 f w.1.fits_rest a) in
-                    let due-is : behind due w.0.rest ≡ form'' = behind_second w.0.rest (subst (λ (b : List ℕ). is_same these b ≡ false) (sym w.3) h.0) in
-                    fault_after due tag s w.0 x.0.1 [] f took w.1 (subst (λ (d : Form). FaultFrom (place x.0.1.pos x.0.1.rest d []) f) (sym due-is) g)
+                    subst (λ (d : Form). FaultFrom (place x.0.1.pos x.0.1.rest d []) f) plain''
+                    (law''.faults x.0.1 f w.1.fits_rest a) in
+                    let due-is : behind due w.0.rest ≡ form'' =
+                    behind_second w.0.rest (subst (λ (b : List ℕ). is_same these b ≡ false) (sym w.3) h.0) in
+                    fault_after due tag s w.0 x.0.1 [] f took w.1
+                    (subst (λ (d : Form). FaultFrom (place x.0.1.pos x.0.1.rest d []) f) (sym due-is) g)
               ]
             ]
       ]
@@ -156,7 +173,8 @@ module _ {A B : Type 0} (tag : ℕ) (id : is_tag tag ≡ true) (inside : Body (L
       next tag p.0 (enc' p.1) refl (record { identifier = id; size = h.0.1 }) took refl refl (law.encodes p.0 h.0.0)
       (subst (λ (d : Form). Encodes [] d (enc' p.1)) (sym (behind_second p.0 h.1)) (law''.encodes p.1 h.2))
 
-  pub switch_body : IsBody (switched tag inside these first second) enc_switched GoodSwitched (switch tag form these form' form'')
+  pub switch_body :
+      IsBody (switched tag inside these first second) enc_switched GoodSwitched (switch tag form these form' form'')
   switch_body = record {
     takes = switched_takes;
     again = switched_again;

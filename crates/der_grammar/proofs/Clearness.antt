@@ -2,7 +2,8 @@
 use Rattle.std.proofs.Common.{◌≡◌, true, refl}
 use Rattle.der_core.specs.Clear.{clear}
 use Rattle.der_core.specs.Grammar.{file}
-use Rattle.der_grammar.specs.Table.{content_info, certificate, tst_info, request, response, signing_certificate, signing_certificate_v2}
+use Rattle.der_grammar.specs.Table.{content_info, certificate, tst_info, request, response, signing_certificate}
+use Rattle.der_grammar.specs.Table.{signing_certificate_v2}
 
 pub content_info_clear : clear (file content_info) ≡ true
 content_info_clear = refl

@@ -1,6 +1,6 @@
--- The worked rows hold, by computing. For a row that is new in `specs/` add a line here: `encodes _ _ refl` if it says that
--- octets are an encoding, `found _ _ FAULT refl` if it states a fault, `not_encoded _ _ FAULT refl refl` if it says that
--- octets are no encoding, with any fault that they have, and `found_openly _ _ FAULT STEPS refl` or
+-- The worked rows hold, by computing. For a row that is new in `specs/` add a line here: `encodes _ _ refl` if it says
+-- that octets are an encoding, `found _ _ FAULT refl` if it states a fault, `not_encoded _ _ FAULT refl refl` if it
+-- says that octets are no encoding, with any fault that they have, and `found_openly _ _ FAULT STEPS refl` or
 -- `stated_at _ _ _ _ STEPS refl refl refl` for a beginning, with the steps that lead to the place.
 use Rattle.std.proofs.Common.{[], ◌∷◌, refl, inl, inr, lit<}
 use Rattle.der_core.specs.declared.fault.Kind.TheVariants as kind
@@ -401,7 +401,8 @@ pub open_rows : OpenRows
 unfolding len
 open_rows = record {
   content_type = stated_at _ _ _ _ (into ∷ over ∷ into ∷ into ∷ over ∷ over ∷ into ∷ []) refl refl refl;
-  signer_infos_header = stated_at _ _ _ _ (into ∷ over ∷ into ∷ into ∷ over ∷ over ∷ over ∷ without ∷ without ∷ []) refl refl refl;
+  signer_infos_header =
+      stated_at _ _ _ _ (into ∷ over ∷ into ∷ into ∷ over ∷ over ∷ over ∷ without ∷ without ∷ []) refl refl refl;
   too_large = inr (
     11,
     488,
@@ -409,9 +410,11 @@ open_rows = record {
     stated_at _ _ _ _ (into ∷ over ∷ into ∷ into ∷ over ∷ over ∷ over ∷ without ∷ without ∷ []) refl refl refl,
     lit< tt,
   );
-  type_too_large = inl (11, stated_at _ _ _ _ (into ∷ over ∷ into ∷ into ∷ over ∷ over ∷ into ∷ []) refl refl refl, lit< tt);
+  type_too_large =
+      inl (11, stated_at _ _ _ _ (into ∷ over ∷ into ∷ into ∷ over ∷ over ∷ into ∷ []) refl refl refl, lit< tt);
   cut_exchanged = found_openly _ _ (fault kind.Order 148)
-      (into ∷ over ∷ into ∷ into ∷ over ∷ over ∷ over ∷ without ∷ without ∷ into ∷ into ∷ over ∷ over ∷ over ∷ into ∷ over ∷ []) refl;
+      (into ∷ over ∷ into ∷ into ∷ over ∷ over ∷ over ∷ without ∷ without ∷ into ∷ into ∷ over ∷ over ∷ over ∷ into
+      ∷ over ∷ []) refl;
   cut = found _ _ (fault kind.Overrun 0) refl;
   cut_version = found_openly _ _ (fault kind.Value 25) (into ∷ over ∷ into ∷ into ∷ into ∷ []) refl;
   begun_overrun = found_openly _ _ (fault kind.Overrun 5) (into ∷ over ∷ []) refl;

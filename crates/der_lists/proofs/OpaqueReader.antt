@@ -17,7 +17,8 @@ use Rattle.der_lists.proofs.OpaqueLists.{stands_on}
 
 -- what was there, if an element of any kind was read
 abbrev Was : Spot → List ℕ × Spot → Type 0
-Was s y = (t : ℕ) × (b : List ℕ) × IsElement t b × (y.0 ≡ el t b) × (s.rest ≡ el t b ++ y.1.rest) × (y.1.pos ≡ s.pos + length (el t b))
+Was s y = (t : ℕ) × (b : List ℕ) × IsElement t b × (y.0 ≡ el t b) × (s.rest ≡ el t b ++ y.1.rest)
+    × (y.1.pos ≡ s.pos + length (el t b))
 
 was : (s : Spot) (y : List ℕ × Spot) → IsBytes s.rest → opaque_item s ≡ Ok y → Was s y
 unfolding opaque_item
@@ -30,10 +31,12 @@ was s y fits e =
 again : (x : List ℕ) (n : ℕ) (r : List ℕ) → IsOpaque x → opaque_item (spot n (x ++ r)) ≡ Ok (x, spot (n + length x) r)
 unfolding opaque_item
 again x n r h =
-    let one : opaque_item (spot n (el h.0 h.1 ++ r)) ≡ Ok (el h.0 h.1, spot (n + length (el h.0 h.1)) r) = rw (next_again n h.0 h.1 r h.2) refl in
+    let one : opaque_item (spot n (el h.0 h.1 ++ r)) ≡ Ok (el h.0 h.1, spot (n + length (el h.0 h.1)) r) =
+    rw (next_again n h.0 h.1 r h.2) refl in
     subst (λ (w : List ℕ). opaque_item (spot n (w ++ r)) ≡ Ok (w, spot (n + length w) r)) (sym h.3) one
 
-faulty : (s : Spot) (f : Fault) → IsBytes s.rest → opaque_item s ≡ Err f → (after : Form) → FaultFrom (place s.pos s.rest (opaques One after) []) f
+faulty : (s : Spot) (f : Fault) → IsBytes s.rest → opaque_item s ≡ Err f → (after : Form)
+    → FaultFrom (place s.pos s.rest (opaques One after) []) f
 unfolding opaque_item
 faulty s f fits e after =
     elim (bind_err (next_at s) (λ x. Ok (x.0.whole, x.1)) f e) [
@@ -51,11 +54,15 @@ opaque_reader = record {
   takes = λ s y fits e.
       let w = was s y fits e in (
         (w.0, w.1, w.2, w.3),
-        record { parts = w.4 ∙ ap (λ (v : List ℕ). v ++ y.1.rest) (sym w.3); moved = w.5 ∙ ap (λ (v : List ℕ). s.pos + length v) (sym w.3) },
+        record {
+          parts = w.4 ∙ ap (λ (v : List ℕ). v ++ y.1.rest) (sym w.3);
+          moved = w.5 ∙ ap (λ (v : List ℕ). s.pos + length v) (sym w.3);
+        },
       );
   again = λ x n r h l. again x n r h;
   faults = λ s f fits e after b. faulty s f fits e after;
-  goes = λ s y fits e after f h. let w = was s y fits e in stands_on (opaques One after) s y.1 w.0 w.1 [] f w.2 w.4 w.5 w.2.identifier h;
+  goes = λ s y fits e after f h. let w = was s y fits e in
+      stands_on (opaques One after) s y.1 w.0 w.1 [] f w.2 w.4 w.5 w.2.identifier h;
   encodes = λ x r after h m. next h.0 h.1 r (ap (λ (v : List ℕ). v ++ r) h.3) h.2 h.2.identifier refl refl anything m;
 }
 

@@ -1,5 +1,6 @@
 -- Numbers by their digits in decimal places.
-use Rattle.std.proofs.Common.{◌≡◌, ℕ, zero, suc, ◌+◌, ◌-◌, ◌*◌, ◌/◌, ◌%◌, ◌^◌, ◌<◌, ◌≤◌, eqb, leb, Bool, true, List, [], ◌∷◌, length, get_or, take, drop, refl}
+use Rattle.std.proofs.Common.{◌≡◌, ℕ, zero, suc, ◌+◌, ◌-◌, ◌*◌, ◌/◌, ◌%◌, ◌^◌, ◌<◌, ◌≤◌, eqb, leb, Bool, true, List, []}
+use Rattle.std.proofs.Common.{◌∷◌, length, get_or, take, drop, refl}
 use Rattle.std.proofs.Common.{sym, ap, ◌∙◌, arith}
 use Rattle.std.proofs.Math.Nat.{pow-succ', one-le-pow, mul-le-mul_right}
 use Rattle.std.proofs.lemmas.Bool.{and_parts, and_from, eqb-true, eq-eqb, le-leb}
@@ -31,7 +32,8 @@ in_places_below (suc k) (d ∷ ds) h =
     omega (arith, in_places_below k ds p.1, pow-succ' 10 k, mul-le-mul_right (10 ^ k) small)
 
 -- the digit at a place
-pub place_more : (k p : ℕ) (ds : List ℕ) → in_places (suc k) (drop p ds) ≡ (get_or ds p 48 - 48) * 10 ^ k + in_places k (drop (suc p) ds)
+pub place_more : (k p : ℕ) (ds : List ℕ)
+    → in_places (suc k) (drop p ds) ≡ (get_or ds p 48 - 48) * 10 ^ k + in_places k (drop (suc p) ds)
 unfolding in_places
 place_more k zero [] = omega (arith, in_no_places k)
 place_more k (suc p) [] = omega (arith, in_no_places k)
@@ -40,7 +42,8 @@ place_more k (suc p) (d ∷ ds) = place_more k p ds
 
 -- a step of reading from the first place on
 pub place_step : (n p d : ℕ) (ds : List ℕ) → p < 9 → d ≡ get_or ds p 48 - 48
-    → n * 10 ^ (9 - p) + in_places (9 - p) (drop p ds) ≡ (10 * n + d) * 10 ^ (9 - (p + 1)) + in_places (9 - (p + 1)) (drop (p + 1) ds)
+    → n * 10 ^ (9 - p) + in_places (9 - p) (drop p ds)
+    ≡ (10 * n + d) * 10 ^ (9 - (p + 1)) + in_places (9 - (p + 1)) (drop (p + 1) ds)
 place_step n p d ds l e =
     let k : ℕ = 9 - (p + 1) in
     let ke : 9 - p ≡ suc k = omega arith in
@@ -49,7 +52,8 @@ place_step n p d ds l e =
     ap (λ (j : ℕ). n * 10 ^ j + in_places j (drop p ds)) ke in
     let b : in_places (suc k) (drop p ds) ≡ d * 10 ^ k + in_places k (drop (suc p) ds) = place_more k p ds
     ∙ ap (λ (x : ℕ). x * 10 ^ k + in_places k (drop (suc p) ds)) (sym e) in
-    let c : in_places k (drop (suc p) ds) ≡ in_places k (drop (p + 1) ds) = ap (λ (q : ℕ). in_places k (drop q ds)) pe in
+    let c : in_places k (drop (suc p) ds) ≡ in_places k (drop (p + 1) ds) =
+    ap (λ (q : ℕ). in_places k (drop q ds)) pe in
     omega (arith, a, b, c, ap (λ (x : ℕ). n * x) (pow-succ' 10 k))
 
 pub place_last : (n p : ℕ) (ds : List ℕ) → p ≡ 9 → n * 10 ^ (9 - p) + in_places (9 - p) (drop p ds) ≡ n
@@ -67,7 +71,8 @@ place_small n p d l h =
 -- ---- all places of a number
 
 pub digit_is : (n : ℕ) → n < 10 → is_digit (48 + n) ≡ true
-digit_is n l = and_from (leb 48 (48 + n)) (leb (48 + n) 57) (le-leb 48 (48 + n) (omega arith)) (le-leb (48 + n) 57 (omega arith))
+digit_is n l =
+    and_from (leb 48 (48 + n)) (leb (48 + n) 57) (le-leb 48 (48 + n) (omega arith)) (le-leb (48 + n) 57 (omega arith))
 
 pub places_length : (k n : ℕ) → length (places k n) ≡ k
 unfolding places
@@ -86,7 +91,8 @@ unfolding places
 places_digits zero n l = refl
 places_digits (suc k) n l =
     let p = power_pos k in
-    and_from (is_digit (48 + n / 10 ^ k)) (every is_digit (places k (n % 10 ^ k))) (digit_is (n / 10 ^ k) (first_place k n l))
+    and_from (is_digit (48 + n / 10 ^ k)) (every is_digit (places k (n % 10 ^ k)))
+    (digit_is (n / 10 ^ k) (first_place k n l))
     (places_digits k (n % 10 ^ k) (mod_below n (10 ^ k) (omega arith)))
 
 pub in_places_of : (k n : ℕ) → n < 10 ^ k → in_places k (places k n) ≡ n
@@ -114,7 +120,8 @@ in_places_zeros (suc k) (d ∷ ds) h =
     let e : d - 48 ≡ 0 = omega (arith, eqb-true d 48 p.0) in
     ap (λ (x : ℕ). x * 10 ^ k + in_places k ds) e ∙ omega (arith, in_places_zeros k ds p.1)
 
-pub in_places_kept : (k j : ℕ) (ds : List ℕ) → every is_zero (drop j ds) ≡ true → in_places k (take j ds) ≡ in_places k ds
+pub in_places_kept : (k j : ℕ) (ds : List ℕ) → every is_zero (drop j ds) ≡ true
+    → in_places k (take j ds) ≡ in_places k ds
 unfolding in_places
 in_places_kept zero j ds h = refl
 in_places_kept (suc k) zero ds h = sym (in_places_zeros (suc k) ds h)
@@ -134,5 +141,6 @@ pub zeros_more : (j : ℕ) (ds : List ℕ) → 0 < j → j ≤ length ds
 zeros_more j ds s l z h =
     let is : drop (j - 1) ds ≡ get_or ds (j - 1) 0 ∷ drop (j - 1 + 1) ds = drop_more ds (j - 1) 0 (omega arith) in
     let at : j - 1 + 1 ≡ j = omega arith in
-    ap (every is_zero) is ∙ and_from (is_zero (get_or ds (j - 1) 0)) (every is_zero (drop (j - 1 + 1) ds)) (eq-eqb _ _ z)
+    ap (every is_zero) is
+    ∙ and_from (is_zero (get_or ds (j - 1) 0)) (every is_zero (drop (j - 1 + 1) ds)) (eq-eqb _ _ z)
     (ap (λ (n : ℕ). every is_zero (drop n ds)) at ∙ h)

@@ -1,7 +1,9 @@
 -- What it means that the two tests of texts succeed, and the readings of the two texts.
-use Rattle.std.proofs.Common.{◌≡◌, ℕ, zero, suc, ◌+◌, ◌-◌, ◌*◌, ◌<◌, ◌≤◌, Bool, true, false, not, ◌&&◌, ◌||◌, eqb, leb, List, [], ◌∷◌, length, get_or, take}
+use Rattle.std.proofs.Common.{◌≡◌, ℕ, zero, suc, ◌+◌, ◌-◌, ◌*◌, ◌<◌, ◌≤◌, Bool, true, false, not, ◌&&◌, ◌||◌, eqb, leb}
+use Rattle.std.proofs.Common.{List, [], ◌∷◌, length, get_or, take}
 use Rattle.std.proofs.Common.{drop, Ok, Err, refl, sym, ap, ◌∙◌, arith, inl, inr}
-use Rattle.std.proofs.lemmas.Bool.{eqb-true, eqb-false, leb-true, le-leb, not-true, and_parts, and_right, or_cases, cases_lt, cases_eq, cond-true}
+use Rattle.std.proofs.lemmas.Bool.{eqb-true, eqb-false, leb-true, le-leb, not-true, and_parts, and_right, or_cases}
+use Rattle.std.proofs.lemmas.Bool.{cases_lt, cases_eq, cond-true}
 use Rattle.std.proofs.lemmas.List.{get_or-take, get_or-drop, get_or_past, length-take, length-drop, drop-drop}
 use Rattle.std.specs.Str.{IsAscii}
 use Rattle.der_core.specs.declared.fault.Kind.TheVariants.{Time}
@@ -21,7 +23,8 @@ digit_from x h =
     let p = and_parts (leb 48 x) (leb x 57) h in
     record { low = leb-true 48 x p.0; high = leb-true x 57 p.1 }
 
-pub every_at : (test : ℕ → Bool) (xs : List ℕ) (i : ℕ) → every test xs ≡ true → i < length xs → test (get_or xs i 0) ≡ true
+pub every_at : (test : ℕ → Bool) (xs : List ℕ) (i : ℕ) → every test xs ≡ true → i < length xs
+    → test (get_or xs i 0) ≡ true
 every_at test [] i h l = absurd (omega arith)
 every_at test (x ∷ xs) zero h l = (and_parts (test x) (every test xs) h).0
 every_at test (x ∷ xs) (suc i) h l = every_at test xs i (and_parts (test x) (every test xs) h).1 (omega arith)
@@ -36,7 +39,8 @@ pub utc_parts : (b : List ℕ) → is_utc b ≡ true → IsUtc b
 utc_parts b h =
     let day : Bool = is_day (full_year (pair b 0)) (pair b 2) (pair b 4) in
     let clock : Bool = is_clock (pair b 6) (pair b 8) (pair b 10) in
-    let p = and_parts (eqb (length b) 13) (every is_digit (take 12 b) && (eqb (get_or b 12 0) 90 && (day && clock))) h in
+    let p =
+    and_parts (eqb (length b) 13) (every is_digit (take 12 b) && (eqb (get_or b 12 0) 90 && (day && clock))) h in
     let q = and_parts (every is_digit (take 12 b)) (eqb (get_or b 12 0) 90 && (day && clock)) p.1 in
     let r = and_parts (eqb (get_or b 12 0) 90) (day && clock) q.1 in
     let s = and_parts day clock r.1 in
@@ -67,13 +71,16 @@ generalized_parts b h =
     let s = and_parts clock tail r.1 in
     record { long = leb-true 15 (length b) p.0; digits = q.0; day = r.0; clock = s.0; tail = s.1 }
 
-pub generalized_read : (n m : ℕ) (b : List ℕ) → is_generalized b ≡ true → m ≡ generalized_moment b → generalized_in (spot n b) ≡ Ok m
-generalized_read n m b h e = cond-true (is_generalized b) (Ok (generalized_moment b)) (Err (fault Time n)) h ∙ ap (λ (k : ℕ). Ok k) (sym e)
+pub generalized_read : (n m : ℕ) (b : List ℕ) → is_generalized b ≡ true → m ≡ generalized_moment b
+    → generalized_in (spot n b) ≡ Ok m
+generalized_read n m b h e =
+    cond-true (is_generalized b) (Ok (generalized_moment b)) (Err (fault Time n)) h ∙ ap (λ (k : ℕ). Ok k) (sym e)
 
 pub digit_at : (b : List ℕ) (i : ℕ) → IsGeneralized b → i < 14 → IsDigit (get_or b i 0)
 digit_at b i h l =
     let inside : i < length (take 14 b) = omega (arith, length-take 14 b, h.long) in
-    digit_from (get_or b i 0) (ap is_digit (sym (get_or-take 14 b i 0 l)) ∙ every_at is_digit (take 14 b) i h.digits inside)
+    digit_from (get_or b i 0)
+    (ap is_digit (sym (get_or-take 14 b i 0 l)) ∙ every_at is_digit (take 14 b) i h.digits inside)
 
 pub pair_below : (b : List ℕ) (i : ℕ) → IsGeneralized b → i + 1 < 14 → pair b i < 100
 pair_below b i h l = omega (arith, digit_at b i h (omega arith), digit_at b (i + 1) h l)
@@ -140,7 +147,8 @@ no_fraction b e =
 pub fraction_is : (b : List ℕ) → fraction_digits b ≡ take (length (drop 14 b) - 2) (drop 1 (drop 14 b))
 fraction_is b =
     let size : length b - 16 ≡ length (drop 14 b) - 2 = omega (arith, length-drop 14 b) in
-    ap (λ (n : ℕ). take n (drop 15 b)) size ∙ ap (λ (ds : List ℕ). take (length (drop 14 b) - 2) ds) (sym (drop-drop 1 14 b))
+    ap (λ (n : ℕ). take n (drop 15 b)) size
+    ∙ ap (λ (ds : List ℕ). take (length (drop 14 b) - 2) ds) (sym (drop-drop 1 14 b))
 
 pub fraction_of_digits : (b : List ℕ) → IsGeneralized b → every is_digit (fraction_digits b) ≡ true
 fraction_of_digits b h =
@@ -155,13 +163,15 @@ front false y h = absurd cc
 
 -- only the tail is left to test
 pub tail_decides : (b : List ℕ) (t : Bool) → 15 ≤ length b → every is_digit (take 14 b) ≡ true
-    → is_day (100 * pair b 0 + pair b 2) (pair b 4) (pair b 6) ≡ true → is_clock (pair b 8) (pair b 10) (pair b 12) ≡ true
+    → is_day (100 * pair b 0 + pair b 2) (pair b 4) (pair b 6) ≡ true
+    → is_clock (pair b 8) (pair b 10) (pair b 12) ≡ true
     → t ≡ (is_same (drop 14 b) (90 ∷ []) || is_fraction (drop 14 b)) → t ≡ is_generalized b
 tail_decides b t long digits day clock e =
     let tail : Bool = is_same (drop 14 b) (90 ∷ []) || is_fraction (drop 14 b) in
     let day' : Bool = is_day (100 * pair b 0 + pair b 2) (pair b 4) (pair b 6) in
     let clock' : Bool = is_clock (pair b 8) (pair b 10) (pair b 12) in
-    let whole : is_generalized b ≡ tail = front (leb 15 (length b)) (every is_digit (take 14 b) && (day' && (clock' && tail))) (le-leb 15 (length b) long)
+    let whole : is_generalized b ≡ tail =
+    front (leb 15 (length b)) (every is_digit (take 14 b) && (day' && (clock' && tail))) (le-leb 15 (length b) long)
     ∙ front (every is_digit (take 14 b)) (day' && (clock' && tail)) digits
     ∙ front day' (clock' && tail) day
     ∙ front clock' tail clock in
@@ -180,8 +190,10 @@ fraction_octets r i f =
         | inl e ↦ omega (arith, ap (λ (n : ℕ). get_or r n 0) e, f.point)
         | inr e ↦
             let at : 1 + (i - 1) ≡ i = omega arith in
-            let size : length (take (length r - 2) (drop 1 r)) ≡ length r - 2 = length-take (length r - 2) (drop 1 r) ∙ omega (arith, length-drop 1 r) in
-            let is : get_or (take (length r - 2) (drop 1 r)) (i - 1) 0 ≡ get_or r i 0 = get_or-take (length r - 2) (drop 1 r) (i - 1) 0 (omega arith)
+            let size : length (take (length r - 2) (drop 1 r)) ≡ length r - 2 = length-take (length r - 2) (drop 1 r)
+            ∙ omega (arith, length-drop 1 r) in
+            let is : get_or (take (length r - 2) (drop 1 r)) (i - 1) 0 ≡ get_or r i 0 =
+            get_or-take (length r - 2) (drop 1 r) (i - 1) 0 (omega arith)
             ∙ get_or-drop 1 r (i - 1) 0 ∙ ap (λ (n : ℕ). get_or r n 0) at in
             let d = digit_from (get_or (take (length r - 2) (drop 1 r)) (i - 1) 0)
             (every_at is_digit (take (length r - 2) (drop 1 r)) (i - 1) f.digits (omega arith)) in
@@ -193,7 +205,8 @@ tail_octets : (r : List ℕ) (i : ℕ) → (is_same r (90 ∷ []) || is_fraction
 tail_octets r i h =
     elim (or_cases (is_same r (90 ∷ [])) (is_fraction r) h) [
       | inr e ↦ fraction_octets r i (fraction_parts r e)
-      | inl e ↦ let is : r ≡ 90 ∷ [] = same_from r (90 ∷ []) e in omega (arith, ap (λ (v : List ℕ). get_or v i 0) is, end_octets i)
+      | inl e ↦ let is : r ≡ 90 ∷ [] = same_from r (90 ∷ []) e in
+          omega (arith, ap (λ (v : List ℕ). get_or v i 0) is, end_octets i)
     ]
   where
     end_octets : (i : ℕ) → get_or (90 ∷ []) i 0 < 128
@@ -207,5 +220,10 @@ text_is_ascii b h i =
       | inl l ↦ let d = digit_at b i p l in omega (arith, d.high)
       | inr l ↦
           let at : 14 + (i - 14) ≡ i = omega arith in
-          omega (arith, tail_octets (drop 14 b) (i - 14) p.tail, get_or-drop 14 b (i - 14) 0, ap (λ (n : ℕ). get_or b n 0) at)
+          omega (
+            arith,
+            tail_octets (drop 14 b) (i - 14) p.tail,
+            get_or-drop 14 b (i - 14) 0,
+            ap (λ (n : ℕ). get_or b n 0) at,
+          )
     ]

@@ -25,7 +25,8 @@ texts_reader : IsReader (either 0x17 utc_text_in 24 generalized_text_in)
     (λ b. is_generalized b ≡ true) generalized generalized_body time refl refl refl)
     (GoodEither 23 refl utc_text_in (λ b. b) (λ b. is_utc b ≡ true) utc utc_body 24 refl generalized_text_in (λ b. b)
     (λ b. is_generalized b ≡ true) generalized generalized_body time refl refl refl) times Always Anything
-texts_reader = either_reader 23 refl utc_text_in (λ b. b) (λ b. is_utc b ≡ true) utc utc_body 24 refl generalized_text_in (λ b. b)
+texts_reader =
+    either_reader 23 refl utc_text_in (λ b. b) (λ b. is_utc b ≡ true) utc utc_body 24 refl generalized_text_in (λ b. b)
     (λ b. is_generalized b ≡ true) generalized generalized_body time refl refl refl
 
 text_of : TimeValue → List ℕ ⊎ List ℕ
@@ -43,11 +44,13 @@ text_back (inl text) = refl
 text_back (inr text) = refl
 
 abbrev spelled : TimeValue → List ℕ
-spelled t = enc_either 23 refl utc_text_in (λ b. b) (λ b. is_utc b ≡ true) utc utc_body 24 refl generalized_text_in (λ b. b)
+spelled t =
+    enc_either 23 refl utc_text_in (λ b. b) (λ b. is_utc b ≡ true) utc utc_body 24 refl generalized_text_in (λ b. b)
     (λ b. is_generalized b ≡ true) generalized generalized_body time refl refl refl (text_of t)
 
 abbrev GoodText : TimeValue → Type 0
-GoodText t = GoodEither 23 refl utc_text_in (λ b. b) (λ b. is_utc b ≡ true) utc utc_body 24 refl generalized_text_in (λ b. b)
+GoodText t =
+    GoodEither 23 refl utc_text_in (λ b. b) (λ b. is_utc b ≡ true) utc utc_body 24 refl generalized_text_in (λ b. b)
     (λ b. is_generalized b ≡ true) generalized generalized_body time refl refl refl (text_of t)
 
 same_time : (t : TimeValue) → spelled t ≡ time_element t
@@ -67,5 +70,6 @@ text_good (Generalized text) h = h
 
 pub time_reader : IsReader time_at time_element GoodTime times Always Anything
 unfolding time_at
-time_reader = alike_reader spelled time_element GoodText GoodTime same_time good_text text_good time_at times Always Always Anything (λ r l. l)
+time_reader = alike_reader spelled time_element GoodText GoodTime same_time good_text text_good time_at times Always
+    Always Anything (λ r l. l)
     (named_reader time_from text_of text_there _ _ _ times Always Anything texts_reader (λ x h. text_back x))

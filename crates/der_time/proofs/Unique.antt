@@ -1,5 +1,6 @@
 -- Two GeneralizedTimes that denote one moment are the same text.
-use Rattle.std.proofs.Common.{◌≡◌, ℕ, zero, suc, ◌+◌, ◌-◌, ◌*◌, ◌^◌, ◌<◌, ◌≤◌, true, ◌&&◌, leb, List, [], ◌∷◌, ◌++◌, length, get_or, take, drop, refl, sym, ap}
+use Rattle.std.proofs.Common.{◌≡◌, ℕ, zero, suc, ◌+◌, ◌-◌, ◌*◌, ◌^◌, ◌<◌, ◌≤◌, true, ◌&&◌, leb, List, [], ◌∷◌, ◌++◌}
+use Rattle.std.proofs.Common.{length, get_or, take, drop, refl, sym, ap}
 use Rattle.std.proofs.Common.{subst, ◌∙◌, arith, inl, inr}
 use Rattle.std.proofs.Math.Nat.{mul-le-mul_right}
 use Rattle.std.proofs.lemmas.Nat.{same_from_place}
@@ -11,7 +12,8 @@ use Rattle.der_time.specs.Calendar.{day_number}
 use Rattle.der_time.specs.Moments.{nanos_of, in_places, fraction_digits, generalized_moment, TextsAreUnique}
 use Rattle.der_time.proofs.Civil.{same_date}
 use Rattle.der_time.proofs.Places.{power_pos, in_places_below}
-use Rattle.der_time.proofs.Texts.{digit_from, IsGeneralized, generalized_parts, digit_at, pair_below, same_from, no_fraction, fraction_is, fraction_of_digits}
+use Rattle.der_time.proofs.Texts.{digit_from, IsGeneralized, generalized_parts, digit_at, pair_below, same_from}
+use Rattle.der_time.proofs.Texts.{no_fraction, fraction_is, fraction_of_digits}
 use Rattle.der_time.proofs.Texts.{IsFraction, fraction_parts, year_below}
 
 -- ---- digits that do not end in 0
@@ -23,7 +25,8 @@ inner_end : (d : ℕ) (ds : List ℕ) → EndsWell (d ∷ ds) → EndsWell ds
 inner_end d ds h n e z = h (suc n) (omega (arith, e)) z
 
 -- their value is more than 0
-positive : (k d : ℕ) (ds : List ℕ) → length (d ∷ ds) ≤ k → every is_digit (d ∷ ds) ≡ true → EndsWell (d ∷ ds) → 1 ≤ in_places k (d ∷ ds)
+positive : (k d : ℕ) (ds : List ℕ) → length (d ∷ ds) ≤ k → every is_digit (d ∷ ds) ≡ true → EndsWell (d ∷ ds)
+    → 1 ≤ in_places k (d ∷ ds)
 unfolding in_places
 positive zero d ds l h w = absurd (omega (arith, l))
 positive (suc k) d [] l h w =
@@ -31,9 +34,14 @@ positive (suc k) d [] l h w =
     let some : 1 ≤ d - 48 = omega (arith, g.low, w 0 refl) in
     omega (arith, mul-le-mul_right (10 ^ k) some, power_pos k)
 positive (suc k) d (e ∷ es) l h w =
-    omega (arith, positive k e es (omega (arith, l)) (and_parts (is_digit d) (every is_digit (e ∷ es)) h).1 (inner_end d (e ∷ es) w))
+    omega (
+      arith,
+      positive k e es (omega (arith, l)) (and_parts (is_digit d) (every is_digit (e ∷ es)) h).1
+          (inner_end d (e ∷ es) w),
+    )
 
-same_places : (k : ℕ) (ds es : List ℕ) → length ds ≤ k → length es ≤ k → every is_digit ds ≡ true → every is_digit es ≡ true → EndsWell ds
+same_places : (k : ℕ) (ds es : List ℕ) → length ds ≤ k → length es ≤ k → every is_digit ds ≡ true
+    → every is_digit es ≡ true → EndsWell ds
     → EndsWell es → in_places k ds ≡ in_places k es → ds ≡ es
 unfolding in_places
 same_places zero [] [] l m g h v w e = refl
@@ -47,9 +55,11 @@ same_places (suc k) (d ∷ ds) (x ∷ es) l m g h v w e =
     let q = and_parts (is_digit x) (every is_digit es) h in
     let a = digit_from d p.0 in
     let b = digit_from x q.0 in
-    let s = same_from_place (d - 48) (in_places k ds) (x - 48) (in_places k es) (10 ^ k) (in_places_below k ds p.1) (in_places_below k es q.1) e in
+    let s = same_from_place (d - 48) (in_places k ds) (x - 48) (in_places k es) (10 ^ k) (in_places_below k ds p.1)
+    (in_places_below k es q.1) e in
     let first : d ≡ x = omega (arith, s.0, a.low, b.low) in
-    let others : ds ≡ es = same_places k ds es (omega (arith, l)) (omega (arith, m)) p.1 q.1 (inner_end d ds v) (inner_end x es w) s.1 in
+    let others : ds ≡ es =
+    same_places k ds es (omega (arith, l)) (omega (arith, m)) p.1 q.1 (inner_end d ds v) (inner_end x es w) s.1 in
     ap (λ (n : ℕ). n ∷ ds) first ∙ ap (λ (r : List ℕ). x ∷ r) others
 
 -- ---- the tail of a text by the digits of its fraction
@@ -103,7 +113,8 @@ has_tail b g =
             digits = refl;
             end = λ n z y. omega (arith, z);
           })
-      | inr e ↦ subst (λ (ds : List ℕ). HasTail (drop 14 b) ds) (sym (fraction_is b)) (fraction_tail (drop 14 b) (fraction_parts (drop 14 b) e))
+      | inr e ↦ subst (λ (ds : List ℕ). HasTail (drop 14 b) ds) (sym (fraction_is b))
+          (fraction_tail (drop 14 b) (fraction_parts (drop 14 b) e))
     ]
 
 -- ---- the front of a text by its numbers
@@ -144,13 +155,17 @@ moment_of p = nanos_of p.days p.hour p.minute p.second + p.nanos
 same_parts : (p q : Parts) → AreParts p → AreParts q → moment_of p ≡ moment_of q → SameParts p q
 same_parts p q a b e =
     let n = same_from_place (86400 * p.days + 3600 * p.hour + 60 * p.minute + p.second) p.nanos
-    (86400 * q.days + 3600 * q.hour + 60 * q.minute + q.second) q.nanos (10 ^ 9) a.nanos_below b.nanos_below (omega (arith, e)) in
-    let d = same_from_place p.days (3600 * p.hour + 60 * p.minute + p.second) q.days (3600 * q.hour + 60 * q.minute + q.second) 86400
+    (86400 * q.days + 3600 * q.hour + 60 * q.minute + q.second) q.nanos (10 ^ 9) a.nanos_below b.nanos_below
+    (omega (arith, e)) in
+    let d = same_from_place p.days (3600 * p.hour + 60 * p.minute + p.second) q.days
+    (3600 * q.hour + 60 * q.minute + q.second) 86400
     (omega (arith, a.clock.hour_high, a.clock.minute_high, a.clock.second_high))
     (omega (arith, b.clock.hour_high, b.clock.minute_high, b.clock.second_high)) (omega (arith, n.0)) in
     let h = same_from_place p.hour (60 * p.minute + p.second) q.hour (60 * q.minute + q.second) 3600
-    (omega (arith, a.clock.minute_high, a.clock.second_high)) (omega (arith, b.clock.minute_high, b.clock.second_high)) (omega (arith, d.1)) in
-    let i = same_from_place p.minute p.second q.minute q.second 60 (omega (arith, a.clock.second_high)) (omega (arith, b.clock.second_high))
+    (omega (arith, a.clock.minute_high, a.clock.second_high)) (omega (arith, b.clock.minute_high, b.clock.second_high))
+    (omega (arith, d.1)) in
+    let i = same_from_place p.minute p.second q.minute q.second 60 (omega (arith, a.clock.second_high))
+    (omega (arith, b.clock.second_high))
     (omega (arith, h.1)) in
     record { days = d.0; hours = h.0; minutes = i.0; seconds = i.1; nanos = n.1 }
 
@@ -171,7 +186,8 @@ are_parts a g = record {
 }
 
 -- two more octets are the same if the numbers that they make are equal
-two_more : (a b : List ℕ) (i : ℕ) → IsGeneralized a → IsGeneralized b → i + 1 < 14 → pair a i ≡ pair b i → take i a ≡ take i b
+two_more : (a b : List ℕ) (i : ℕ) → IsGeneralized a → IsGeneralized b → i + 1 < 14 → pair a i ≡ pair b i
+    → take i a ≡ take i b
     → take (i + 1 + 1) a ≡ take (i + 1 + 1) b
 two_more a b i g h l e same =
     let a0 = digit_at a i g (omega arith) in
@@ -189,7 +205,8 @@ texts_are_unique a b ta tb e =
     let g = generalized_parts a ta in
     let h = generalized_parts b tb in
     let s = same_parts (parts_of a) (parts_of b) (are_parts a g) (are_parts b h) e in
-    let d = same_date (100 * pair a 0 + pair a 2) (100 * pair b 0 + pair b 2) (pair a 4) (pair b 4) (pair a 6) (pair b 6) (year_below a g)
+    let d = same_date (100 * pair a 0 + pair a 2) (100 * pair b 0 + pair b 2) (pair a 4) (pair b 4) (pair a 6)
+    (pair b 6) (year_below a g)
     (year_below b h) g.day h.day s.days in
     let y = same_from_place (pair a 0) (pair a 2) (pair b 0) (pair b 2) 100 (pair_below a 2 g (omega arith))
     (pair_below b 2 h (omega arith)) (omega (arith, d.0)) in
@@ -202,6 +219,8 @@ texts_are_unique a b ta tb e =
     let t14 : take 14 a ≡ take 14 b = two_more a b 12 g h (omega arith) s.seconds t12 in
     let p = has_tail a g in
     let q = has_tail b h in
-    let ds : fraction_digits a ≡ fraction_digits b = same_places 9 (fraction_digits a) (fraction_digits b) p.few q.few p.digits q.digits p.end q.end s.nanos in
+    let ds : fraction_digits a ≡ fraction_digits b =
+    same_places 9 (fraction_digits a) (fraction_digits b) p.few q.few p.digits q.digits p.end q.end s.nanos in
     let tails : drop 14 a ≡ drop 14 b = p.tail ∙ ap tail_by ds ∙ sym q.tail in
-    sym (take-append-drop 14 a) ∙ ap (λ (r : List ℕ). r ++ drop 14 a) t14 ∙ ap (λ (r : List ℕ). take 14 b ++ r) tails ∙ take-append-drop 14 b
+    sym (take-append-drop 14 a) ∙ ap (λ (r : List ℕ). r ++ drop 14 a) t14 ∙ ap (λ (r : List ℕ). take 14 b ++ r) tails
+    ∙ take-append-drop 14 b

@@ -14,7 +14,11 @@ use Rattle.ess_types.proofs.SigningCertificateReaders.{signing_encodes, plain_en
 
 good_sha256 : GoodAlgorithm (with_null sha256)
 unfolding len
-good_sha256 = record { oid = (refl, lit< tt); parameters = (5, [], record { identifier = refl; size = lit< tt }, refl); size = lit< tt }
+good_sha256 = record {
+  oid = (refl, lit< tt);
+  parameters = (5, [], record { identifier = refl; size = lit< tt }, refl);
+  size = lit< tt;
+}
 
 good_sha1 : GoodAlgorithm (alone sha1)
 unfolding len
@@ -95,7 +99,12 @@ signing_rows = record {
   );
   by_default = (
     refl,
-    record { ids = (record { algorithm = tt; hash = lit< tt; issuer_serial = tt; size = lit< tt }, tt); list = lit< tt; policies = tt; size = lit< tt },
+    record {
+      ids = (record { algorithm = tt; hash = lit< tt; issuer_serial = tt; size = lit< tt }, tt);
+      list = lit< tt;
+      policies = tt;
+      size = lit< tt;
+    },
   );
   of_signer = (
     refl,
@@ -121,7 +130,12 @@ signing_rows = record {
   );
   by_sha1 = (
     refl,
-    record { ids = (record { algorithm = good_sha1; hash = lit< tt; issuer_serial = tt; size = lit< tt }, tt); list = lit< tt; policies = tt; size = lit< tt },
+    record {
+      ids = (record { algorithm = good_sha1; hash = lit< tt; issuer_serial = tt; size = lit< tt }, tt);
+      list = lit< tt;
+      policies = tt;
+      size = lit< tt;
+    },
   );
   by_spelled_default = (
     refl,
@@ -149,7 +163,12 @@ signing_rows = record {
   with_policies = (
     (
       refl,
-      record { ids = (record { algorithm = tt; hash = lit< tt; issuer_serial = tt; size = lit< tt }, tt); list = lit< tt; policies = lit< tt; size = lit< tt },
+      record {
+        ids = (record { algorithm = tt; hash = lit< tt; issuer_serial = tt; size = lit< tt }, tt);
+        list = lit< tt;
+        policies = lit< tt;
+        size = lit< tt;
+      },
     ),
     (refl, tt),
   );
@@ -202,9 +221,11 @@ signing_rows = record {
     (refl, tt),
   );
   algorithm_in_v1 = λ v h. not_encoded (file signing_certificate) _ (fault kind.Tag 6) refl refl (plain_encodes _ v h);
-  late_algorithm = λ v h. not_encoded (file signing_certificate_v2) _ (fault kind.Tag 11) refl refl (signing_encodes _ v h);
+  late_algorithm =
+      λ v h. not_encoded (file signing_certificate_v2) _ (fault kind.Tag 11) refl refl (signing_encodes _ v h);
   no_hash = λ v h. not_encoded (file signing_certificate_v2) _ (fault kind.End 15) refl refl (signing_encodes _ v h);
   no_serial = λ v h. not_encoded (file signing_certificate) _ (fault kind.End 13) refl refl (plain_encodes _ v h);
   other_policies = λ v h. not_encoded (file signing_certificate) _ (fault kind.Tag 4) refl refl (plain_encodes _ v h);
-  third_part = λ v h. not_encoded (file signing_certificate_v2) _ (fault kind.Trailing 6) refl refl (signing_encodes _ v h);
+  third_part =
+      λ v h. not_encoded (file signing_certificate_v2) _ (fault kind.Trailing 6) refl refl (signing_encodes _ v h);
 }

@@ -2,7 +2,8 @@
 
 ghost use Rattle.std.specs.Prelude.{◌≡◌, IfSome};
 ghost use Rattle.cli_failures.specs.Failures.{failure_text};
-ghost use Rattle.library_answers.specs.Failures.{fault_numbers, message_number, compare_rule_numbers, uncompared_numbers};
+ghost use Rattle.library_answers.specs.Failures.{fault_numbers, message_number, compare_rule_numbers};
+ghost use Rattle.library_answers.specs.Failures.{uncompared_numbers};
 ghost use Rattle.library_answers.specs.Failures.{match_numbers, attach_numbers, failure_numbers, status_number};
 ghost use Rattle.library_answers.specs.Failures.{failure_status, IsLine, IsMade, IsUnmade};
 

@@ -1,5 +1,6 @@
 -- The lines of the bits that are set, one bit after another; and what is shown of a text that has octets.
-use Rattle.std.proofs.Common.{◌≡◌, ◌<◌, ◌+◌, ◌-◌, ◌++◌, ◌∷◌, [], ℕ, List, suc, length, flat_map, append_assoc, ap, sym, refl, arith, ◌∙◌}
+use Rattle.std.proofs.Common.{◌≡◌, ◌<◌, ◌+◌, ◌-◌, ◌++◌, ◌∷◌, [], ℕ, List, suc, length, flat_map, append_assoc, ap, sym}
+use Rattle.std.proofs.Common.{refl, arith, ◌∙◌}
 use Rattle.lines_shown.specs.ResponseLines.{set_line, fail_lines, shown_octet, shown_text}
 
 pub next_bit : (contents : List ℕ) (n total : ℕ) → n < total

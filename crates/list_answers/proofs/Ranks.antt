@@ -1,5 +1,6 @@
 -- Questions in byte order, and the search among them.
-use Rattle.std.proofs.Common.{◌≡◌, ℕ, ◌<◌, Bool, true, false, List, [], ◌∷◌, length, get_or, Result, Ok, Err, is_ok, refl, sym, subst, ◌∙◌, arith, inl, inr}
+use Rattle.std.proofs.Common.{◌≡◌, ℕ, ◌<◌, Bool, true, false, List, [], ◌∷◌, length, get_or, Result, Ok, Err, is_ok}
+use Rattle.std.proofs.Common.{refl, sym, subst, ◌∙◌, arith, inl, inr}
 use Rattle.std.proofs.Common.{◌&&◌, rules}
 use Rattle.std.specs.Prelude.{◌==◌}
 use Rattle.std.specs.declared.cmp.Ordering.{Ordering}
@@ -19,9 +20,11 @@ use Rattle.list_answers.specs.Asking.{Asked, is_same_question, is_among}
 use Rattle.list_answers.specs.AnswerSteps.{asked_cmp, AreInOrder}
 
 pub asked_total : IsTotalOrder asked_cmp
-asked_total = then_total (on_total (λ (q : Asked). q.signature) nat_list_cmp_total) (then_total (on_total (λ (q : Asked). q.tail) nat_list_cmp_total)
+asked_total = then_total (on_total (λ (q : Asked). q.signature) nat_list_cmp_total)
+    (then_total (on_total (λ (q : Asked). q.tail) nat_list_cmp_total)
     (then_total (on_total (λ (q : Asked). q.key) nat_list_cmp_total)
-    (then_total (on_total (λ (q : Asked). q.digest_alg) nat_list_cmp_total) (on_total (λ (q : Asked). q.signature_alg) nat_list_cmp_total))))
+    (then_total (on_total (λ (q : Asked). q.digest_alg) nat_list_cmp_total)
+    (on_total (λ (q : Asked). q.signature_alg) nat_list_cmp_total))))
 
 both_equal : (r s : Ordering) → ordering_then r s ≡ Equal → (r ≡ Equal) × (s ≡ Equal)
 both_equal Less s e = absurd cc
@@ -43,28 +46,44 @@ equal_questions a b e =
     let key = equal_lists a.key b.key y.0 in
     let digest_alg = equal_lists a.digest_alg b.digest_alg d.0 in
     let signature_alg = equal_lists a.signature_alg b.signature_alg d.1 in
-    λ i. record { key = key i; digest_alg = digest_alg i; signature_alg = signature_alg i; tail = tail i; signature = signature i }
+    λ i. record {
+      key = key i;
+      digest_alg = digest_alg i;
+      signature_alg = signature_alg i;
+      tail = tail i;
+      signature = signature i;
+    }
 
 itself : (xs : List ℕ) → is_same xs xs ≡ true
 itself [] = refl
 itself (x ∷ xs) = let h : (x == x) ≡ true = search rules in and_from (x == x) (is_same xs xs) h (itself xs)
 
 question_itself : (q : Asked) → is_same_question q q ≡ true
-question_itself q = rw (itself q.key, itself q.digest_alg, itself q.signature_alg, itself q.tail, itself q.signature) refl
+question_itself q =
+    rw (itself q.key, itself q.digest_alg, itself q.signature_alg, itself q.tail, itself q.signature) refl
 
 same_questions : (a b : Asked) → is_same_question a b ≡ true → a ≡ b
 same_questions a b e =
-    let s = and_parts (is_same a.key b.key && is_same a.digest_alg b.digest_alg && is_same a.signature_alg b.signature_alg && is_same a.tail b.tail)
+    let s = and_parts (is_same a.key b.key && is_same a.digest_alg b.digest_alg
+    && is_same a.signature_alg b.signature_alg && is_same a.tail b.tail)
     (is_same a.signature b.signature) e in
-    let t = and_parts (is_same a.key b.key && is_same a.digest_alg b.digest_alg && is_same a.signature_alg b.signature_alg) (is_same a.tail b.tail) s.0 in
-    let g = and_parts (is_same a.key b.key && is_same a.digest_alg b.digest_alg) (is_same a.signature_alg b.signature_alg) t.0 in
+    let t = and_parts (is_same a.key b.key && is_same a.digest_alg b.digest_alg
+    && is_same a.signature_alg b.signature_alg) (is_same a.tail b.tail) s.0 in
+    let g = and_parts (is_same a.key b.key && is_same a.digest_alg b.digest_alg)
+    (is_same a.signature_alg b.signature_alg) t.0 in
     let d = and_parts (is_same a.key b.key) (is_same a.digest_alg b.digest_alg) g.0 in
     let key = same a.key b.key d.0 in
     let digest_alg = same a.digest_alg b.digest_alg d.1 in
     let signature_alg = same a.signature_alg b.signature_alg g.1 in
     let tail = same a.tail b.tail t.1 in
     let signature = same a.signature b.signature s.1 in
-    λ i. record { key = key i; digest_alg = digest_alg i; signature_alg = signature_alg i; tail = tail i; signature = signature i }
+    λ i. record {
+      key = key i;
+      digest_alg = digest_alg i;
+      signature_alg = signature_alg i;
+      tail = tail i;
+      signature = signature i;
+    }
 
 differs : (b : Bool) → (b ≡ true → ⊥) → b ≡ false
 differs true h = absurd (h refl)
@@ -79,15 +98,19 @@ pub searched : (xs : List Asked) (q : Asked) (r : Result ℕ ℕ) → AreInOrder
     → IsBinarySearchResult (λ y. asked_cmp y q) xs r → is_ok r ≡ is_among xs q
 searched xs q (Ok i) sorted within h =
     let e : get_or xs i q ≡ q = equal_questions (get_or xs i q) q (h q) in
-    sym (list_any_at (is_same_question q) xs i q within (subst (λ (a : Asked). is_same_question q a ≡ true) (sym e) (question_itself q)))
+    sym (list_any_at (is_same_question q) xs i q within
+    (subst (λ (a : Asked). is_same_question q a ≡ true) (sym e) (question_itself q)))
 searched xs q (Err i) sorted within h =
     let p = h (searchable_from_sorted asked_total (λ (x : Asked). x) xs q sorted) in
     let apart : (k : ℕ) (d : Asked) → k < length xs → is_same_question q (get_or xs k d) ≡ false =
     λ k d l. differs (is_same_question q (get_or xs k d)) (λ s.
-    let e : asked_cmp (get_or xs k d) q ≡ Equal = subst (λ (a : Asked). asked_cmp a q ≡ Equal) (same_questions q (get_or xs k d) s)
+    let e : asked_cmp (get_or xs k d) q ≡ Equal =
+    subst (λ (a : Asked). asked_cmp a q ≡ Equal) (same_questions q (get_or xs k d) s)
     (tied_itself asked_total q) in
     elim (cases_lt k i) [
-      | inl below ↦ let f : asked_cmp (get_or xs k d) q ≡ Less = p.0 k d (omega arith) below in let z : Less ≡ Equal = sym f ∙ e in cc
-      | inr above ↦ let f : asked_cmp (get_or xs k d) q ≡ Greater = p.1 k d above l in let z : Greater ≡ Equal = sym f ∙ e in cc
+      | inl below ↦ let f : asked_cmp (get_or xs k d) q ≡ Less = p.0 k d (omega arith) below in
+          let z : Less ≡ Equal = sym f ∙ e in cc
+      | inr above ↦ let f : asked_cmp (get_or xs k d) q ≡ Greater = p.1 k d above l in
+          let z : Greater ≡ Equal = sym f ∙ e in cc
     ]) in
     sym (list_any_none (is_same_question q) xs apart)

@@ -1,4 +1,5 @@
-ghost use Rattle.std.specs.Prelude.{◌≡◌, ◌⊎◌, ◌<◌, ◌++◌, ◌∷◌, [], List, length, Ok, Err, Some, None, IfOk, IfErr, IsOk, IsErr, MatchOption, MatchResult, is_some, if◌then◌else◌, refl};
+ghost use Rattle.std.specs.Prelude.{◌≡◌, ◌⊎◌, ◌<◌, ◌++◌, ◌∷◌, [], List, length, Ok, Err, Some, None, IfOk, IfErr, IsOk};
+ghost use Rattle.std.specs.Prelude.{IsErr, MatchOption, MatchResult, is_some, if◌then◌else◌, refl};
 ghost use Rattle.std.proofs.Common.{◌∙◌};
 ghost use Rattle.devices.specs.Device.{Counts};
 ghost use Rattle.list_answers.specs.Asking.{Asked, is_among};
@@ -33,7 +34,13 @@ impl Model for Vouched {
 
     ghost Value = { Asked };
 
-    ghost view = { λ v. record { key = v.key.items; digest_alg = v.digest_alg.items; signature_alg = v.signature_alg.items; tail = v.tail.items; signature = v.signature.items } };
+    ghost view = { λ v. record {
+      key = v.key.items;
+      digest_alg = v.digest_alg.items;
+      signature_alg = v.signature_alg.items;
+      tail = v.tail.items;
+      signature = v.signature.items;
+    } };
 }
 
 impl Vouched {
@@ -160,8 +167,8 @@ fn fault_at(line: &Line<'_>) -> AnswersFault
     }
 }
 
-// What is wrong where memory was refused at the first of these lines: the first of them that states no question, or that
-// alone.
+// What is wrong where memory was refused at the first of these lines: the first of them that states no question, or
+// that alone.
 fn without_memory(lines: &Lines<'_>) -> AnswersFault
     ensures found { IsOk (asked_of_lines lines.now) → result ≡ record { rule = AnswersRule.OutOfMemory; line = 0 } }
     ensures refused { IsErr (asked_of_lines lines.now) → asked_of_lines lines.now ≡ Err result }

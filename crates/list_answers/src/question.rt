@@ -22,5 +22,11 @@ impl<'a> Model for Question<'a> {
 
     ghost Value = { Asked };
 
-    ghost view = { λ q. record { key = q.key.now; digest_alg = q.digest_alg.now; signature_alg = q.signature_alg.now; tail = q.tail.now; signature = q.signature.now } };
+    ghost view = { λ q. record {
+      key = q.key.now;
+      digest_alg = q.digest_alg.now;
+      signature_alg = q.signature_alg.now;
+      tail = q.tail.now;
+      signature = q.signature.now;
+    } };
 }

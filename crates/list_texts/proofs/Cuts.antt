@@ -1,5 +1,6 @@
 -- Where octets are cut at the first of a value.
-use Rattle.std.proofs.Common.{◌≡◌, ℕ, ◌+◌, ◌-◌, ◌<◌, ◌≤◌, Bool, true, false, List, [], ◌∷◌, length, take, drop, get_or, Option, Some, None, refl, sym}
+use Rattle.std.proofs.Common.{◌≡◌, ℕ, ◌+◌, ◌-◌, ◌<◌, ◌≤◌, Bool, true, false, List, [], ◌∷◌, length, take, drop, get_or}
+use Rattle.std.proofs.Common.{Option, Some, None, refl, sym}
 use Rattle.std.proofs.Common.{ap, ◌∙◌, arith, inl, inr}
 use Rattle.std.specs.Prelude.{◌==◌}
 use Rattle.std.specs.List.{slice_split, position, position_or_len}
@@ -14,12 +15,15 @@ none_passes : (p : ℕ → Bool) (xs : List ℕ) → length xs ≤ position_or_l
 none_passes p [] h = refl
 none_passes p (x ∷ xs) h = by_case (p x) refl (none_passes p xs)
   where
-    by_case : (b : Bool) → p x ≡ b → (length xs ≤ position_or_len p xs → slice_split p xs ≡ xs ∷ []) → slice_split p (x ∷ xs) ≡ (x ∷ xs) ∷ []
+    by_case : (b : Bool) → p x ≡ b → (length xs ≤ position_or_len p xs → slice_split p xs ≡ xs ∷ [])
+        → slice_split p (x ∷ xs) ≡ (x ∷ xs) ∷ []
     by_case true e others = absurd (let k = rw e at h in omega arith)
-    by_case false e others = let k = rw e at h in let o : slice_split p xs ≡ xs ∷ [] = others (omega arith) in rw (e, o) refl
+    by_case false e others =
+        let k = rw e at h in let o : slice_split p xs ≡ xs ∷ [] = others (omega arith) in rw (e, o) refl
 
 -- where the octet is nowhere, all stands before it
-pub uncut : (octets : List ℕ) (at : ℕ) (r : Option ℕ) → r ≡ position (λ b. b == at) octets → r ≡ None → parts at octets ≡ octets ∷ []
+pub uncut : (octets : List ℕ) (at : ℕ) (r : Option ℕ) → r ≡ position (λ b. b == at) octets → r ≡ None
+    → parts at octets ≡ octets ∷ []
 uncut octets at r e n = elim (cases_lt (position_or_len (λ b. b == at) octets) (length octets)) [
   | inl l ↦ absurd (let k : None ≡ Some (position_or_len (λ b. b == at) octets) = sym n
       ∙ e ∙ rw (lt-ltb (position_or_len (λ b. b == at) octets) (length octets) l) refl in cc)
@@ -28,22 +32,28 @@ uncut octets at r e n = elim (cases_lt (position_or_len (λ b. b == at) octets) 
 
 -- what stands before the place, and what stands behind it
 pub cut_there : (octets : List ℕ) (at i : ℕ) (r : Option ℕ) → r ≡ position (λ b. b == at) octets → r ≡ Some i
-    → (i < length octets) × (parts at octets ≡ take i octets ∷ parts at (take (length octets - (i + 1)) (drop (i + 1) octets)))
+    → (i < length octets)
+    × (parts at octets ≡ take i octets ∷ parts at (take (length octets - (i + 1)) (drop (i + 1) octets)))
 cut_there octets at i r e n = elim (cases_lt (position_or_len (λ b. b == at) octets) (length octets)) [
   | inl l ↦
-      let k : Some i ≡ Some (position_or_len (λ b. b == at) octets) = sym n ∙ e ∙ rw (lt-ltb (position_or_len (λ b. b == at) octets) (length octets) l) refl in
+      let k : Some i ≡ Some (position_or_len (λ b. b == at) octets) = sym n ∙ e
+      ∙ rw (lt-ltb (position_or_len (λ b. b == at) octets) (length octets) l) refl in
       let same : position_or_len (λ b. b == at) octets ≡ i = cc in (
         omega (arith, same, l),
-        slice_split_first (λ b. b == at) octets 0 l ∙ rw same (ap (λ x. take i octets ∷ parts at x) (sym (take_rest octets (i + 1)))),
+        slice_split_first (λ b. b == at) octets 0 l
+            ∙ rw same (ap (λ x. take i octets ∷ parts at x) (sym (take_rest octets (i + 1)))),
       )
-  | inr g ↦ absurd (let k : Some i ≡ None = sym n ∙ e ∙ rw (le-ltb (position_or_len (λ b. b == at) octets) (length octets) g) refl in cc)
+  | inr g ↦ absurd (let k : Some i ≡ None = sym n ∙ e
+      ∙ rw (le-ltb (position_or_len (λ b. b == at) octets) (length octets) g) refl in cc)
 ]
 
 -- where the first octet of a value is, by either word
-pub first_place : (octets : List ℕ) (at : ℕ) (r : Option ℕ) → IsFirstByte (is_byte at) octets r → r ≡ position (λ b. b == at) octets
+pub first_place : (octets : List ℕ) (at : ℕ) (r : Option ℕ) → IsFirstByte (is_byte at) octets r
+    → r ≡ position (λ b. b == at) octets
 first_place octets at None h =
     let n : position_or_len (λ b. b == at) octets ≡ length octets
-    = position_or_len_is (λ b. b == at) octets (length octets) 0 (omega arith) (λ k lt. false_from_ne_true (get_or octets k 0 == at) (h k (omega arith) lt))
+    = position_or_len_is (λ b. b == at) octets (length octets) 0 (omega arith)
+    (λ k lt. false_from_ne_true (get_or octets k 0 == at) (h k (omega arith) lt))
     (λ lt. absurd (omega arith)) in
     rw (n, le-ltb (length octets) (length octets) (omega arith)) refl
 first_place octets at (Some k) h =

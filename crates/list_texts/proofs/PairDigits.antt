@@ -6,7 +6,8 @@ use Rattle.hex.specs.Hex.{encode_lower, encode_with, lower_digits}
 use Rattle.list_texts.specs.declared.written.TheConstants.{PAIRS}
 
 abbrev right_at : ℕ → Bool
-right_at c = (slice_index PAIRS c / 256 == slice_index lower_digits (c / 16)) && (slice_index PAIRS c % 256 == slice_index lower_digits (c % 16))
+right_at c = (slice_index PAIRS c / 256 == slice_index lower_digits (c / 16))
+    && (slice_index PAIRS c % 256 == slice_index lower_digits (c % 16))
 
 abbrev right_below : ℕ → Bool
 right_below zero = true
@@ -21,10 +22,12 @@ right_there (suc n) c h lt =
       | inr top ↦ let e : c ≡ n = omega arith in rw e parts.0
     ]
 
-pub digits_there : (c : ℕ) → c < 256 → slice_index PAIRS c / 256 ∷ slice_index PAIRS c % 256 ∷ [] ≡ encode_lower (c ∷ [])
+pub digits_there : (c : ℕ) → c < 256
+    → slice_index PAIRS c / 256 ∷ slice_index PAIRS c % 256 ∷ [] ≡ encode_lower (c ∷ [])
 unfolding encode_with
 digits_there c lt =
-    let parts = and_parts (slice_index PAIRS c / 256 == slice_index lower_digits (c / 16)) (slice_index PAIRS c % 256 == slice_index lower_digits (c % 16))
+    let parts = and_parts (slice_index PAIRS c / 256 == slice_index lower_digits (c / 16))
+    (slice_index PAIRS c % 256 == slice_index lower_digits (c % 16))
     (right_there 256 c refl lt) in
     let first : slice_index PAIRS c / 256 ≡ slice_index lower_digits (c / 16) = eqb-true _ _ parts.0 in
     let second : slice_index PAIRS c % 256 ≡ slice_index lower_digits (c % 16) = eqb-true _ _ parts.1 in

@@ -19,11 +19,14 @@ no_digits = refl
 -- ---- octets as digits
 
 -- what is left begins with the digits of its first octet
-pub digits_are : (left : List ℕ) (b : ℕ) (bs two : List ℕ) → left ≡ b ∷ bs → two ≡ encode_lower (b ∷ []) → encode_lower left ≡ two ++ encode_lower bs
+pub digits_are : (left : List ℕ) (b : ℕ) (bs two : List ℕ) → left ≡ b ∷ bs → two ≡ encode_lower (b ∷ [])
+    → encode_lower left ≡ two ++ encode_lower bs
 digits_are left b bs two e p = ap encode_lower e ∙ digits_first b bs ∙ sym (ap (λ (x : List ℕ). x ++ encode_lower bs) p)
 
-pub digits_end : (u : Unit {0}) (tells : Type 0) (t : List ℕ) (c : ℕ) (left : List ℕ) → left ≡ [] → Wrote (Ok u) tells t t c c (encode_lower left)
-digits_end u tells t c left e = subst (λ (x : List ℕ). Wrote (Ok u) tells t t c c x) (sym (ap encode_lower e ∙ no_digits)) (wrote_none u tells t c)
+pub digits_end : (u : Unit {0}) (tells : Type 0) (t : List ℕ) (c : ℕ) (left : List ℕ) → left ≡ []
+    → Wrote (Ok u) tells t t c c (encode_lower left)
+digits_end u tells t c left e =
+    subst (λ (x : List ℕ). Wrote (Ok u) tells t t c c x) (sym (ap encode_lower e ∙ no_digits)) (wrote_none u tells t c)
 
 pub emptied : (xs : List ℕ) → length xs ≡ 0 → xs ≡ []
 emptied [] e = refl

@@ -9,5 +9,7 @@ unfolding certificate_of
 certificate_is bytes c h = rw (certificate_again bytes c h) refl
 
 -- so the octets of a certificate encode it
-pub certificate_encoded : (bytes : List ℕ) (c : CertificateValue) → EncodesCertificate bytes c → EncodesCertificate bytes (certificate_of bytes)
-certificate_encoded bytes c h = subst (λ (x : CertificateValue). EncodesCertificate bytes x) (sym (certificate_is bytes c h)) h
+pub certificate_encoded : (bytes : List ℕ) (c : CertificateValue) → EncodesCertificate bytes c
+    → EncodesCertificate bytes (certificate_of bytes)
+certificate_encoded bytes c h =
+    subst (λ (x : CertificateValue). EncodesCertificate bytes x) (sym (certificate_is bytes c h)) h

@@ -11,10 +11,12 @@ use Rattle.trust_lists.specs.Written.{role_word, IsMomentWord, IsEntryLine, Puts
 use Rattle.devices.proofs.Putting.{TwoPuts, FirstPut, wrote_next, wrote_part}
 
 abbrev pub four_words : (role from until octets : List ℕ) → List ℕ
-four_words role from until octets = (role ++ 32 ∷ []) ++ ((from ++ 32 ∷ []) ++ ((until ++ 32 ∷ []) ++ (encode_lower octets ++ 10 ∷ [])))
+four_words role from until octets =
+    (role ++ 32 ∷ []) ++ ((from ++ 32 ∷ []) ++ ((until ++ 32 ∷ []) ++ (encode_lower octets ++ 10 ∷ [])))
 
 abbrev pub entry_with : Role → (from until : Option ℕ) → List ℕ → EntryValue
-entry_with role from until octets = record { role = role; from = from; until = until; certificate = certificate_of octets }
+entry_with role from until octets =
+    record { role = role; from = from; until = until; certificate = certificate_of octets }
 
 -- the words of an entry: its role, its two moments and its octets, which are those of a certificate
 pub record AreWords (role : Role) (from until : Option ℕ) (octets r f u o : List ℕ) : Type 0 where
@@ -24,7 +26,8 @@ pub record AreWords (role : Role) (from until : Option ℕ) (octets r f u o : Li
   pub octets_are : o ≡ octets
   pub encoded : octets ≡ encoding (certificate_of octets)
 
-pub entry_line : (e : EntryValue) (role : Role) (from until : Option ℕ) (octets r f u o : List ℕ) → entry_with role from until octets ≡ e
+pub entry_line : (e : EntryValue) (role : Role) (from until : Option ℕ) (octets r f u o : List ℕ)
+    → entry_with role from until octets ≡ e
     → AreWords role from until octets r f u o → IsEntryLine e (four_words r f u o)
 entry_line e role from until octets r f u o view are =
     let here : IsEntryLine (entry_with role from until octets) (four_words r f u o) = record {
@@ -52,8 +55,10 @@ lines_next p left e es is put next = record {
 }
 
 -- a line was not put whole
-pub lines_part : (f : SinkFault) (tells : Type 0) (t0 t1 : List ℕ) (c0 c1 : ℕ) (left : List EntryValue) (e : EntryValue) (es : List EntryValue)
-    → left ≡ e ∷ es → (line : List ℕ) × IsEntryLine e line × Wrote (Err f) tells t0 t1 c0 c1 line → PutsLines left (Err f) tells t0 t1 c0 c1
+pub lines_part : (f : SinkFault) (tells : Type 0) (t0 t1 : List ℕ) (c0 c1 : ℕ) (left : List EntryValue) (e : EntryValue)
+    (es : List EntryValue)
+    → left ≡ e ∷ es → (line : List ℕ) × IsEntryLine e line × Wrote (Err f) tells t0 t1 c0 c1 line
+    → PutsLines left (Err f) tells t0 t1 c0 c1
 lines_part f tells t0 t1 c0 c1 left e es is put = record {
   first = e ∷ [];
   others = es;

@@ -22,22 +22,41 @@ trust_rows = record {
   alone = inr (rule.Line, refl, refl);
   second_in_first = inr (rule.Line, refl, refl);
   first_in_second = inr (rule.Line, refl, refl);
-  no_octets = inr (rule.Certificate, (record { role = Signer; from = None; until = None; octets = [] }, refl, refl, not_empty), refl);
+  no_octets = inr (
+    rule.Certificate,
+    (record { role = Signer; from = None; until = None; octets = [] }, refl, refl, not_empty),
+    refl,
+  );
   backwards = inr (
     rule.Period,
-    (record { role = Signer; from = Some (at_second 1704153600); until = Some (at_second 1704067200); octets = [] }, refl, refl),
+    (
+      record { role = Signer; from = Some (at_second 1704153600); until = Some (at_second 1704067200); octets = [] },
+      refl,
+      refl,
+    ),
     refl,
   );
   no_day = inr (rule.Line, refl, refl);
   open_entry = λ c h. inl (
     record { role = Tsa; from = None; until = None; certificate = c },
-    record { fields = record { role = Tsa; from = None; until = None; octets = 0x30 ∷ 0x2a ∷ [] }; says = refl; forwards = refl; encodes = h; is = refl },
+    record {
+      fields = record { role = Tsa; from = None; until = None; octets = 0x30 ∷ 0x2a ∷ [] };
+      says = refl;
+      forwards = refl;
+      encodes = h;
+      is = refl;
+    },
     (Ok [], refl, refl),
   );
   entry = λ c h. inl (
     record { role = Signer; from = Some (at_second 1705312800); until = Some (at_second 1705312800); certificate = c },
     record {
-      fields = record { role = Signer; from = Some (at_second 1705312800); until = Some (at_second 1705312800); octets = 0x30 ∷ 0x2a ∷ [] };
+      fields = record {
+        role = Signer;
+        from = Some (at_second 1705312800);
+        until = Some (at_second 1705312800);
+        octets = 0x30 ∷ 0x2a ∷ [];
+      };
       says = refl;
       forwards = refl;
       encodes = h;

@@ -1,5 +1,6 @@
 -- Words of which each octet is above the space, and the parts of lines that are made of them.
-use Rattle.std.proofs.Common.{◌≡◌, ℕ, suc, ◌+◌, ◌-◌, ◌/◌, ◌%◌, ◌<◌, true, cond, ◌||◌, List, [], ◌∷◌, ◌++◌, length, get_or, take, drop, Option, Some, None, refl}
+use Rattle.std.proofs.Common.{◌≡◌, ℕ, suc, ◌+◌, ◌-◌, ◌/◌, ◌%◌, ◌<◌, true, cond, ◌||◌, List, [], ◌∷◌, ◌++◌, length}
+use Rattle.std.proofs.Common.{get_or, take, drop, Option, Some, None, refl}
 use Rattle.std.proofs.Common.{sym, ap, subst, ◌∙◌, arith, inl, inr, codes}
 use Rattle.std.specs.Prelude.{◌==◌, slice_index}
 use Rattle.std.specs.List.{All}
@@ -11,7 +12,8 @@ use Rattle.hex.specs.Hex.{IsBytes, hex_digit_value, lower_digits, encode_with, e
 use Rattle.hex.proofs.HexLemmas.{IsDigits, IsDigits-lower_digits}
 use Rattle.der_core.specs.Lists.{is_same}
 use Rattle.der_core.specs.Times.{is_fraction, is_generalized}
-use Rattle.der_time.proofs.Texts.{IsFraction, fraction_parts, generalized_parts, digit_at, digit_from, every_at, same_from}
+use Rattle.der_time.proofs.Texts.{IsFraction, fraction_parts, generalized_parts, digit_at, digit_from, every_at}
+use Rattle.der_time.proofs.Texts.{same_from}
 use Rattle.trust_lists.specs.declared.role.Role.{Role}
 use Rattle.trust_lists.specs.declared.role.Role.TheVariants.{Signer, Tsa}
 use Rattle.list_texts.specs.Texts.{parts, trimmed}
@@ -43,8 +45,10 @@ fraction_visible r i f l =
         | inl e ↦ omega (arith, ap (λ (n : ℕ). get_or r n 0) e, f.point)
         | inr e ↦
             let at : 1 + (i - 1) ≡ i = omega arith in
-            let size : length (take (length r - 2) (drop 1 r)) ≡ length r - 2 = length-take (length r - 2) (drop 1 r) ∙ omega (arith, length-drop 1 r) in
-            let is : get_or (take (length r - 2) (drop 1 r)) (i - 1) 0 ≡ get_or r i 0 = get_or-take (length r - 2) (drop 1 r) (i - 1) 0 (omega arith)
+            let size : length (take (length r - 2) (drop 1 r)) ≡ length r - 2 = length-take (length r - 2) (drop 1 r)
+            ∙ omega (arith, length-drop 1 r) in
+            let is : get_or (take (length r - 2) (drop 1 r)) (i - 1) 0 ≡ get_or r i 0 =
+            get_or-take (length r - 2) (drop 1 r) (i - 1) 0 (omega arith)
             ∙ get_or-drop 1 r (i - 1) 0 ∙ ap (λ (n : ℕ). get_or r n 0) at in
             let d = digit_from (get_or (take (length r - 2) (drop 1 r)) (i - 1) 0)
             (every_at _ (take (length r - 2) (drop 1 r)) (i - 1) f.digits (omega arith)) in
@@ -70,7 +74,12 @@ time_visible w h = All-from_get_or (λ b. 32 < b) w 0 (λ i l.
       | inr behind ↦
           let at : 14 + (i - 14) ≡ i = omega arith in
           let inside : i - 14 < length (drop 14 w) = omega (arith, length-drop 14 w) in
-          omega (arith, tail_visible (drop 14 w) (i - 14) p.tail inside, get_or-drop 14 w (i - 14) 0, ap (λ (n : ℕ). get_or w n 0) at)
+          omega (
+            arith,
+            tail_visible (drop 14 w) (i - 14) p.tail inside,
+            get_or-drop 14 w (i - 14) 0,
+            ap (λ (n : ℕ). get_or w n 0) at,
+          )
     ])
 
 pub moment_visible : (m : Option ℕ) (w : List ℕ) → IsMomentWord m w → Visible w
@@ -88,8 +97,10 @@ digits_visible t ds (b ∷ rest) h =
     let fits : b < 256 = h 0 in
     let high : b / 16 < 16 = omega arith in
     let low : b % 16 < 16 = omega arith in
-    All-cons (λ b. 32 < b) (slice_index t (b / 16)) (slice_index t (b % 16) ∷ encode_with t rest) (digit_visible _ _ (ds (b / 16) high))
-    (All-cons (λ b. 32 < b) (slice_index t (b % 16)) (encode_with t rest) (digit_visible _ _ (ds (b % 16) low)) (digits_visible t ds rest (λ k. h (suc k))))
+    All-cons (λ b. 32 < b) (slice_index t (b / 16)) (slice_index t (b % 16) ∷ encode_with t rest)
+    (digit_visible _ _ (ds (b / 16) high))
+    (All-cons (λ b. 32 < b) (slice_index t (b % 16)) (encode_with t rest) (digit_visible _ _ (ds (b % 16) low))
+    (digits_visible t ds rest (λ k. h (suc k))))
 
 pub hex_visible : (xs : List ℕ) → IsBytes xs → Visible (encode_lower xs)
 hex_visible xs h = digits_visible lower_digits IsDigits-lower_digits xs h
@@ -117,13 +128,17 @@ untrimmed line h =
 abbrev pub words : (role from until digits : List ℕ) → List ℕ
 words role from until digits = role ++ 32 ∷ (from ++ 32 ∷ (until ++ 32 ∷ digits))
 
-pub words_printed : (role from until digits : List ℕ) → Visible role → Visible from → Visible until → Visible digits → Printed (words role from until digits)
+pub words_printed : (role from until digits : List ℕ) → Visible role → Visible from → Visible until → Visible digits
+    → Printed (words role from until digits)
 words_printed role from until digits r f u d =
     let p : ℕ → Type 0 = λ b. 31 < b in
-    let us : Printed (until ++ 32 ∷ digits) = All-append p until (32 ∷ digits) (printed until u) (All-cons p 32 digits (omega arith) (printed digits d)) in
-    let fs : Printed (from ++ 32 ∷ (until ++ 32 ∷ digits)) = All-append p from (32 ∷ (until ++ 32 ∷ digits)) (printed from f)
+    let us : Printed (until ++ 32 ∷ digits) =
+    All-append p until (32 ∷ digits) (printed until u) (All-cons p 32 digits (omega arith) (printed digits d)) in
+    let fs : Printed (from ++ 32 ∷ (until ++ 32 ∷ digits)) =
+    All-append p from (32 ∷ (until ++ 32 ∷ digits)) (printed from f)
     (All-cons p 32 (until ++ 32 ∷ digits) (omega arith) us) in
-    All-append p role (32 ∷ (from ++ 32 ∷ (until ++ 32 ∷ digits))) (printed role r) (All-cons p 32 (from ++ 32 ∷ (until ++ 32 ∷ digits)) (omega arith) fs)
+    All-append p role (32 ∷ (from ++ 32 ∷ (until ++ 32 ∷ digits))) (printed role r)
+    (All-cons p 32 (from ++ 32 ∷ (until ++ 32 ∷ digits)) (omega arith) fs)
 
 pub words_split : (role from until digits : List ℕ) → Visible role → Visible from → Visible until → Visible digits
     → parts 32 (words role from until digits) ≡ role ∷ from ∷ until ∷ digits ∷ []

@@ -1,5 +1,5 @@
--- Chains of numbers that may be the same. There are as many chains as numbers, and the remainder of a number by how many
--- there are says in which chain its place is.
+-- Chains of numbers that may be the same. There are as many chains as numbers, and the remainder of a number by how
+-- many there are says in which chain its place is.
 use Rattle.std.specs.Prelude.{◌≡◌, ℕ, ◌+◌, ◌%◌, ◌<◌, ◌≤◌, List, length, slice_index, Option, MatchOption}
 
 -- this holds of none of the places from the first to the one before the last
@@ -29,5 +29,6 @@ pub record AreHeads (numbers heads : List ℕ) (first : ℕ) : Type 0 where
 
 -- where the chain of each place goes on, of the places from this one on
 pub record AreLinks (numbers links : List ℕ) (first : ℕ) : Type 0 where
-  pub each : (i : ℕ) → first ≤ i → i < length numbers → IsLink numbers (chain_at numbers i) (i + 1) (slice_index links i)
+  pub each : (i : ℕ) → first ≤ i → i < length numbers
+      → IsLink numbers (chain_at numbers i) (i + 1) (slice_index links i)
   pub all : length links ≡ length numbers

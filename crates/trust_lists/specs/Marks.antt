@@ -1,4 +1,5 @@
--- The marks of entries: numbers by which an entry is passed over whose certificate cannot be the one that is looked for.
+-- The marks of entries: numbers by which an entry is passed over whose certificate cannot be the one that is looked
+-- for.
 use Rattle.std.specs.Prelude.{◌≡◌, ℕ, zero, suc, ◌+◌, ◌*◌, ◌/◌, ◌%◌, ◌^◌, ◌<◌, ◌≤◌, List, [], ◌∷◌, length, drop}
 use Rattle.std.specs.Prelude.{bit_xor, slice_index, Option, Some, MatchOption}
 use Rattle.std.specs.List.{fold, slice_get}

@@ -8,8 +8,8 @@ use std::marker::Model;
 /// Numbers in an order, each of which is found in a few steps.
 ///
 /// The places of the numbers with one remainder by how many there are make a chain: `heads` has the first place of each
-/// chain, and `links` for each place the next one of its chain. In the place of a place that isn't there stands how many
-/// there are.
+/// chain, and `links` for each place the next one of its chain. In the place of a place that isn't there stands how
+/// many there are.
 ///
 /// Contracts see the numbers.
 #[derive(Debug, Drop)]

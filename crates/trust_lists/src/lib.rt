@@ -1,5 +1,5 @@
-//! Trust lists: whom a user trusts. What a caller needs beside them, answers lists and verifiers, is of `list_answers`. The
-//! words that the contracts use are defined in `specs/`.
+//! Trust lists: whom a user trusts. What a caller needs beside them, answers lists and verifiers, is of `list_answers`.
+//! The words that the contracts use are defined in `specs/`.
 #![tactic(auto)]
 
 mod chains;

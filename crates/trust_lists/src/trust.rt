@@ -142,8 +142,8 @@ impl Trust {
         &self.entries
     }
 
-    /// The number of the next entry of this role, from this number on, whose certificate can have this issuer, as a whole
-    /// element, and this serial number. It need not have them; none of the entries that were passed over does.
+    /// The number of the next entry of this role, from this number on, whose certificate can have this issuer, as a
+    /// whole element, and this serial number. It need not have them; none of the entries that were passed over does.
     #[tactic(auto, using(crate::proofs::MarkedEntries::next_serial))]
     pub fn next_serial(
         &self,
@@ -152,16 +152,16 @@ impl Trust {
         serial: &[u8],
         from: usize,
     ) -> Option<usize>
-        // An entry is found, or none is left. None of those that were passed over has the role, the issuer and the serial
-        // number.
+        // An entry is found, or none is left. None of those that were passed over has the role, the issuer and the
+        // serial number.
         ensures { IsNext (HasSerial role issuer.now serial.now) self.now from result }
     {
         let mark = mark_of(mark_of(0, issuer), serial);
         next_marked(&self.entries, &self.serials, role, mark, from)
     }
 
-    /// The number of the next entry of this role, from this number on, whose certificate can have this key identifier. It
-    /// need not have it; none of the entries that were passed over does.
+    /// The number of the next entry of this role, from this number on, whose certificate can have this key identifier.
+    /// It need not have it; none of the entries that were passed over does.
     #[tactic(auto, using(crate::proofs::MarkedEntries::next_key_id))]
     pub fn next_key_id(&self, role: Role, id: &[u8], from: usize) -> Option<usize>
         // An entry is found, or none is left. None of those that were passed over has the role and the key identifier.

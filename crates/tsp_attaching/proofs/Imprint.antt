@@ -19,10 +19,12 @@ pub record IsNamedAlone (oid : List ℕ) (parameters : Option (List ℕ)) (alg :
   pub only : (a : Alg) → Names oid parameters a → Some alg ≡ Some a
 
 -- the same of octets that were read
-pub named_as : (oid oid' : List ℕ) (parameters parameters' : Option (List ℕ)) (alg : Alg) → oid ≡ oid' → parameters ≡ parameters'
+pub named_as : (oid oid' : List ℕ) (parameters parameters' : Option (List ℕ)) (alg : Alg) → oid ≡ oid'
+    → parameters ≡ parameters'
     → IsNamedAlone oid parameters alg → IsNamedAlone oid' parameters' alg
 named_as oid oid' parameters parameters' alg at_oid at_parameters h =
-    subst (λ (o : List ℕ). IsNamedAlone o parameters' alg) at_oid (subst (λ (q : Option (List ℕ)). IsNamedAlone oid q alg) at_parameters h)
+    subst (λ (o : List ℕ). IsNamedAlone o parameters' alg) at_oid
+    (subst (λ (q : Option (List ℕ)). IsNamedAlone oid q alg) at_parameters h)
 
 pub imprint_when : (imprint : ImprintValue) (stamped : List ℕ) (alg : Alg) (x d : List ℕ) (r : Bool)
     → IsNamedAlone imprint.algorithm.oid imprint.algorithm.parameters alg

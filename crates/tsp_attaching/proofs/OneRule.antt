@@ -37,7 +37,8 @@ record Stamped (bytes : List ℕ) (number : ℕ) (token : List ℕ) : Type 0 whe
   stamp : TstValue
   stamped : IsStamped bytes number token value signer stamp
 
-value_of : (bytes : List ℕ) (number : ℕ) (token : List ℕ) (g : AttachFault) → Refuses bytes number token g → 1 < rule_number g → Valued bytes
+value_of : (bytes : List ℕ) (number : ℕ) (token : List ℕ) (g : AttachFault) → Refuses bytes number token g
+    → 1 < rule_number g → Valued bytes
 value_of bytes number token (rule.Malformed f) r h = absurd (omega (arith, h))
 value_of bytes number token rule.NoSuchSigner r h = record { value = r.value; encodes = r.encodes }
 value_of bytes number token rule.TokenMalformed r h = record { value = r.value; encodes = r.has.encodes }
@@ -45,7 +46,8 @@ value_of bytes number token rule.ImprintDiffers r h = record { value = r.value; 
 value_of bytes number token rule.TooLong r h = record { value = r.value; encodes = r.stamped.has.encodes }
 value_of bytes number token rule.WriteFailed r h = absurd r
 
-signer_of : (bytes : List ℕ) (number : ℕ) (token : List ℕ) (g : AttachFault) → Refuses bytes number token g → 2 < rule_number g → Signed bytes number
+signer_of : (bytes : List ℕ) (number : ℕ) (token : List ℕ) (g : AttachFault) → Refuses bytes number token g
+    → 2 < rule_number g → Signed bytes number
 signer_of bytes number token (rule.Malformed f) r h = absurd (omega (arith, h))
 signer_of bytes number token rule.NoSuchSigner r h = absurd (omega (arith, h))
 signer_of bytes number token rule.TokenMalformed r h = record { value = r.value; signer = r.signer; has = r.has }
@@ -53,7 +55,8 @@ signer_of bytes number token rule.ImprintDiffers r h = record { value = r.value;
 signer_of bytes number token rule.TooLong r h = record { value = r.value; signer = r.signer; has = r.stamped.has }
 signer_of bytes number token rule.WriteFailed r h = absurd r
 
-stamp_of : (bytes : List ℕ) (number : ℕ) (token : List ℕ) (g : AttachFault) → Refuses bytes number token g → 3 < rule_number g → Stamping token
+stamp_of : (bytes : List ℕ) (number : ℕ) (token : List ℕ) (g : AttachFault) → Refuses bytes number token g
+    → 3 < rule_number g → Stamping token
 stamp_of bytes number token (rule.Malformed f) r h = absurd (omega (arith, h))
 stamp_of bytes number token rule.NoSuchSigner r h = absurd (omega (arith, h))
 stamp_of bytes number token rule.TokenMalformed r h = absurd (omega (arith, h))
@@ -61,15 +64,18 @@ stamp_of bytes number token rule.ImprintDiffers r h = record { stamp = r.stamp; 
 stamp_of bytes number token rule.TooLong r h = record { stamp = r.stamp; is_token = r.stamped.is_token }
 stamp_of bytes number token rule.WriteFailed r h = absurd r
 
-stamped_of : (bytes : List ℕ) (number : ℕ) (token : List ℕ) (g : AttachFault) → Refuses bytes number token g → 4 < rule_number g → Stamped bytes number token
+stamped_of : (bytes : List ℕ) (number : ℕ) (token : List ℕ) (g : AttachFault) → Refuses bytes number token g
+    → 4 < rule_number g → Stamped bytes number token
 stamped_of bytes number token (rule.Malformed f) r h = absurd (omega (arith, h))
 stamped_of bytes number token rule.NoSuchSigner r h = absurd (omega (arith, h))
 stamped_of bytes number token rule.TokenMalformed r h = absurd (omega (arith, h))
 stamped_of bytes number token rule.ImprintDiffers r h = absurd (omega (arith, h))
-stamped_of bytes number token rule.TooLong r h = record { value = r.value; signer = r.signer; stamp = r.stamp; stamped = r.stamped }
+stamped_of bytes number token rule.TooLong r h =
+    record { value = r.value; signer = r.signer; stamp = r.stamp; stamped = r.stamped }
 stamped_of bytes number token rule.WriteFailed r h = absurd r
 
-none_behind : (bytes : List ℕ) (number : ℕ) (token : List ℕ) (g : AttachFault) → Refuses bytes number token g → 5 < rule_number g → ⊥
+none_behind : (bytes : List ℕ) (number : ℕ) (token : List ℕ) (g : AttachFault) → Refuses bytes number token g
+    → 5 < rule_number g → ⊥
 none_behind bytes number token (rule.Malformed f) r h = omega (arith, h)
 none_behind bytes number token rule.NoSuchSigner r h = omega (arith, h)
 none_behind bytes number token rule.TokenMalformed r h = omega (arith, h)
@@ -79,26 +85,32 @@ none_behind bytes number token rule.WriteFailed r h = r
 
 -- ---- so no rule fails first behind one that does
 
-none_later : (bytes : List ℕ) (number : ℕ) (token : List ℕ) (f g : AttachFault) → Refuses bytes number token f → Refuses bytes number token g
+none_later : (bytes : List ℕ) (number : ℕ) (token : List ℕ) (f g : AttachFault) → Refuses bytes number token f
+    → Refuses bytes number token g
     → rule_number f < rule_number g → ⊥
 none_later bytes number token (rule.Malformed (cms.Malformed f)) g r q h =
     let o = value_of bytes number token g q h in refuted (file content_info) bytes f content_info_clear
     (content_encodes bytes (SignedContent o.value) o.encodes) r
 none_later bytes number token (rule.Malformed cms.NotSignedData) g r q h =
-    let o = value_of bytes number token g q h in never_other o.value r.0 r.1 (content_unique bytes (SignedContent o.value) (OtherContent r.0 r.1) o.encodes r.2)
+    let o = value_of bytes number token g q h in
+    never_other o.value r.0 r.1 (content_unique bytes (SignedContent o.value) (OtherContent r.0 r.1) o.encodes r.2)
 none_later bytes number token (rule.Malformed cms.OutOfMemory) g r q h = r
 none_later bytes number token rule.NoSuchSigner g r q h =
-    let o = signer_of bytes number token g q h in no_signer o.signer (sym o.has.signer ∙ of_value bytes number o.value r.value o.has.encodes r.encodes ∙ r.none)
-none_later bytes number token rule.TokenMalformed g r q h = let o = stamp_of bytes number token g q h in r.none o.stamp o.is_token
+    let o = signer_of bytes number token g q h in
+    no_signer o.signer (sym o.has.signer ∙ of_value bytes number o.value r.value o.has.encodes r.encodes ∙ r.none)
+none_later bytes number token rule.TokenMalformed g r q h =
+    let o = stamp_of bytes number token g q h in r.none o.stamp o.is_token
 none_later bytes number token rule.ImprintDiffers g r q h =
     let o = stamped_of bytes number token g q h in
     r.differs (subst (λ (s : SignerValue). IsImprintOf r.stamp.imprint s.signature)
     (same_signer bytes number o.value r.value o.signer r.signer o.stamped.has r.has)
-    (subst (λ (x : TstValue). IsImprintOf x.imprint o.signer.signature) (same_stamp token o.stamp r.stamp o.stamped.is_token r.is_token) o.stamped.imprint))
+    (subst (λ (x : TstValue). IsImprintOf x.imprint o.signer.signature)
+    (same_stamp token o.stamp r.stamp o.stamped.is_token r.is_token) o.stamped.imprint))
 none_later bytes number token rule.TooLong g r q h = none_behind bytes number token g q h
 none_later bytes number token rule.WriteFailed g r q h = r
 
-pub one_rule : (bytes : List ℕ) (number : ℕ) (token : List ℕ) (f g : AttachFault) → Refuses bytes number token f → Refuses bytes number token g
+pub one_rule : (bytes : List ℕ) (number : ℕ) (token : List ℕ) (f g : AttachFault) → Refuses bytes number token f
+    → Refuses bytes number token g
     → rule_number f ≡ rule_number g
 one_rule bytes number token f g r q = elim (cases_lt (rule_number f) (rule_number g)) [
   | inl a ↦ absurd (none_later bytes number token f g r q a)

@@ -26,4 +26,7 @@ size_rows = record {
 }
 
 pub limit_rows : LimitRows
-limit_rows = record { greatest = λ b e. omega (arith, e); past = λ b e h. absurd (let z : 2 ^ 32 < 2 ^ 32 = subst (λ (n : ℕ). n < 2 ^ 32) e h in omega arith) }
+limit_rows = record {
+  greatest = λ b e. omega (arith, e);
+  past = λ b e h. absurd (let z : 2 ^ 32 < 2 ^ 32 = subst (λ (n : ℕ). n < 2 ^ 32) e h in omega arith);
+}

@@ -1,5 +1,6 @@
 -- What is made is the encoding of a good request.
-use Rattle.std.proofs.Common.{◌≡◌, ℕ, ◌≤◌, Bool, true, List, [], ◌∷◌, ◌++◌, length, Option, Some, None, refl, ◌∙◌, arith, lit<}
+use Rattle.std.proofs.Common.{◌≡◌, ℕ, ◌≤◌, Bool, true, List, [], ◌∷◌, ◌++◌, length, Option, Some, None, refl, ◌∙◌}
+use Rattle.std.proofs.Common.{arith, lit<}
 use Rattle.std.specs.Prelude.{IfSome}
 use Rattle.der_core.specs.Contents.{is_oid, is_integer}
 use Rattle.der_core.specs.Element.{len}
@@ -23,7 +24,8 @@ unfolding len
 null_opaque = (5, [], record { identifier = refl; size = lit< tt }, refl)
 
 algorithm_good : (a : Alg) → GoodAlgorithm (algorithm_asked a)
-algorithm_good a = record { oid = identifier_good a; parameters = null_opaque; size = omega (arith, algorithm_parts_most a) }
+algorithm_good a =
+    record { oid = identifier_good a; parameters = null_opaque; size = omega (arith, algorithm_parts_most a) }
 
 imprint_good : (d : Digest) → length (octets_of d) ≡ length_of (alg_of d) → GoodImprint (imprint_asked d)
 imprint_good d count = record {
@@ -36,20 +38,24 @@ policy_good : (o : Option (List ℕ)) → IfSome o (λ b. is_oid b ≡ true) →
 policy_good None h k = tt
 policy_good (Some b) h k = (h, k)
 
-nonce_good : (o : Option (List ℕ)) → IfSome o (λ b. is_integer b ≡ true) → IfSome o (λ b. HasLength b) → IfSome o IsInteger
+nonce_good : (o : Option (List ℕ)) → IfSome o (λ b. is_integer b ≡ true) → IfSome o (λ b. HasLength b)
+    → IfSome o IsInteger
 nonce_good None h k = tt
 nonce_good (Some b) h k = (h, k)
 
--- the policy and the nonce that are asked for, if any, are an OBJECT IDENTIFIER and an INTEGER, each of a length that can be stated
+-- the policy and the nonce that are asked for, if any, are an OBJECT IDENTIFIER and an INTEGER, each of a length that
+-- can be stated
 pub record AreGood (p n : Option (List ℕ)) : Type 0 where
   pub policy : IfSome p (λ b. is_oid b ≡ true)
   pub policy_fits : IfSome p (λ b. HasLength b)
   pub nonce : IfSome n (λ b. is_integer b ≡ true)
   pub nonce_fits : IfSome n (λ b. HasLength b)
 
-pub request_made : (d : Digest) (p n : Option (List ℕ)) (c : Bool) (items : List ℕ) → length (octets_of d) ≡ length_of (alg_of d)
+pub request_made : (d : Digest) (p n : Option (List ℕ)) (c : Bool) (items : List ℕ)
+    → length (octets_of d) ≡ length_of (alg_of d)
     → length (request_parts (asked d p n c)) ≤ 4294967295
-    → items ≡ (48 ∷ len (length (request_parts (asked d p n c)))) ++ request_parts (asked d p n c) → AreGood p n → EncodesRequest items (asked d p n c)
+    → items ≡ (48 ∷ len (length (request_parts (asked d p n c)))) ++ request_parts (asked d p n c) → AreGood p n
+    → EncodesRequest items (asked d p n c)
 request_made d p n c items count fits items-is good = (
   items-is ∙ refl,
   record {

@@ -16,7 +16,11 @@ use Rattle.tsp_types.proofs.ResponseReaders.{response_encodes}
 
 good_sha256 : GoodAlgorithm (with_null sha256)
 unfolding len
-good_sha256 = record { oid = (refl, lit< tt); parameters = (5, [], record { identifier = refl; size = lit< tt }, refl); size = lit< tt }
+good_sha256 = record {
+  oid = (refl, lit< tt);
+  parameters = (5, [], record { identifier = refl; size = lit< tt }, refl);
+  size = lit< tt;
+}
 
 good_abc : GoodImprint abc_by_sha256
 unfolding len
@@ -32,7 +36,8 @@ tst_rows = record {
       imprint = good_abc;
       serial = (refl, lit< tt);
       time = (refl, lit< tt);
-      accuracy = record { seconds = (refl, lit< tt); millis = (refl, lit< tt); micros = (refl, lit< tt); size = lit< tt };
+      accuracy =
+          record { seconds = (refl, lit< tt); millis = (refl, lit< tt); micros = (refl, lit< tt); size = lit< tt };
       nonce = tt;
       tsa = ((164, drop 2 name_of_authority, record { identifier = refl; size = lit< tt }, refl), lit< tt);
       extensions = tt;
@@ -44,7 +49,11 @@ tst_rows = record {
     record {
       policy = (refl, lit< tt);
       imprint = record {
-        algorithm = record { oid = (refl, lit< tt); parameters = (5, [], record { identifier = refl; size = lit< tt }, refl); size = lit< tt };
+        algorithm = record {
+          oid = (refl, lit< tt);
+          parameters = (5, [], record { identifier = refl; size = lit< tt }, refl);
+          size = lit< tt;
+        };
         digest = lit< tt;
         size = lit< tt;
       };
@@ -62,7 +71,11 @@ tst_rows = record {
     record {
       policy = (refl, lit< tt);
       imprint = record {
-        algorithm = record { oid = (refl, lit< tt); parameters = (5, [], record { identifier = refl; size = lit< tt }, refl); size = lit< tt };
+        algorithm = record {
+          oid = (refl, lit< tt);
+          parameters = (5, [], record { identifier = refl; size = lit< tt }, refl);
+          size = lit< tt;
+        };
         digest = lit< tt;
         size = lit< tt;
       };
@@ -133,12 +146,27 @@ tst_rows = record {
 pub response_rows : ResponseRows
 unfolding len
 response_rows = record {
-  least = (refl, record { status = record { number = (refl, lit< tt); texts = tt; fail = tt; size = lit< tt }; token = tt; size = lit< tt });
-  rejected = (refl, record { status = record { number = (refl, lit< tt); texts = tt; fail = (refl, lit< tt); size = lit< tt }; token = tt; size = lit< tt });
+  least = (
+    refl,
+    record {
+      status = record { number = (refl, lit< tt); texts = tt; fail = tt; size = lit< tt };
+      token = tt;
+      size = lit< tt;
+    },
+  );
+  rejected = (
+    refl,
+    record {
+      status = record { number = (refl, lit< tt); texts = tt; fail = (refl, lit< tt); size = lit< tt };
+      token = tt;
+      size = lit< tt;
+    },
+  );
   bad_algorithm = (
     refl,
     record {
-      status = record { number = (refl, lit< tt); texts = ((lit< tt, tt), lit< tt); fail = (refl, lit< tt); size = lit< tt };
+      status =
+          record { number = (refl, lit< tt); texts = ((lit< tt, tt), lit< tt); fail = (refl, lit< tt); size = lit< tt };
       token = tt;
       size = lit< tt;
     },
@@ -146,7 +174,8 @@ response_rows = record {
   unaccepted_policy = (
     refl,
     record {
-      status = record { number = (refl, lit< tt); texts = ((lit< tt, tt), lit< tt); fail = (refl, lit< tt); size = lit< tt };
+      status =
+          record { number = (refl, lit< tt); texts = ((lit< tt, tt), lit< tt); fail = (refl, lit< tt); size = lit< tt };
       token = tt;
       size = lit< tt;
     },
@@ -162,12 +191,24 @@ response_rows = record {
   every_part = (
     refl,
     record {
-      status = record { number = (refl, lit< tt); texts = ((lit< tt, (lit< tt, tt)), lit< tt); fail = (refl, lit< tt); size = lit< tt };
+      status = record {
+        number = (refl, lit< tt);
+        texts = ((lit< tt, (lit< tt, tt)), lit< tt);
+        fail = (refl, lit< tt);
+        size = lit< tt;
+      };
       token = ([], record { identifier = refl; size = lit< tt }, refl);
       size = lit< tt;
     },
   );
-  no_text = (refl, record { status = record { number = (refl, lit< tt); texts = (tt, lit< tt); fail = tt; size = lit< tt }; token = tt; size = lit< tt });
+  no_text = (
+    refl,
+    record {
+      status = record { number = (refl, lit< tt); texts = (tt, lit< tt); fail = tt; size = lit< tt };
+      token = tt;
+      size = lit< tt;
+    },
+  );
   no_status = λ v h. not_encoded (file response) _ (fault kind.Integer 6) refl refl (response_encodes _ v h);
   other_text = λ v h. not_encoded (file response) _ (fault kind.Tag 9) refl refl (response_encodes _ v h);
   early_bits = λ v h. not_encoded (file response) _ (fault kind.Trailing 11) refl refl (response_encodes _ v h);

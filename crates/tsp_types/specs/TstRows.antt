@@ -14,7 +14,8 @@ abc_by_sha256 = record { algorithm = with_null sha256; digest = digest_of_abc }
 abbrev pub abc_by_sha512 : ImprintValue
 abc_by_sha512 = record {
   algorithm = with_null sha512;
-  digest = hex "ddaf35a193617abacc417349ae20413112e6fa4e89a97ea20a9eeee64b55d39a 2192992a274fc1a836ba3c23a3feebbd454d4423643ce80e2a9ac94fa54ca49f";
+  digest =
+      hex "ddaf35a193617abacc417349ae20413112e6fa4e89a97ea20a9eeee64b55d39a 2192992a274fc1a836ba3c23a3feebbd454d4423643ce80e2a9ac94fa54ca49f";
 }
 
 -- the policies 2.999.3 and 2.999.4
@@ -70,7 +71,8 @@ pub record TstRows : Type 0 where
       })
   -- OpenSSL's: SHA-1 without parameters, thousandths alone, a nonce whose contents begin with 00
   pub thousandths : EncodesTst
-      (hex "304f 0201 01 0603 883703 3021 3009 0605 2b0e03021a 0500 0414 a9993e364706816aba3e25717850c26c9cd0d89d 0201 0d 180f" ++ codes "20261123001628Z"
+      (hex "304f 0201 01 0603 883703 3021 3009 0605 2b0e03021a 0500 0414 a9993e364706816aba3e25717850c26c9cd0d89d 0201 0d 180f"
+      ++ codes "20261123001628Z"
       ++ hex "3003 8001 05 0209 00f01b1a919ff67921")
       (record {
         policy = policy_3;

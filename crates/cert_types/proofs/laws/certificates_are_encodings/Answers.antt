@@ -8,6 +8,7 @@ use Rattle.cert_types.proofs.laws.certificates_are_encodings.Goals as goal
 pub returns : goal.returns
 returns c = record {
   encodings = certificate_encodes;
-  no_faults = λ bytes v h f x. openly_refuted (file certificate) bytes f certificate_clear (certificate_encodes bytes v h) x;
+  no_faults =
+      λ bytes v h f x. openly_refuted (file certificate) bytes f certificate_clear (certificate_encodes bytes v h) x;
   unique = certificate_unique;
 }

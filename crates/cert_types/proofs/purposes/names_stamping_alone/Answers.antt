@@ -10,5 +10,6 @@ pub returns : goal.returns
 unfolding len
 returns c = (
   λ yes. same_is c.args.octets.now (el 0x30 (el 0x06 id_time_stamping)) (sym c.is_same.ensures ∙ yes),
-  λ same. c.is_same.ensures ∙ ap (λ o. is_same o (el 0x30 (el 0x06 id_time_stamping))) same ∙ same_again (el 0x30 (el 0x06 id_time_stamping)),
+  λ same. c.is_same.ensures ∙ ap (λ o. is_same o (el 0x30 (el 0x06 id_time_stamping))) same
+      ∙ same_again (el 0x30 (el 0x06 id_time_stamping)),
 )

@@ -5,7 +5,8 @@ use Rattle.cert_types.proofs.purposes.octet_string.Goals as goal
 
 pub returns-in_default-clause-only : goal.returns-in_default-clause-only
 returns-in_default-clause-only c k good e =
-    let w = c.in_default.ensures.only k [] good (ap (λ s. s.rest) c.new-input.ensures ∙ e ∙ sym (append-nil (el 0x04 k))) in
+    let w =
+    c.in_default.ensures.only k [] good (ap (λ s. s.rest) c.new-input.ensures ∙ e ∙ sym (append-nil (el 0x04 k))) in
     let impossible = w.1 in absurd cc
 
 pub returns-else-is_empty-clause-only : goal.returns-else-is_empty-clause-only

@@ -9,7 +9,8 @@ abbrev value_of : Option AttributeValue → Option (List ℕ)
 value_of o = option_and_then (λ a. only a.values) o
 
 pub returns-in_err-value : goal.returns-in_err-value
-returns-in_err-value c = rw (none_occurs c.args.attributes.now c.args.id.now c.in_err-value.ensures) c.from_residual.ensures
+returns-in_err-value c =
+    rw (none_occurs c.args.attributes.now c.args.id.now c.in_err-value.ensures) c.from_residual.ensures
 
 pub returns-then-has : goal.returns-then-has
 returns-then-has c =

@@ -10,7 +10,8 @@ abbrev pub invariant-loop-algorithm : goal.invariant-loop-algorithm
 invariant-loop-algorithm l = record {
   only : (alg : Alg) → is_in alg l.wanted ≡ true → WantedBy l.fn.policy l.fn.signers alg;
   left : (alg : Alg) → WantedBy l.fn.policy l.left alg → WantedBy l.fn.policy l.fn.signers alg;
-  found : (alg : Alg) → WantedBy l.fn.policy l.fn.signers alg → (is_in alg l.wanted ≡ true) ⊎ WantedBy l.fn.policy l.left alg;
+  found : (alg : Alg) → WantedBy l.fn.policy l.fn.signers alg
+      → (is_in alg l.wanted ≡ true) ⊎ WantedBy l.fn.policy l.left alg;
 }
 
 abbrev pub decreases-loop-algorithm : goal.decreases-loop-algorithm

@@ -9,7 +9,8 @@ returns-in-Ok g c =
     let v = c.args.signed.now in
     let s = c.in-Some-content.source in
     let s' = c.digests_from.new.source in
-    handed_in (facts_of g.S.Source.tells g.S.Source.rest g.S.Source.failures) (Hashes c.args.wanted) v c.args.content.now s s'
+    handed_in (facts_of g.S.Source.tells g.S.Source.rest g.S.Source.failures)
+    (Hashes c.args.wanted) v c.args.content.now s s'
     (Ok c.in-Ok.digests) c.in-Some-content.is
     (subst (λ (b : Bool). placed v v.encapsulated.content b ≡ Ok v) c.is_some.ensures c.in_ok-place.ensures)
     (source_hashed c.args.wanted v (g.S.Source.tells s) (g.S.Source.rest s) (g.S.Source.rest s') (g.S.Source.failures s)
@@ -20,8 +21,10 @@ returns-in-Err g c =
     let v = c.args.signed.now in
     let s = c.in-Some-content.source in
     let s' = c.digests_from.new.source in
-    handed_in (facts_of g.S.Source.tells g.S.Source.rest g.S.Source.failures) (Hashes c.args.wanted) v c.args.content.now s s'
+    handed_in (facts_of g.S.Source.tells g.S.Source.rest g.S.Source.failures)
+    (Hashes c.args.wanted) v c.args.content.now s s'
     (Err (refused.Device c.in-Err.fault)) c.in-Some-content.is
     (subst (λ (b : Bool). placed v v.encapsulated.content b ≡ Ok v) c.is_some.ensures c.in_ok-place.ensures)
-    (source_fails (λ content. Hashes c.args.wanted content v) c.args.wanted (g.S.Source.tells s) (g.S.Source.rest s) (g.S.Source.rest s')
+    (source_fails (λ content. Hashes c.args.wanted content v) c.args.wanted (g.S.Source.tells s) (g.S.Source.rest s)
+    (g.S.Source.rest s')
     (g.S.Source.failures s) (g.S.Source.failures s') c.in-Err.fault c.in-Err.ensures)

@@ -4,5 +4,6 @@ use Rattle.cms_stream.proofs.version.version_ahead.Goals as goal
 
 pub returns : goal.returns
 returns c =
-    subst (λ (xs : List ℕ). Gives (λ (v : ℕ). v ∷ []) c.version_of.result (version_in c.args.allowed.now (spot c.args.at xs))) c.front-known.ensures
+    subst (λ (xs : List ℕ). Gives (λ (v : ℕ). v ∷ []) c.version_of.result
+    (version_in c.args.allowed.now (spot c.args.at xs))) c.front-known.ensures
     c.version_of.ensures

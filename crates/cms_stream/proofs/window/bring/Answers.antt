@@ -10,7 +10,8 @@ returns g c = record {
   bound = first_of (search rules, grind (arith, common_steps));
   count = first_of (search rules, grind (arith, common_steps));
   telling = first_of (search rules, grind (arith, common_steps));
-  same = λ t. brought c.args.len (length c.args.octets.now - c.args.len) c.in_ok-count.count _ c.args.octets.now c.fill.new.buf _ _ c.requires
+  same = λ t. brought c.args.len
+      (length c.args.octets.now - c.args.len) c.in_ok-count.count _ c.args.octets.now c.fill.new.buf _ _ c.requires
       c.in_ok-count.ensures.bound (c.in_ok-count.ensures.handed t);
   end = first_of (search rules, grind (arith, common_steps));
 }

@@ -15,13 +15,21 @@ returns-then-is_less-clause-fault c =
     let p = c.loop-cursor.invariant.passed in
     let x = c.in_ok-element.element in
     let less : is_less x.whole.now c.loop-cursor.last.now ≡ true = sym c.if-is_less.ensures in
-    let early : is_less (el x.tag x.body.now) (last_of p.0) ≡ true = subst (λ (v : List ℕ). is_less (el x.tag x.body.now) v ≡ true) (sym p.4)
+    let early : is_less (el x.tag x.body.now) (last_of p.0) ≡ true =
+    subst (λ (v : List ℕ). is_less (el x.tag x.body.now) v ≡ true) (sym p.4)
     (subst (λ (v : List ℕ). is_less v c.loop-cursor.last.now ≡ true) taken.whole less) in (
       p.0,
       c.loop-cursor.cursor.rest,
       p.1,
       p.2,
-      inl ((x.tag, x.body.now), c.next.new.self.rest, taken.element, taken.parts, early, c.new.ensures ∙ ap (fault Order) (c.position-at.ensures ∙ p.3)),
+      inl (
+        (x.tag, x.body.now),
+        c.next.new.self.rest,
+        taken.element,
+        taken.parts,
+        early,
+        c.new.ensures ∙ ap (fault Order) (c.position-at.ensures ∙ p.3),
+      ),
     )
 
 pub loop-cursor-preserved : goal.loop-cursor-preserved
@@ -30,9 +38,11 @@ loop-cursor-preserved c =
     let x = c.in_ok-element.element in
     let some : eqb (length c.loop-cursor.cursor.rest) 0 ≡ false = cc in
     record {
-      passed = passes c.args.body.now c.loop-cursor.cursor c.next.new.self c.loop-cursor.last.now (seen x) c.loop-cursor.invariant.passed taken
+      passed = passes c.args.body.now c.loop-cursor.cursor c.next.new.self c.loop-cursor.last.now
+          (seen x) c.loop-cursor.invariant.passed taken
           (sym c.if-is_less.ensures);
-      follows = λ o. goes_on c.loop-cursor.last.now c.loop-cursor.cursor.rest x.tag x.body.now x.whole.now c.next.new.self.rest
+      follows = λ o.
+          goes_on c.loop-cursor.last.now c.loop-cursor.cursor.rest x.tag x.body.now x.whole.now c.next.new.self.rest
           (c.loop-cursor.invariant.follows o) (λ nil. eqb-false _ _ some (ap length nil)) taken.whole
           (λ t b r h is. (c.in_ok-element.ensures.only t b r h is).0);
     }

@@ -1,6 +1,8 @@
 use Rattle.der_grammar_rows.proofs.laws.profile_rows_hold.Goals as goal
-use Rattle.der_grammar_rows.proofs.Rows.{size_rows, header_fault_rows, part_fault_rows, contents_fault_rows, missing_part_rows, inner_part_rows}
-use Rattle.der_grammar_rows.proofs.Rows.{second_part_rows, last_part_rows, stamp_encoding_rows, certificate_encoding_rows, signed_encoding_rows}
+use Rattle.der_grammar_rows.proofs.Rows.{size_rows, header_fault_rows, part_fault_rows, contents_fault_rows}
+use Rattle.der_grammar_rows.proofs.Rows.{missing_part_rows, inner_part_rows}
+use Rattle.der_grammar_rows.proofs.Rows.{second_part_rows, last_part_rows, stamp_encoding_rows}
+use Rattle.der_grammar_rows.proofs.Rows.{certificate_encoding_rows, signed_encoding_rows}
 use Rattle.der_grammar_rows.proofs.Rows.{no_encoding_rows, open_rows}
 use Rattle.der_grammar_rows.proofs.RowsRefuted.{no_fault_rows}
 

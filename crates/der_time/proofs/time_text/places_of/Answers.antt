@@ -5,7 +5,8 @@ use Rattle.der_time.proofs.time_text.places_of.Goals as goal
 pub returns : goal.returns
 unfolding places
 returns c =
-    let last : c.args.nanos % 100000000 % 10000000 % 1000000 % 100000 % 10000 % 1000 % 100 % 10 / 1 ≡ c.args.nanos % 100000000 % 10000000 % 1000000
+    let last : c.args.nanos % 100000000 % 10000000 % 1000000 % 100000 % 10000 % 1000 % 100 % 10 / 1
+    ≡ c.args.nanos % 100000000 % 10000000 % 1000000
     % 100000 % 10000 % 1000 % 100 % 10 = omega arith in
     rw (
       c.digit.ensures,

@@ -8,13 +8,15 @@ use Rattle.der_time.proofs.utc.read_utc.Goals as goal
 pub day_number-days-requires-clause-day : goal.day_number-days-requires-clause-day
 day_number-days-requires-clause-day c =
     let text : is_utc c.args.body.now ≡ true = sym c.is_utc.ensures ∙ c.if-not-is_utc.false in
-    rw (c.full_year.ensures, c.pair.ensures.pair, c.pair-2.ensures.pair, c.pair-3.ensures.pair) (utc_parts c.args.body.now text).day
+    rw (c.full_year.ensures, c.pair.ensures.pair, c.pair-2.ensures.pair, c.pair-3.ensures.pair)
+    (utc_parts c.args.body.now text).day
 
 pub at-requires-clause-days : goal.at-requires-clause-days
 at-requires-clause-days c =
     let text : is_utc c.args.body.now ≡ true = sym c.is_utc.ensures ∙ c.if-not-is_utc.false in
     rw (c.day_number-days.ensures) (day_below c.full_year.result c.pair-2.result c.pair-3.result (search rules)
-    (rw (c.full_year.ensures, c.pair.ensures.pair, c.pair-2.ensures.pair, c.pair-3.ensures.pair) (utc_parts c.args.body.now text).day))
+    (rw (c.full_year.ensures, c.pair.ensures.pair, c.pair-2.ensures.pair, c.pair-3.ensures.pair)
+    (utc_parts c.args.body.now text).day))
 
 pub at-requires-clause-clock : goal.at-requires-clause-clock
 at-requires-clause-clock c =

@@ -8,6 +8,7 @@ use Rattle.ess_types.proofs.laws.signing_certificates_are_encodings.Goals as goa
 pub returns : goal.returns
 returns c = record {
   encodings = plain_encodes;
-  no_faults = λ bytes v h f x. openly_refuted (file signing_certificate) bytes f signing_certificate_clear (plain_encodes bytes v h) x;
+  no_faults = λ bytes v h f x.
+      openly_refuted (file signing_certificate) bytes f signing_certificate_clear (plain_encodes bytes v h) x;
   unique = plain_unique;
 }

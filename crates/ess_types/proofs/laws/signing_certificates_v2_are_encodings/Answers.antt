@@ -8,6 +8,7 @@ use Rattle.ess_types.proofs.laws.signing_certificates_v2_are_encodings.Goals as 
 pub returns : goal.returns
 returns c = record {
   encodings = signing_encodes;
-  no_faults = λ bytes v h f x. openly_refuted (file signing_certificate_v2) bytes f signing_certificate_v2_clear (signing_encodes bytes v h) x;
+  no_faults = λ bytes v h f x.
+      openly_refuted (file signing_certificate_v2) bytes f signing_certificate_v2_clear (signing_encodes bytes v h) x;
   unique = signing_unique;
 }

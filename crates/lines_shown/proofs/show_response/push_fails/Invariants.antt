@@ -7,7 +7,8 @@ use Rattle.lines_shown.proofs.show_response.push_fails.Given as goal
 abbrev pub invariant-loop-bit : goal.invariant-loop-bit
 invariant-loop-bit l = record {
   within : l.bit ≤ l.total;
-  lines : string_bytes l.text ++ fail_lines l.fn.bits l.bit (l.total - l.bit) ≡ string_bytes l.fn.text ++ fail_lines l.fn.bits 0 l.total;
+  lines : string_bytes l.text ++ fail_lines l.fn.bits l.bit (l.total - l.bit)
+      ≡ string_bytes l.fn.text ++ fail_lines l.fn.bits 0 l.total;
 }
 
 abbrev pub decreases-loop-bit : goal.decreases-loop-bit

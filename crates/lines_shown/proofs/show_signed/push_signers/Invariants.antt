@@ -7,7 +7,8 @@ use Rattle.lines_shown.proofs.show_signed.push_signers.Given as goal
 abbrev pub invariant-loop-signer : goal.invariant-loop-signer
 invariant-loop-signer l = record {
   counted : l.number + length l.left ≡ l.total;
-  lines : string_bytes l.text ++ signers_lines (l.number + 1) l.left ≡ string_bytes l.fn.text ++ signers_lines 1 l.fn.signers;
+  lines : string_bytes l.text ++ signers_lines (l.number + 1) l.left
+      ≡ string_bytes l.fn.text ++ signers_lines 1 l.fn.signers;
 }
 
 abbrev pub decreases-loop-signer : goal.decreases-loop-signer

@@ -11,7 +11,8 @@ loop-done-preserved c =
       within = omega arith;
       room = omega arith;
       so_far = omega arith;
-      decoded = sixteen_more c.args.text.now c.loop-done.octets.items c.push_sixteen.new.octets.items c.in-Some.more c.loop-done.done (omega arith)
+      decoded = sixteen_more c.args.text.now c.loop-done.octets.items c.push_sixteen.new.octets.items c.in-Some.more
+          c.loop-done.done (omega arith)
           c.in-Some.ensures c.push_sixteen.ensures.items c.loop-done.invariant.decoded;
     }
 
@@ -22,7 +23,8 @@ pub overflow_add-octet : goal.overflow_add-octet
 overflow_add-octet c = omega (arith, c.value_of.ensures, c.value_of-in-loop-i.ensures, value_small)
 
 pub returns-then-octet-gt255 : goal.returns-then-octet-gt255
-returns-then-octet-gt255 c = stopped c.args.text.now c.loop-i.octets.items c.loop-i.i c.value_of.result c.value_of-in-loop-i.result (omega arith)
+returns-then-octet-gt255 c =
+    stopped c.args.text.now c.loop-i.octets.items c.loop-i.i c.value_of.result c.value_of-in-loop-i.result (omega arith)
     c.value_of.ensures c.value_of-in-loop-i.ensures (omega arith) (omega arith) c.loop-i.invariant.decoded
 
 pub loop-i-preserved : goal.loop-i-preserved
@@ -33,9 +35,11 @@ loop-i-preserved c =
       room = omega arith;
       so_far = omega arith;
       decoded = one_more c.args.text.now c.loop-i.octets.items c.push_reserved.new.self.items c.loop-i.i
-          (c.value_of.result * 16 + c.value_of-in-loop-i.result) (omega arith) (omega (arith, c.value_of.ensures, c.value_of-in-loop-i.ensures)) (omega arith)
+          (c.value_of.result * 16 + c.value_of-in-loop-i.result) (omega arith)
+          (omega (arith, c.value_of.ensures, c.value_of-in-loop-i.ensures)) (omega arith)
           c.push_reserved.ensures.items c.loop-i.invariant.decoded;
     }
 
 pub returns : goal.returns
-returns c = finished c.args.text.now c.loop-i.octets.items c.loop-i.i (omega arith) (omega arith) c.loop-i.invariant.decoded
+returns c =
+    finished c.args.text.now c.loop-i.octets.items c.loop-i.i (omega arith) (omega arith) c.loop-i.invariant.decoded

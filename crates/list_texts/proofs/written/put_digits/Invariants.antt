@@ -9,7 +9,8 @@ abbrev pub invariant-loop-first : goal.invariant-loop-first
 invariant-loop-first g l = record {
   goes : (r : Result (Unit {0}) SinkFault) (t : List ℕ) (c : ℕ)
       → Wrote r (g.S.Sink.tells l.sink) (g.S.Sink.taken l.sink) t (g.S.Sink.failures l.sink) c (encode_lower l.left)
-      → Wrote r (g.S.Sink.tells l.fn.sink) (g.S.Sink.taken l.fn.sink) t (g.S.Sink.failures l.fn.sink) c (encode_lower l.octets);
+      → Wrote r (g.S.Sink.tells l.fn.sink) (g.S.Sink.taken l.fn.sink) t (g.S.Sink.failures l.fn.sink) c
+      (encode_lower l.octets);
   telling : g.S.Sink.tells l.fn.sink → g.S.Sink.tells l.sink;
 }
 

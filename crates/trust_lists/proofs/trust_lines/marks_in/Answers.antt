@@ -7,5 +7,6 @@ use Rattle.trust_lists.proofs.trust_lines.marks_in.Goals as goal
 pub returns-in-Ok-clause-encoded : goal.returns-in-Ok-clause-encoded
 returns-in-Ok-clause-encoded c = (
   certificate_encoded c.args.octets.now _ c.in-Ok.ensures.found,
-  subst (λ (x : CertificateValue). AreMarks x c.marks_of.result) (sym (certificate_is c.args.octets.now _ c.in-Ok.ensures.found)) c.marks_of.ensures,
+  subst (λ (x : CertificateValue). AreMarks x c.marks_of.result)
+      (sym (certificate_is c.args.octets.now _ c.in-Ok.ensures.found)) c.marks_of.ensures,
 )

@@ -4,6 +4,7 @@ use Rattle.devices.proofs.Putting.{two_puts, wrote_next}
 use Rattle.trust_lists.proofs.written.put_certificate.Goals as goal
 
 pub returns-clause-wrote : goal.returns-clause-wrote
-returns-clause-wrote g c = wrote_next (two_puts g.S.Sink.tells g.S.Sink.taken g.S.Sink.failures c.args.sink.now c.put_digits.new.sink c.put_all.new.sink
+returns-clause-wrote g c = wrote_next
+    (two_puts g.S.Sink.tells g.S.Sink.taken g.S.Sink.failures c.args.sink.now c.put_digits.new.sink c.put_all.new.sink
     c.put_digits.ensures.telling c.put_all.result)
     (encode_lower c.args.octets.now) (10 ∷ []) c.in_ok-put_digits.ensures.wrote c.put_all.ensures.wrote

@@ -4,7 +4,9 @@ use Rattle.devices.proofs.Putting.{two_puts, wrote_next}
 use Rattle.trust_lists.proofs.written.put_words.Goals as goal
 
 pub returns-clause-wrote : goal.returns-clause-wrote
-returns-clause-wrote g c = wrote_next (two_puts g.S.Sink.tells g.S.Sink.taken g.S.Sink.failures c.args.sink.now c.put_word.new.sink c.put_period.new.sink
+returns-clause-wrote g c = wrote_next
+    (two_puts g.S.Sink.tells g.S.Sink.taken g.S.Sink.failures c.args.sink.now c.put_word.new.sink c.put_period.new.sink
     c.put_word.ensures.telling c.put_period.result)
-    (c.args.role.now ++ 32 ∷ []) ((c.args.from.now ++ 32 ∷ []) ++ ((c.args.until.now ++ 32 ∷ []) ++ (encode_lower c.args.octets.now ++ 10 ∷ [])))
+    (c.args.role.now ++ 32 ∷ [])
+    ((c.args.from.now ++ 32 ∷ []) ++ ((c.args.until.now ++ 32 ∷ []) ++ (encode_lower c.args.octets.now ++ 10 ∷ [])))
     c.in_ok-put_word.ensures.wrote c.put_period.ensures.wrote

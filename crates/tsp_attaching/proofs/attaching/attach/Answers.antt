@@ -9,18 +9,21 @@ use Rattle.tsp_attaching.proofs.attaching.attach.Goals as goal
 
 pub returns-in_err-pieces-clause-only : goal.returns-in_err-pieces-clause-only
 returns-in_err-pieces-clause-only g c = λ w h.
-    absurd (never_both c.args.file.now c.args.signer c.args.token.now w c.in_err-pieces.field-0.0 h c.in_err-pieces.ensures.refuses)
+    absurd (never_both c.args.file.now c.args.signer c.args.token.now w c.in_err-pieces.field-0.0 h
+    c.in_err-pieces.ensures.refuses)
 
 pub returns-in_default-clause-answer : goal.returns-in_default-clause-answer
 returns-in_default-clause-answer g c = (
-  too_long c.args.file.now c.args.signer c.args.token.now (pieces_value c.in_ok-pieces.pieces) c.in_ok-pieces.ensures.cuts (c.in_default.ensures.too_long refl),
+  too_long c.args.file.now c.args.signer c.args.token.now
+      (pieces_value c.in_ok-pieces.pieces) c.in_ok-pieces.ensures.cuts (c.in_default.ensures.too_long refl),
   (λ _. refl),
   refl,
 )
 
 pub returns-in_default-clause-only : goal.returns-in_default-clause-only
 returns-in_default-clause-only g c = λ w h. never_both c.args.file.now c.args.signer c.args.token.now w rule.TooLong h
-    (too_long c.args.file.now c.args.signer c.args.token.now (pieces_value c.in_ok-pieces.pieces) c.in_ok-pieces.ensures.cuts
+    (too_long c.args.file.now c.args.signer c.args.token.now
+    (pieces_value c.in_ok-pieces.pieces) c.in_ok-pieces.ensures.cuts
     (c.in_default.ensures.too_long refl))
 
 pub returns-in-Ok-put_file-clause-answer : goal.returns-in-Ok-put_file-clause-answer
@@ -30,8 +33,10 @@ returns-in-Ok-put_file-clause-answer g c =
     let e = c.in-Ok.ensures.opens ∙ new_file c.args.file.now c.args.signer c.args.token.now p cut in (
       attached cut.value c.args.signer c.args.token.now,
       can_attach c.args.file.now c.args.signer c.args.token.now p cut c.in-Ok.ensures.fit,
-      subst (λ (x : List ℕ). Wrote (Ok c.in-Ok-put_file.field-0) (g.S.Sink.tells c.args.out.now) (g.S.Sink.taken c.args.out.now) (g.S.Sink.taken
-          c.put_file.new.out) (g.S.Sink.failures c.args.out.now) (g.S.Sink.failures c.put_file.new.out) x) e c.in-Ok-put_file.ensures.wrote,
+      subst (λ (x : List ℕ). Wrote (Ok c.in-Ok-put_file.field-0) (g.S.Sink.tells c.args.out.now)
+          (g.S.Sink.taken c.args.out.now) (g.S.Sink.taken
+          c.put_file.new.out) (g.S.Sink.failures c.args.out.now) (g.S.Sink.failures c.put_file.new.out) x) e
+          c.in-Ok-put_file.ensures.wrote,
     )
 
 pub returns-in-Ok-put_file-clause-only : goal.returns-in-Ok-put_file-clause-only
@@ -41,9 +46,12 @@ returns-in-Ok-put_file-clause-only g c = λ w h.
     let attaches = can_attach c.args.file.now c.args.signer c.args.token.now p cut c.in-Ok.ensures.fit in
     let e = c.in-Ok.ensures.opens ∙ new_file c.args.file.now c.args.signer c.args.token.now p cut
     ∙ ap (λ (v : SignedDataValue). encoding (SignedContent v))
-    (one_file c.args.file.now c.args.signer c.args.token.now (attached cut.value c.args.signer c.args.token.now) w attaches h) in
-    subst (λ (x : List ℕ). Wrote (Ok c.in-Ok-put_file.field-0) (g.S.Sink.tells c.args.out.now) (g.S.Sink.taken c.args.out.now) (g.S.Sink.taken
-    c.put_file.new.out) (g.S.Sink.failures c.args.out.now) (g.S.Sink.failures c.put_file.new.out) x) e c.in-Ok-put_file.ensures.wrote
+    (one_file c.args.file.now c.args.signer c.args.token.now
+    (attached cut.value c.args.signer c.args.token.now) w attaches h) in
+    subst (λ (x : List ℕ). Wrote (Ok c.in-Ok-put_file.field-0) (g.S.Sink.tells c.args.out.now)
+    (g.S.Sink.taken c.args.out.now) (g.S.Sink.taken
+    c.put_file.new.out) (g.S.Sink.failures c.args.out.now) (g.S.Sink.failures c.put_file.new.out) x) e
+    c.in-Ok-put_file.ensures.wrote
 
 pub returns-in-Err-clause-answer : goal.returns-in-Err-clause-answer
 returns-in-Err-clause-answer g c =
@@ -53,7 +61,8 @@ returns-in-Err-clause-answer g c =
       attached cut.value c.args.signer c.args.token.now,
       can_attach c.args.file.now c.args.signer c.args.token.now p cut c.in-Ok.ensures.fit,
       subst (λ (x : List ℕ). Wrote (Err c.in-Err._fault) (g.S.Sink.tells c.args.out.now) (g.S.Sink.taken c.args.out.now)
-          (g.S.Sink.taken c.put_file.new.out) (g.S.Sink.failures c.args.out.now) (g.S.Sink.failures c.put_file.new.out) x) e c.in-Err.ensures.wrote,
+          (g.S.Sink.taken c.put_file.new.out) (g.S.Sink.failures c.args.out.now)
+          (g.S.Sink.failures c.put_file.new.out) x) e c.in-Err.ensures.wrote,
     )
 
 pub returns-in-Err-clause-only : goal.returns-in-Err-clause-only
@@ -63,6 +72,8 @@ returns-in-Err-clause-only g c = λ w h.
     let attaches = can_attach c.args.file.now c.args.signer c.args.token.now p cut c.in-Ok.ensures.fit in
     let e = c.in-Ok.ensures.opens ∙ new_file c.args.file.now c.args.signer c.args.token.now p cut
     ∙ ap (λ (v : SignedDataValue). encoding (SignedContent v))
-    (one_file c.args.file.now c.args.signer c.args.token.now (attached cut.value c.args.signer c.args.token.now) w attaches h) in
+    (one_file c.args.file.now c.args.signer c.args.token.now
+    (attached cut.value c.args.signer c.args.token.now) w attaches h) in
     subst (λ (x : List ℕ). Wrote (Err c.in-Err._fault) (g.S.Sink.tells c.args.out.now) (g.S.Sink.taken c.args.out.now)
-    (g.S.Sink.taken c.put_file.new.out) (g.S.Sink.failures c.args.out.now) (g.S.Sink.failures c.put_file.new.out) x) e c.in-Err.ensures.wrote
+    (g.S.Sink.taken c.put_file.new.out) (g.S.Sink.failures c.args.out.now) (g.S.Sink.failures c.put_file.new.out) x) e
+    c.in-Err.ensures.wrote

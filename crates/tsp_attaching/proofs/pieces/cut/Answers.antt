@@ -14,7 +14,8 @@ returns c = λ v number encodes same place.
     let front = front_there v all c.data_of.result.now all_is encodes.1.0 (c.data_of.ensures v encodes) in
     let one = c.first.ensures 48 (signer_parts s) (signers_parts (drop 1 (drop (number - 1) v.signers)))
     (record { identifier = refl; size = good.size }) (first_there v.signers number s c.args.from.now place) in
-    let before = ap (λ (n : ℕ). take n all) c.saturating_sub.ensures ∙ before_there v.signers number s all c.args.from.now all_is place in
+    let before = ap (λ (n : ℕ). take n all) c.saturating_sub.ensures
+    ∙ before_there v.signers number s all c.args.from.now all_is place in
     λ i. record {
       data_front = c.before_last.ensures (data_front v) 49 all front.0 refl front.1 i;
       before = before i;

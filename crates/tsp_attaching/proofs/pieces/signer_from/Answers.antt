@@ -5,11 +5,13 @@ use Rattle.tsp_attaching.proofs.pieces.signer_from.Goals as goal
 
 pub returns : goal.returns
 returns c = unnumbered c.args.signers.now c.args.number c.loop-signer.invariant.1
-    (sym c.loop-signer.invariant.0 ∙ (ap (drop c.loop-signer.before) c.in_default.ensures ∙ drop-nil c.loop-signer.before))
+    (sym c.loop-signer.invariant.0
+    ∙ (ap (drop c.loop-signer.before) c.in_default.ensures ∙ drop-nil c.loop-signer.before))
 
 pub loop-signer-preserved : goal.loop-signer-preserved
 loop-signer-preserved c =
     let some : 0 < c.loop-signer.before = omega (arith, c.if-before-eq0.false) in (
-      sym (drop_next c.loop-signer.left c.loop-signer.before c.in-Some.signer c.in-Some.others some c.in-Some.ensures) ∙ c.loop-signer.invariant.0,
+      sym (drop_next c.loop-signer.left c.loop-signer.before c.in-Some.signer c.in-Some.others some c.in-Some.ensures)
+          ∙ c.loop-signer.invariant.0,
       c.loop-signer.invariant.1,
     )

@@ -8,7 +8,9 @@ use Rattle.tsp_attaching.proofs.putting.put_openings.Given as goal
 abbrev pub invariant-loop-opening : goal.invariant-loop-opening
 invariant-loop-opening g l = record {
   goes : (r : Result (Unit {0}) SinkFault) (t : List ℕ) (c : ℕ)
-      → Wrote r (g.S.Sink.tells l.out) (g.S.Sink.taken l.out) t (g.S.Sink.failures l.out) c (openings_octets (drop l.opening-index l.openings))
-      → Wrote r (g.S.Sink.tells l.initial.out) (g.S.Sink.taken l.initial.out) t (g.S.Sink.failures l.initial.out) c (openings_octets l.openings);
+      → Wrote r (g.S.Sink.tells l.out) (g.S.Sink.taken l.out) t (g.S.Sink.failures l.out) c
+      (openings_octets (drop l.opening-index l.openings))
+      → Wrote r (g.S.Sink.tells l.initial.out) (g.S.Sink.taken l.initial.out) t (g.S.Sink.failures l.initial.out) c
+      (openings_octets l.openings);
   telling : g.S.Sink.tells l.initial.out → g.S.Sink.tells l.out;
 }

@@ -20,7 +20,11 @@ returns-then-not-has_imprint c =
     let h : MatchFails c.args.request.now c.args.response.now rule.Imprint =
     fails_token c.args.request.now c.args.response.now c.in-Some.octets.now t rule.Imprint
     (c.is_granted.ensures.0 c.if-not-is_granted.false) c.in-Some.ensures c.in-Some-time_stamp.ensures.found
-    (inl (denied (SameImprint c.args.request.now.imprint t.stamp.imprint) c.has_imprint.result c.has_imprint.ensures c.if-not-has_imprint.true, refl)) in
+    (inl (
+      denied (SameImprint c.args.request.now.imprint t.stamp.imprint) c.has_imprint.result c.has_imprint.ensures
+          c.if-not-has_imprint.true,
+      refl,
+    )) in
     record { answers = refused c.args.request.now c.args.response.now rule.Imprint h; rule = h }
 
 pub returns-then-not-has_nonce : goal.returns-then-not-has_nonce
@@ -31,7 +35,10 @@ returns-then-not-has_nonce c =
     (c.is_granted.ensures.0 c.if-not-is_granted.false) c.in-Some.ensures c.in-Some-time_stamp.ensures.found
     (inr (
       c.has_imprint.ensures.0 c.if-not-has_imprint.false,
-      inl (denied (HasNonce c.args.request.now t.stamp) c.has_nonce.result c.has_nonce.ensures c.if-not-has_nonce.true, refl),
+      inl (
+        denied (HasNonce c.args.request.now t.stamp) c.has_nonce.result c.has_nonce.ensures c.if-not-has_nonce.true,
+        refl,
+      ),
     )) in
     record { answers = refused c.args.request.now c.args.response.now rule.Nonce h; rule = h }
 
@@ -45,7 +52,11 @@ returns-then-not-has_policy c =
       c.has_imprint.ensures.0 c.if-not-has_imprint.false,
       inr (
         c.has_nonce.ensures.0 c.if-not-has_nonce.false,
-        inl (denied (HasPolicy c.args.request.now t.stamp) c.has_policy.result c.has_policy.ensures c.if-not-has_policy.true, refl),
+        inl (
+          denied (HasPolicy c.args.request.now t.stamp) c.has_policy.result c.has_policy.ensures
+              c.if-not-has_policy.true,
+          refl,
+        ),
       ),
     )) in
     record { answers = refused c.args.request.now c.args.response.now rule.Policy h; rule = h }
@@ -62,7 +73,11 @@ returns-then-not-has_what_is_asked c =
         c.has_nonce.ensures.0 c.if-not-has_nonce.false,
         inr (
           c.has_policy.ensures.0 c.if-not-has_policy.false,
-          inl (denied (HasWhatIsAsked c.args.request.now t) c.has_what_is_asked.result c.has_what_is_asked.ensures c.if-not-has_what_is_asked.true, refl),
+          inl (
+            denied (HasWhatIsAsked c.args.request.now t) c.has_what_is_asked.result c.has_what_is_asked.ensures
+                c.if-not-has_what_is_asked.true,
+            refl,
+          ),
         ),
       ),
     )) in

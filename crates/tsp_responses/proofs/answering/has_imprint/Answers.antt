@@ -13,9 +13,11 @@ returns-then-is_same c =
     let stamped = c.args.stamp.now.imprint in
     imprint_when asked stamped c.is_same.result c.is_same-then-is_same.result
     (compared c.bytes.result.now asked.algorithm.oid c.bytes-2.result.now stamped.algorithm.oid c.is_same.result
-    (c.bytes.ensures.octets ∙ (c.oid.ensures ∙ ap oid c.algorithm.ensures)) (c.bytes-2.ensures.octets ∙ (c.oid-2.ensures ∙ ap oid c.algorithm-2.ensures))
+    (c.bytes.ensures.octets ∙ (c.oid.ensures ∙ ap oid c.algorithm.ensures))
+    (c.bytes-2.ensures.octets ∙ (c.oid-2.ensures ∙ ap oid c.algorithm-2.ensures))
     c.is_same.ensures)
-    (compared c.imprint.result.now asked.digest c.imprint-then-is_same.result.now stamped.digest c.is_same-then-is_same.result
+    (compared c.imprint.result.now asked.digest c.imprint-then-is_same.result.now stamped.digest
+    c.is_same-then-is_same.result
     c.imprint.ensures c.imprint-then-is_same.ensures c.is_same-then-is_same.ensures)
     c.if-is_same.true
 
@@ -25,6 +27,7 @@ returns-else-is_same c =
     let stamped = c.args.stamp.now.imprint in
     other_algorithm asked stamped c.is_same.result
     (compared c.bytes.result.now asked.algorithm.oid c.bytes-2.result.now stamped.algorithm.oid c.is_same.result
-    (c.bytes.ensures.octets ∙ (c.oid.ensures ∙ ap oid c.algorithm.ensures)) (c.bytes-2.ensures.octets ∙ (c.oid-2.ensures ∙ ap oid c.algorithm-2.ensures))
+    (c.bytes.ensures.octets ∙ (c.oid.ensures ∙ ap oid c.algorithm.ensures))
+    (c.bytes-2.ensures.octets ∙ (c.oid-2.ensures ∙ ap oid c.algorithm-2.ensures))
     c.is_same.ensures)
     c.if-is_same.false

@@ -7,7 +7,8 @@ use Rattle.tsp_responses.proofs.time_stamp.time_stamp.Goals as goal
 pub returns-clause-found : goal.returns-clause-found
 returns-clause-found c = record {
   encodes = c.in-Ok.ensures.found;
-  econtent_type = sym (c.bytes.ensures.octets ∙ c.content_type.ensures) ∙ same c.bytes.result.now id_tst_info (sym c.is_same.ensures ∙ c.if-not-is_same.false);
+  econtent_type = sym (c.bytes.ensures.octets ∙ c.content_type.ensures)
+      ∙ same c.bytes.result.now id_tst_info (sym c.is_same.ensures ∙ c.if-not-is_same.false);
   content = c.in_ok-content.field-0.now;
   present = search rules;
   encodes_stamp = c.in-Ok-read.ensures.found;

@@ -8,13 +8,15 @@ use Rattle.cert_types.proofs.CertificateReaders.{certificate_takes, certificate_
 use Rattle.cert_types.proofs.certificate.Certificate.read.Goals as goal
 
 pub returns-in_err-fields-clause-only : goal.returns-in_err-fields-clause-only
-returns-in_err-fields-clause-only c = λ v h. absurd (err_never certificate_at EncodesCertificate certificate_again c.args.bytes.now
+returns-in_err-fields-clause-only c =
+    λ v h. absurd (err_never certificate_at EncodesCertificate certificate_again c.args.bytes.now
     c.in_err-fields.field-0.0 c.in_err-fields.ensures v h)
 
 pub returns-in_err-fields-clause-fault : goal.returns-in_err-fields-clause-fault
 returns-in_err-fields-clause-fault c =
     let p = err_from_is_err_and c.from_residual.result c.from_residual.ensures.1 in
-    rw (p.1, p.2) (certificate_fault c.args.bytes.now c.in_err-fields.field-0.0 (λ i. omega (arith, c.type_inv.bytes i)) c.in_err-fields.ensures)
+    rw (p.1, p.2) (certificate_fault c.args.bytes.now c.in_err-fields.field-0.0
+    (λ i. omega (arith, c.type_inv.bytes i)) c.in_err-fields.ensures)
 
 pub invariant_of-result : goal.invariant_of-result
 invariant_of-result c = certificate_takes c.args.bytes.now (certificate_value c.in_ok-fields.fields)

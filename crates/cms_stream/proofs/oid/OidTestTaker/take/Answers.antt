@@ -8,5 +8,7 @@ loop-octet-preserved c zs =
     let xs : List ℕ = c.args.octets.now in
     let k : ℕ = c.loop-octet.octet-index in
     c.loop-octet.invariant zs
-    ∙ ap (λ (ys : List ℕ). c.loop-octet.self.sound && oid_from c.loop-octet.self.started c.loop-octet.self.begins ys) (drop_step xs zs k (omega arith))
-    ∙ one_more c.loop-octet.self c.step.new.self (get_or xs k 0) (drop (k + 1) xs ++ zs) c.step.ensures.sound c.step.ensures.started c.step.ensures.begins
+    ∙ ap (λ (ys : List ℕ). c.loop-octet.self.sound && oid_from c.loop-octet.self.started c.loop-octet.self.begins ys)
+    (drop_step xs zs k (omega arith))
+    ∙ one_more c.loop-octet.self c.step.new.self (get_or xs k 0)
+    (drop (k + 1) xs ++ zs) c.step.ensures.sound c.step.ensures.started c.step.ensures.begins

@@ -18,8 +18,10 @@ returns g c = record {
             let (parameters, is, rest) = f.exact.1 (e.telling t) in (
               algorithm_from (id.0, parameters.0),
               algorithm_is _ _ _ id.0 parameters.0
-                  (found_at _ id (body_to c.args.end (seen c.next_oid.new.self (g.S.Source.rest c.next_oid.new.source))) reads behind)
-                  (found_at _ parameters (body_to c.args.end (seen c.parameters.new.self (g.S.Source.rest c.parameters.new.source))) is rest)
+                  (found_at _ id (body_to c.args.end (seen c.next_oid.new.self (g.S.Source.rest c.next_oid.new.source)))
+                  reads behind)
+                  (found_at _ parameters (body_to c.args.end
+                  (seen c.parameters.new.self (g.S.Source.rest c.parameters.new.source))) is rest)
                   (d.exact.1 (f.telling (e.telling t))),
               tt,
             ),

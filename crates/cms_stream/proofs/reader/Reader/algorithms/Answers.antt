@@ -14,14 +14,16 @@ loop-self-preserved g c =
     let e = c.in_ok-next_algorithm.ensures in
     let n : ℕ = c.next_algorithm.new.self.at in
     let w : OpenSpot = body_to c.args.end (seen c.loop-self.self (g.S.Source.rest c.loop-self.source)) in
-    let v : OpenSpot = body_to c.args.end (seen c.next_algorithm.new.self (g.S.Source.rest c.next_algorithm.new.source)) in
+    let v : OpenSpot =
+    body_to c.args.end (seen c.next_algorithm.new.self (g.S.Source.rest c.next_algorithm.new.source)) in
     let some : 0 < w.left = omega (arith, c.loop-self-test.true) in
     record {
       inside = e.at.1;
       onward = omega (arith, h.onward, e.at.0);
       failures = e.exact.0 ∙ h.failures;
       telling = λ t. e.telling (h.telling t);
-      moved = λ t. e.moved (h.telling t) ∙ ap (past n) (h.moved t) ∙ past_past c.loop-self.self.at n _ h.onward (omega (arith, e.at.0));
+      moved = λ t. e.moved (h.telling t) ∙ ap (past n) (h.moved t)
+          ∙ past_past c.loop-self.self.at n _ h.onward (omega (arith, e.at.0));
       left = (
         h.left.0 - 1,
         omega (arith, h.left.1, e.at.0),
@@ -42,9 +44,11 @@ returns-in_err-next_algorithm g c = record {
       (record {
         tells = h.telling;
         same = h.failures;
-        faults = λ f t p. after_fault (within_openly 0x30 algorithm_openly) (within_misses 0x30 algorithm_openly) _ h.left.0 w f some h.left.1 p (h.left.2 t);
+        faults = λ f t p. after_fault (within_openly 0x30 algorithm_openly)
+            (within_misses 0x30 algorithm_openly) _ h.left.0 w f some h.left.1 p (h.left.2 t);
       }) {X = Unit {0}} {Z = Unit {0}}
-      (λ x y. y.1 ≡ body_to c.args.end (seen c.next_algorithm.new.self (g.S.Source.rest c.next_algorithm.new.source))) (λ x y. Unit {0})
+      (λ x y. y.1 ≡ body_to c.args.end (seen c.next_algorithm.new.self (g.S.Source.rest c.next_algorithm.new.source)))
+      (λ x y. Unit {0})
       c.in_err-next_algorithm.field-0.0 _ c.in_err-next_algorithm.ensures.exact
       );
   telling = grind (arith, common_steps);
@@ -59,7 +63,8 @@ returns g c = record {
       let w : OpenSpot = body_to c.args.end (seen c.loop-self.self (g.S.Source.rest c.loop-self.source)) in
       let none : w.left ≡ 0 = omega (arith, c.loop-self-test.false) in (
         h.failures,
-        λ t. let r = after_all (within_openly 0x30 algorithm_openly) (within_misses 48 algorithm_openly) _ h.left.0 w none
+        λ t. let r =
+            after_all (within_openly 0x30 algorithm_openly) (within_misses 48 algorithm_openly) _ h.left.0 w none
             (h.left.2 t) in (r.0, r.1, tt),
       );
   telling = grind (arith, common_steps);

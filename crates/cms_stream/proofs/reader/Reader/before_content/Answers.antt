@@ -22,10 +22,16 @@ returns g c = record {
             let t2 = v.telling t1 in
             let t3 = f.telling t2 in
             let y = a.exact.1 t3 in (
-              ((c.in_ok-version.version ∷ [], y.0), body_to c.args.end (seen c.algorithms.new.self (g.S.Source.rest c.algorithms.new.source))),
-              then_at (within_openly 0x02 (kept (version_in (1 ∷ 3 ∷ 4 ∷ 5 ∷ [])))) (within_openly 0x31 (λ w. algorithms_openly w)) _ _ _ _ _
-                  (within_at 0x02 (kept (version_in (1 ∷ 3 ∷ 4 ∷ 5 ∷ []))) c.args.end c.in_ok-inside.inside _ _ _ _ (e.exact.1 t) (v.exact.1 t1) (v.moved t1))
-                  (within_at 0x31 (λ w. algorithms_openly w) c.args.end c.in_ok-inner.inner _ _ _ _ (f.exact.1 t2) y.1 (a.moved t3)),
+              (
+                (c.in_ok-version.version ∷ [], y.0),
+                body_to c.args.end (seen c.algorithms.new.self (g.S.Source.rest c.algorithms.new.source)),
+              ),
+              then_at (within_openly 0x02 (kept (version_in (1 ∷ 3 ∷ 4 ∷ 5 ∷ []))))
+                  (within_openly 0x31 (λ w. algorithms_openly w)) _ _ _ _ _
+                  (within_at 0x02 (kept (version_in (1 ∷ 3 ∷ 4 ∷ 5 ∷ []))) c.args.end c.in_ok-inside.inside _ _ _ _
+                  (e.exact.1 t) (v.exact.1 t1) (v.moved t1))
+                  (within_at 0x31 (λ w. algorithms_openly w) c.args.end c.in_ok-inner.inner _ _ _ _ (f.exact.1 t2) y.1
+                  (a.moved t3)),
               (refl, refl),
             ),
       );

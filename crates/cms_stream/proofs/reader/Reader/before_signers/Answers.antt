@@ -23,7 +23,8 @@ returns g c = record {
               let (content, reads_content, (kept, after_content)) = b.exact.1 t1 in
               let (certificates, reads_certificates, after_certificates) = d.exact.1 t2 in
               let (crls, reads_crls, after_crls) = e.exact.1 t3 in
-              let v = body_to c.args.end (seen c.before_content.new.self (g.S.Source.rest c.before_content.new.source)) in
+              let v =
+              body_to c.args.end (seen c.before_content.new.self (g.S.Source.rest c.before_content.new.source)) in
               let w = body_to c.args.end (seen c.choices-2.new.self (g.S.Source.rest c.choices-2.new.source)) in
               let first = found_at _ head v reads_head after_head in (
                 ((head.0.0, (head.0.1, (content.0, (certificates.0, crls.0)))), w),
@@ -49,7 +50,8 @@ returns g c = record {
         let e = c.in_ok-choices-2.ensures in
         let t1 = a.telling t in
         let t2 = b.telling t1 in
-        moved_on _ _ _ _ _ (moved_on _ _ _ _ _ (moved_on _ _ _ _ _ (a.moved t) (b.moved t1) (omega (arith, a.at.0)) (omega (arith, b.at.0))) (d.moved t2)
+        moved_on _ _ _ _ _ (moved_on _ _ _ _ _
+        (moved_on _ _ _ _ _ (a.moved t) (b.moved t1) (omega (arith, a.at.0)) (omega (arith, b.at.0))) (d.moved t2)
         (omega (arith, a.at.0, b.at.0)) d.at.0) (e.moved (d.telling t2)) (omega (arith, a.at.0, b.at.0, d.at.0)) e.at.0;
   };
   room = first_of (search rules, grind (arith, common_steps));

@@ -26,7 +26,8 @@ returns g c = record {
         λ t.
             let front : IsLooked 6 c.look.new.self.at c.look.new.self.window c.bytes.result.now _ _ =
             record { looked = e.looked t; is = e.asks.moved t; same = c.bytes.ensures.octets } in
-            let header : IsHeaded c.in-Ok.len c.heading-count.result c.look.new.self.window c.bytes.result.now c.pass.new.self =
+            let header :
+            IsHeaded c.in-Ok.len c.heading-count.result c.look.new.self.window c.bytes.result.now c.pass.new.self =
             record { there = c.in-Ok.ensures.there.0; size = c.heading-count.ensures.is; gone = c.pass.ensures } in
             begins_at front (e.asks.at ∙ c.requires.first) c.in-Ok.ensures.gives header,
       );

@@ -13,7 +13,8 @@ returns-then-not-branch g c = record {
         p.exact.0,
         λ t. (
           (None, body_to c.args.end (seen c.has_tag.new.self (g.S.Source.rest c.has_tag.new.source))),
-          maybe_missed c.args.tag (λ w. many_openly (tagged_openly c.args.tags.now) w) c.args.end c.in_ok-has_tag.field-0 _ _ (p.exact.1 t)
+          maybe_missed c.args.tag
+              (λ w. many_openly (tagged_openly c.args.tags.now) w) c.args.end c.in_ok-has_tag.field-0 _ _ (p.exact.1 t)
               c.if-not-branch.true (p.moved t),
           refl,
         ),
@@ -33,7 +34,8 @@ returns g c = record {
         λ t.
             let y = b.exact.1 (e.telling (p.telling t)) in (
               (Some y.0, body_to c.args.end (seen c.tagged_list.new.self (g.S.Source.rest c.tagged_list.new.source))),
-              maybe_found c.args.tag (λ w. many_openly (tagged_openly c.args.tags.now) w) c.args.end c.in_ok-inner.inner _ _ _ _ y.0
+              maybe_found c.args.tag
+                  (λ w. many_openly (tagged_openly c.args.tags.now) w) c.args.end c.in_ok-inner.inner _ _ _ _ y.0
                   (p.exact.1 t) c.if-not-branch.false (p.moved t)
                   (record { enters = e.exact.1 (p.telling t); reads = y.1; moved = b.moved (e.telling (p.telling t)) }),
               refl,

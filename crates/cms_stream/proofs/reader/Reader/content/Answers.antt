@@ -14,9 +14,13 @@ returns-then-not-branch g c = record {
         a.exact.0 ∙ p.exact.0,
         λ t. (
           (None, body_to c.args.end (seen c.absent.new.self (g.S.Source.rest c.absent.new.source))),
-          last_missed 0xa0 explicit_octets_openly c.args.end c.in_ok-has_tag.field-0 _ _ _ _ (p.exact.1 t) c.if-not-branch.true (p.moved t)
+          last_missed 0xa0 explicit_octets_openly c.args.end c.in_ok-has_tag.field-0 _ _ _ _
+              (p.exact.1 t) c.if-not-branch.true (p.moved t)
               (a.exact.1 (p.telling t)) (a.moved (p.telling t)),
-          ((refl, λ m held. subst (λ (xs : List ℕ). g.K.Taker.held c.args.taker.now xs) (sym (append-nil m)) held), refl),
+          (
+            (refl, λ m held. subst (λ (xs : List ℕ). g.K.Taker.held c.args.taker.now xs) (sym (append-nil m)) held),
+            refl,
+          ),
         ),
       );
   telling = grind (arith, common_steps);
@@ -32,8 +36,12 @@ returns g c = record {
       let b = c.in_ok-explicit_octets.ensures in (
         b.exact.1.0 ∙ e.exact.0 ∙ p.exact.0,
         λ t. (
-          (Some b.exact.0, body_to c.args.end (seen c.explicit_octets.new.self (g.S.Source.rest c.explicit_octets.new.source))),
-          last_found 0xa0 explicit_octets_openly c.args.end c.in_ok-inner.inner _ _ _ _ b.exact.0 (p.exact.1 t) c.if-not-branch.false
+          (
+            Some b.exact.0,
+            body_to c.args.end (seen c.explicit_octets.new.self (g.S.Source.rest c.explicit_octets.new.source)),
+          ),
+          last_found 0xa0 explicit_octets_openly c.args.end c.in_ok-inner.inner _ _ _ _ b.exact.0
+              (p.exact.1 t) c.if-not-branch.false
               (p.moved t)
               (record {
                 enters = e.exact.1 (p.telling t);

@@ -25,9 +25,11 @@ returns-then-room-size-clause-tells g c = λ t.
     let there = seen c.enter-2.new.self (g.S.Source.rest c.enter-2.new.source) in (
       body_to end (seen c.to_signed_data.new.self (g.S.Source.rest c.to_signed_data.new.source)),
       s.tells t
-          ∙ ap (λ (o : Option ℕ). found (body_until (seen c.to_signed_data.new.self (g.S.Source.rest c.to_signed_data.new.source)) o)) c.in-Some.is,
+          ∙ ap (λ (o : Option ℕ). found (body_until
+          (seen c.to_signed_data.new.self (g.S.Source.rest c.to_signed_data.new.source)) o)) c.in-Some.is,
       (c.in_ok-version.field-0 ∷ [], body_to end (seen c.version.new.self (g.S.Source.rest c.version.new.source))),
-      within_at 0x02 (kept (version_in (1 ∷ 3 ∷ 4 ∷ 5 ∷ []))) end c.in_ok-inside.inside _ _ _ _ (e.exact.1 t1) (v.exact.1 t2) (v.moved t2),
+      within_at 0x02 (kept (version_in (1 ∷ 3 ∷ 4 ∷ 5 ∷ []))) end c.in_ok-inside.inside _ _ _ _ (e.exact.1 t1)
+          (v.exact.1 t2) (v.moved t2),
       (body_to inner there, body_to end (past inner there)),
       f.exact.1 t3,
       first_of (search rules, omega (arith, c.if-room-size.true)),

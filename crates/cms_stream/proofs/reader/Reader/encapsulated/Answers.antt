@@ -18,8 +18,10 @@ returns g c = record {
               let (content, is, (carried, rest)) = f.exact.1 (e.telling t) in (
                 record { content_type = id.0; content = content.0 },
                 encapsulated_is _ _ _ id.0 content.0
-                    (found_at _ id (body_to c.args.end (seen c.content_type.new.self (g.S.Source.rest c.content_type.new.source))) reads behind)
-                    (found_at _ content (body_to c.args.end (seen c.content.new.self (g.S.Source.rest c.content.new.source))) is rest)
+                    (found_at _ id (body_to c.args.end
+                    (seen c.content_type.new.self (g.S.Source.rest c.content_type.new.source))) reads behind)
+                    (found_at _ content
+                    (body_to c.args.end (seen c.content.new.self (g.S.Source.rest c.content.new.source))) is rest)
                     (d.exact.1 (f.telling (e.telling t))),
                 (kept, carried),
               ),

@@ -13,7 +13,8 @@ returns-in-Err g c =
         λ t.
             let front : IsLooked 6 c.look.new.self.at c.look.new.self.window c.bytes.result.now _ _ =
             record { looked = e.looked t; is = e.asks.moved t; same = c.bytes.ensures.octets } in
-            enters_not (enter_openly c.args.tag) (header_in c.args.tag) (header_is c.args.tag) c.args.end front c.in-Err.fault c.in-Err.ensures.gives,
+            enters_not (enter_openly c.args.tag) (header_in c.args.tag)
+            (header_is c.args.tag) c.args.end front c.in-Err.fault c.in-Err.ensures.gives,
       );
       telling = e.asks.telling;
       at = grind (arith, common_steps);
@@ -30,9 +31,11 @@ returns g c =
         λ t.
             let front : IsLooked 6 c.look.new.self.at c.look.new.self.window c.bytes.result.now _ _ =
             record { looked = e.looked t; is = e.asks.moved t; same = c.bytes.ensures.octets } in
-            let header : IsHeaded c.in-Ok.len c.heading-count.result c.look.new.self.window c.bytes.result.now c.pass.new.self =
+            let header :
+            IsHeaded c.in-Ok.len c.heading-count.result c.look.new.self.window c.bytes.result.now c.pass.new.self =
             record { there = there.0; size = c.heading-count.ensures.is; gone = c.pass.ensures } in
-            enters_now (enter_openly c.args.tag) (header_in c.args.tag) (header_is c.args.tag) c.args.end front c.in-Ok.ensures.gives header inside there.1,
+            enters_now (enter_openly c.args.tag) (header_in c.args.tag)
+            (header_is c.args.tag) c.args.end front c.in-Ok.ensures.gives header inside there.1,
       );
       telling = e.asks.telling;
       at = grind (arith, common_steps);

@@ -15,7 +15,8 @@ loop-done-preserved g c =
       failures = e.meets.exact ∙ h.failures;
       telling = λ t. e.meets.telling (h.telling t);
       passed =
-          λ t. kept_further n c.loop-done.done _ _ c.loop-done.room _ c.piece.new.self.window c.copy_from_slice.new.self c.pass.new.self _ (h.passed t)
+          λ t. kept_further n c.loop-done.done _ _ c.loop-done.room _ c.piece.new.self.window c.copy_from_slice.new.self
+          c.pass.new.self _ (h.passed t)
           (ap (λ (s : Spot). s.rest) (e.meets.moved (h.telling t))) c.pass.ensures
           (c.copy_from_slice.ensures.after ∙ ap (take n) c.bytes.ensures.octets) e.some.1 h.inside;
     }

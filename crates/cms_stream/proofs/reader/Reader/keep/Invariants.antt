@@ -10,7 +10,8 @@ invariant-loop-done g l = record {
   failures : g.S.Source.failures l.source ≡ g.S.Source.failures l.fn.source;
   telling : g.S.Source.tells l.fn.source → g.S.Source.tells l.source;
   passed : g.S.Source.tells l.fn.source
-      → (seen l.fn.self (g.S.Source.rest l.fn.source)).rest ≡ take l.done l.room ++ (seen l.self (g.S.Source.rest l.source)).rest;
+      → (seen l.fn.self (g.S.Source.rest l.fn.source)).rest
+      ≡ take l.done l.room ++ (seen l.self (g.S.Source.rest l.source)).rest;
 }
 
 abbrev pub decreases-loop-done : goal.decreases-loop-done

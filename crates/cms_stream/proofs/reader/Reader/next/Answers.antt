@@ -30,9 +30,11 @@ returns g c =
         λ t.
             let front : IsLooked 6 c.look.new.self.at c.look.new.self.window c.bytes.result.now _ _ =
             record { looked = e.looked t; is = e.asks.moved t; same = c.bytes.ensures.octets } in
-            let header : IsHeaded c.in-Ok.len c.heading-count.result c.look.new.self.window c.bytes.result.now c.pass.new.self =
+            let header :
+            IsHeaded c.in-Ok.len c.heading-count.result c.look.new.self.window c.bytes.result.now c.pass.new.self =
             record { there = there.0; size = c.heading-count.ensures.is; gone = c.pass.ensures } in
-            enters_now next_openly next_header_in next_header_is c.args.end front c.in-Ok.ensures.gives header inside there.1,
+            enters_now next_openly next_header_in next_header_is c.args.end front c.in-Ok.ensures.gives header inside
+            there.1,
       );
       telling = e.asks.telling;
       at = grind (arith, common_steps);

@@ -15,7 +15,8 @@ returns g c = record {
         λ t.
             let y = o.exact.1 (e.telling t) in (
               (y.0, body_to c.args.end (seen c.algorithm.new.self (g.S.Source.rest c.algorithm.new.source))),
-              within_at 0x30 algorithm_openly c.args.end c.in_ok-inner.inner _ _ _ _ (e.exact.1 t) y.1 (o.moved (e.telling t)),
+              within_at 0x30 algorithm_openly c.args.end c.in_ok-inner.inner _ _ _ _ (e.exact.1 t) y.1
+                  (o.moved (e.telling t)),
               refl,
             ),
       );

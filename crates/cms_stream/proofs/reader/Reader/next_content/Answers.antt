@@ -19,7 +19,8 @@ returns g c = record {
           λ t.
               let y = o.exact.1 (e.telling t) in (
                 (y.0, body_to c.args.end (seen c.encapsulated.new.self (g.S.Source.rest c.encapsulated.new.source))),
-                within_at 0x30 encapsulated_openly c.args.end c.in_ok-inner.inner _ _ _ _ (e.exact.1 t) y.1 (o.moved (e.telling t)),
+                within_at 0x30 encapsulated_openly c.args.end c.in_ok-inner.inner _ _ _ _ (e.exact.1 t) y.1
+                    (o.moved (e.telling t)),
                 (y.2, refl),
               ),
         );
@@ -38,20 +39,26 @@ returns-in_err-found g c = record {
     exact =
         let e = c.in_ok-inner.ensures in
         let s = seen c.enter.new.self (g.S.Source.rest c.enter.new.source) in
-        let v : OpenSpot = body_to c.args.end (seen c.encapsulated.new.self (g.S.Source.rest c.encapsulated.new.source)) in
+        let v : OpenSpot =
+        body_to c.args.end (seen c.encapsulated.new.self (g.S.Source.rest c.encapsulated.new.source)) in
         let is : c.from_residual-in_err-found.result ≡ Err c.in_err-found.field-0.0 = grind (arith, common_steps) in
         rw is (
         limited {Y = EncapsulatedValue} {W = EncapsulatedValue × OpenSpot}
         (record {
           tells = e.telling;
           same = e.exact.0;
-          faults = λ f t p. within_not 0x30 encapsulated_openly (body_to c.args.end (seen c.args.self.now (g.S.Source.rest c.args.source.now)))
+          faults = λ f t p. within_not 0x30 encapsulated_openly
+              (body_to c.args.end (seen c.args.self.now (g.S.Source.rest c.args.source.now)))
               (body_to c.in_ok-inner.inner s) (body_to c.args.end (past c.in_ok-inner.inner s)) f (e.exact.1 t) p;
         }) {X = ℕ × Bool} {Z = ℕ × Bool}
-        (λ x y. IsKept (Gains (g.K.Taker.held c.args.taker.now) (g.K.Taker.held c.encapsulated.new.taker)) c.encapsulated.new.room x y)
-        (λ x y. IsKept (Gains (g.K.Taker.held c.args.taker.now) (g.K.Taker.held c.encapsulated.new.taker)) c.encapsulated.new.room x y.0 × (y.1 ≡ v))
+        (λ x y. IsKept (Gains (g.K.Taker.held c.args.taker.now) (g.K.Taker.held c.encapsulated.new.taker))
+        c.encapsulated.new.room x y)
+        (λ x y. IsKept (Gains (g.K.Taker.held c.args.taker.now) (g.K.Taker.held c.encapsulated.new.taker))
+        c.encapsulated.new.room x y.0 × (y.1 ≡ v))
         c.in_err-found.field-0.0 _
-        (λ t long. ((body_to c.in_ok-inner.inner s, body_to c.args.end (past c.in_ok-inner.inner s)), e.exact.1 t, long)) c.in_err-found.ensures.finds.exact
+        (λ t long.
+        ((body_to c.in_ok-inner.inner s, body_to c.args.end (past c.in_ok-inner.inner s)), e.exact.1 t, long))
+        c.in_err-found.ensures.finds.exact
         );
     telling = grind (arith, common_steps);
     at = grind (arith, common_steps);

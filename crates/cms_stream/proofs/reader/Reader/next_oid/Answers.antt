@@ -19,7 +19,8 @@ returns g c = record {
             body_to c.args.end
                 (seen c.oid.new.self (g.S.Source.rest c.oid.new.source)),
           ),
-          within_at 0x06 (kept oid_in) c.args.end c.in_ok-inner.inner _ _ _ _ (e.exact.1 t) (o.exact.1 (e.telling t)) (o.moved (e.telling t)),
+          within_at 0x06 (kept oid_in) c.args.end c.in_ok-inner.inner _ _ _ _ (e.exact.1 t) (o.exact.1 (e.telling t))
+              (o.moved (e.telling t)),
           refl,
         ),
       );

@@ -19,7 +19,8 @@ returns g c = record {
             body_to c.args.end
                 (seen c.type_of.new.self (g.S.Source.rest c.type_of.new.source)),
           ),
-          within_at 0x06 (kept oid_in) c.args.end c.in_ok-inner.inner _ _ _ _ (e.exact.1 t) (o.passes.exact.1 (e.telling t)) (o.passes.moved (e.telling t)),
+          within_at 0x06 (kept oid_in) c.args.end c.in_ok-inner.inner _ _ _ _ (e.exact.1 t)
+              (o.passes.exact.1 (e.telling t)) (o.passes.moved (e.telling t)),
           (o.signed (e.telling t), refl),
         ),
       );

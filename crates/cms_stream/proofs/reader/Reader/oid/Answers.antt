@@ -13,7 +13,8 @@ returns-then-not-is_whole g c = record {
       let p = c.in_ok-pour.ensures in (
         p.passes.exact.0,
         λ t. rw c.new.ensures
-            (oid_fails w _ (p.passes.exact.1 t) (c.is_whole.ensures.whole (body_of w) (p.taken t [] c.new-test.ensures) ∙ c.if-not-is_whole.true)),
+            (oid_fails w _ (p.passes.exact.1 t)
+            (c.is_whole.ensures.whole (body_of w) (p.taken t [] c.new-test.ensures) ∙ c.if-not-is_whole.true)),
       );
   telling = grind (arith, common_steps);
   at = grind (arith, common_steps);

@@ -36,9 +36,11 @@ returns-in_err-pour g c = record {
       (record {
         tells = e.telling;
         same = e.exact.0;
-        faults = λ f t p. opaque_cut w (body_to c.in_ok-inner.inner s) (body_to c.args.end (past c.in_ok-inner.inner s)) f (e.exact.1 t) p;
+        faults = λ f t p. opaque_cut w (body_to c.in_ok-inner.inner s)
+            (body_to c.args.end (past c.in_ok-inner.inner s)) f (e.exact.1 t) p;
       }) {X = Unit {0}} {Z = Unit {0}}
-      (λ u. body_of (body_to c.in_ok-inner.inner s)) (λ x y. y.1 ≡ body_to c.args.end (seen c.pour.new.self (g.S.Source.rest c.pour.new.source)))
+      (λ u. body_of (body_to c.in_ok-inner.inner s))
+      (λ x y. y.1 ≡ body_to c.args.end (seen c.pour.new.self (g.S.Source.rest c.pour.new.source)))
       c.in_err-pour.field-0.0 _ c.in_err-pour.ensures.passes.exact
       );
   telling = grind (arith, common_steps);
@@ -54,8 +56,12 @@ returns g c = record {
       let s = seen c.args.self.now (g.S.Source.rest c.args.source.now) in (
         p.passes.exact.0 ∙ e.exact.0,
         λ t. (
-          (take (c.in_ok-inner.inner - s.pos) s.rest, body_to c.args.end (seen c.pour.new.self (g.S.Source.rest c.pour.new.source))),
-          opaque_found c.args.end c.in_ok-inner.inner _ _ _ _ (e.exact.1 t) (p.passes.exact.1 (e.telling t)) (p.passes.moved (e.telling t)),
+          (
+            take (c.in_ok-inner.inner - s.pos) s.rest,
+            body_to c.args.end (seen c.pour.new.self (g.S.Source.rest c.pour.new.source)),
+          ),
+          opaque_found c.args.end c.in_ok-inner.inner _ _ _ _ (e.exact.1 t) (p.passes.exact.1 (e.telling t))
+              (p.passes.moved (e.telling t)),
           refl,
         ),
       );

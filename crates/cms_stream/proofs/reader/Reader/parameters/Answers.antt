@@ -41,8 +41,11 @@ returns g c = record {
       let w : OpenSpot = body_to c.args.end (seen c.args.self.now (g.S.Source.rest c.args.source.now)) in
       let v : OpenSpot = body_to c.args.end (seen c.opaque.new.self (g.S.Source.rest c.opaque.new.source)) in
       let some : 0 < w.left = omega (arith, c.if-self-end.false, c.requires.inside) in
-      let e = c.in_ok-opaque.ensures in
-      (e.exact.0, λ t. let (element, is, rest) = e.exact.1 t in ((Some element.0, v), optional_found w v element some is rest, refl));
+      let e = c.in_ok-opaque.ensures in (
+        e.exact.0,
+        λ t. let (element, is, rest) = e.exact.1 t in
+            ((Some element.0, v), optional_found w v element some is rest, refl),
+      );
   telling = grind (arith, common_steps);
   at = grind (arith, common_steps);
   moved = grind (arith, common_steps);

@@ -15,10 +15,13 @@ loop-self-preserved g c =
       telling = λ t. e.meets.telling (h.telling t);
       passed = (
         h.passed.0 ++ piece,
-        counted c.args.self.now.at n c.piece.new.self.at h.passed.0 c.piece.new.self.window c.hand.new.self.at (h.passed.1 ∙ sym e.meets.at) c.hand.ensures.at
+        counted c.args.self.now.at n c.piece.new.self.at h.passed.0 c.piece.new.self.window c.hand.new.self.at
+            (h.passed.1 ∙ sym e.meets.at) c.hand.ensures.at
             e.some.1,
-        λ t. further n _ h.passed.0 _ c.piece.new.self.window c.hand.new.self.window _ (h.passed.2 t) (ap (λ (s : Spot). s.rest) (e.meets.moved (h.telling t)))
+        λ t. further n _ h.passed.0 _ c.piece.new.self.window c.hand.new.self.window _ (h.passed.2 t)
+            (ap (λ (s : Spot). s.rest) (e.meets.moved (h.telling t)))
             c.hand.ensures.window,
-        λ m held. subst (g.K.Taker.held c.hand.new.taker) (append_assoc m h.passed.0 piece) (c.hand.ensures.taken (m ++ h.passed.0) (h.passed.3 m held)),
+        λ m held. subst (g.K.Taker.held c.hand.new.taker) (append_assoc m h.passed.0 piece)
+            (c.hand.ensures.taken (m ++ h.passed.0) (h.passed.3 m held)),
       );
     }

@@ -9,7 +9,8 @@ invariant-loop-self g l = record {
   telling : g.S.Source.tells l.fn.source → g.S.Source.tells l.source;
   passed : (passed : List ℕ)
       × (l.fn.self.at + length passed ≡ l.self.at)
-      × (g.S.Source.tells l.fn.source → (seen l.fn.self (g.S.Source.rest l.fn.source)).rest ≡ passed ++ (seen l.self (g.S.Source.rest l.source)).rest)
+      × (g.S.Source.tells l.fn.source → (seen l.fn.self (g.S.Source.rest l.fn.source)).rest
+      ≡ passed ++ (seen l.self (g.S.Source.rest l.source)).rest)
       × ((m : List ℕ) → g.K.Taker.held l.fn.taker m → g.K.Taker.held l.taker (m ++ passed));
 }
 

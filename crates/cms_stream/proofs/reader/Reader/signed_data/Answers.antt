@@ -20,13 +20,17 @@ returns g c = record {
               let (head, reads_head, ((kept, carries), after_head)) = b.exact.1 t in
               let (signers, reads_signers, (same, after_signers)) = s.exact.1 t1 in (
                 signed_from head.0 signers.0,
-                signed_at _ _ _ head.0 signers.0 (found_at _ head _ reads_head after_head) (found_at _ signers _ reads_signers after_signers)
+                signed_at _ _ _ head.0 signers.0 (found_at _ head _ reads_head after_head)
+                    (found_at _ signers _ reads_signers after_signers)
                     (d.exact.1 (s.telling t1)),
                 (
-                  ap (λ (o : OpenedValue). o.content_type) c.new.ensures ∙ ap (λ (xs : List ℕ). take c.in_ok-count.count xs) c.split_at_mut-front.ensures.front
-                      ∙ take-take c.in_ok-count.count c.whole.result c.before_signers.new.room (omega (arith, c.whole.ensures)) ∙ sym kept,
+                  ap (λ (o : OpenedValue). o.content_type) c.new.ensures
+                      ∙ ap (λ (xs : List ℕ). take c.in_ok-count.count xs) c.split_at_mut-front.ensures.front
+                      ∙ take-take c.in_ok-count.count c.whole.result c.before_signers.new.room
+                      (omega (arith, c.whole.ensures)) ∙ sym kept,
                   ap (λ (o : OpenedValue). o.signers) c.new.ensures ∙ sym same,
-                  carried (Gains (g.K.Taker.held c.args.taker.now) (g.K.Taker.held c.before_signers.new.taker)) _ _ (encapsulated_of head.0).content
+                  carried (Gains (g.K.Taker.held c.args.taker.now) (g.K.Taker.held c.before_signers.new.taker)) _ _
+                      (encapsulated_of head.0).content
                       (ap (λ (o : OpenedValue). o.attached) c.new.ensures) carries,
                 ),
               ),

@@ -15,7 +15,8 @@ returns-in_err-tag_fits g c = record {
       let is : c.from_residual.result ≡ Err c.in_err-tag_fits.field-0.0 = grind (arith, common_steps) in
       rw is (
       handed_over {Y = Unit {0}} {W = List ℕ × OpenSpot}
-      (record { tells = λ t. t; same = refl; faults = λ f t p. tagged_not c.args.tags.now w f p }) {X = Unit {0}} {Z = Unit {0}}
+      (record { tells = λ t. t; same = refl; faults = λ f t p. tagged_not c.args.tags.now w f p }) {X = Unit {0}}
+      {Z = Unit {0}}
       (λ u. u) (λ x y. y.1 ≡ body_to c.args.end (seen c.tag_fits.new.self (g.S.Source.rest c.tag_fits.new.source)))
       c.in_err-tag_fits.field-0.0 _ c.in_err-tag_fits.ensures.exact
       );
@@ -36,7 +37,8 @@ returns-in_err-opaque g c = record {
       (record {
         tells = e.telling;
         same = e.exact.0;
-        faults = λ f t p. tagged_fails c.args.tags.now w _ f (e.exact.1 t) (ap (λ (s : Spot). opaque_openly (body_to c.args.end s)) (sym (e.moved t)) ∙ p);
+        faults = λ f t p. tagged_fails c.args.tags.now w _ f (e.exact.1 t)
+            (ap (λ (s : Spot). opaque_openly (body_to c.args.end s)) (sym (e.moved t)) ∙ p);
       }) {X = Unit {0}} {Z = Unit {0}}
       (λ x y. y.1 ≡ v) (λ x y. y.1 ≡ v) c.in_err-opaque.field-0.0 _ c.in_err-opaque.ensures.exact
       );

@@ -20,7 +20,8 @@ loop-self-preserved g c =
       onward = omega (arith, h.onward, e.at.0);
       failures = e.exact.0 ∙ h.failures;
       telling = λ t. e.telling (h.telling t);
-      moved = λ t. e.moved (h.telling t) ∙ ap (past n) (h.moved t) ∙ past_past c.loop-self.self.at n _ h.onward (omega (arith, e.at.0));
+      moved = λ t. e.moved (h.telling t) ∙ ap (past n) (h.moved t)
+          ∙ past_past c.loop-self.self.at n _ h.onward (omega (arith, e.at.0));
       left = (
         h.left.0 - 1,
         omega (arith, h.left.1, e.at.0),
@@ -41,7 +42,8 @@ returns-in_err-tagged g c = record {
       (record {
         tells = h.telling;
         same = h.failures;
-        faults = λ f t p. after_fault (tagged_openly c.args.tags.now) (tagged_misses c.args.tags.now) _ h.left.0 w f some h.left.1 p (h.left.2 t);
+        faults = λ f t p. after_fault (tagged_openly c.args.tags.now)
+            (tagged_misses c.args.tags.now) _ h.left.0 w f some h.left.1 p (h.left.2 t);
       }) {X = Unit {0}} {Z = Unit {0}}
       (λ x y. y.1 ≡ body_to c.args.end (seen c.tagged.new.self (g.S.Source.rest c.tagged.new.source))) (λ x y. Unit {0})
       c.in_err-tagged.field-0.0 _ c.in_err-tagged.ensures.exact
@@ -56,8 +58,11 @@ returns g c = record {
   exact =
       let h = c.loop-self.invariant in
       let w : OpenSpot = body_to c.args.end (seen c.loop-self.self (g.S.Source.rest c.loop-self.source)) in
-      let none : w.left ≡ 0 = omega (arith, c.loop-self-test.false) in
-      (h.failures, λ t. let r = after_all (tagged_openly c.args.tags.now) (tagged_misses c.args.tags.now) _ h.left.0 w none (h.left.2 t) in (r.0, r.1, tt));
+      let none : w.left ≡ 0 = omega (arith, c.loop-self-test.false) in (
+        h.failures,
+        λ t. let r = after_all (tagged_openly c.args.tags.now)
+            (tagged_misses c.args.tags.now) _ h.left.0 w none (h.left.2 t) in (r.0, r.1, tt),
+      );
   telling = grind (arith, common_steps);
   at = grind (arith, common_steps);
   moved = grind (arith, common_steps);

@@ -11,10 +11,12 @@ invariant-loop-self g l = record {
   onward : l.fn.self.at ≤ l.self.at;
   failures : g.S.Source.failures l.source ≡ g.S.Source.failures l.fn.source;
   telling : g.S.Source.tells l.fn.source → g.S.Source.tells l.source;
-  moved : g.S.Source.tells l.fn.source → seen l.self (g.S.Source.rest l.source) ≡ past l.self.at (seen l.fn.self (g.S.Source.rest l.fn.source));
+  moved : g.S.Source.tells l.fn.source
+      → seen l.self (g.S.Source.rest l.source) ≡ past l.self.at (seen l.fn.self (g.S.Source.rest l.fn.source));
   left : (k : ℕ) × (l.fn.end - l.self.at ≤ k)
       × (g.S.Source.tells l.fn.source
-      → After (tagged_openly l.fn.tags) (many_openly (tagged_openly l.fn.tags) (body_to l.fn.end (seen l.fn.self (g.S.Source.rest l.fn.source)))) k
+      → After (tagged_openly l.fn.tags)
+      (many_openly (tagged_openly l.fn.tags) (body_to l.fn.end (seen l.fn.self (g.S.Source.rest l.fn.source)))) k
       (body_to l.fn.end (seen l.self (g.S.Source.rest l.source))));
 }
 

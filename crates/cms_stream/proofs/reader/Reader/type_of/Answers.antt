@@ -14,7 +14,8 @@ returns-then-not-is_oid-clause-passes g c = record {
       let n = c.new-test.ensures in (
         p.passes.exact.0,
         λ t. rw c.new.ensures
-            (oid_fails w _ (p.passes.exact.1 t) (c.is_oid.ensures (body_of w) (p.taken t [] (n.oid, n.signed_data)).0 ∙ c.if-not-is_oid.true)),
+            (oid_fails w _ (p.passes.exact.1 t)
+            (c.is_oid.ensures (body_of w) (p.taken t [] (n.oid, n.signed_data)).0 ∙ c.if-not-is_oid.true)),
       );
   telling = grind (arith, common_steps);
   at = grind (arith, common_steps);

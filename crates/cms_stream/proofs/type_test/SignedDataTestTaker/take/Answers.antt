@@ -8,5 +8,6 @@ loop-octet-preserved c zs =
     let xs : List ℕ = c.args.octets.now in
     let k : ℕ = c.loop-octet.octet-index in
     c.loop-octet.invariant zs
-    ∙ ap (λ (ys : List ℕ). c.loop-octet.self.same && is_same c.loop-octet.self.left.now ys) (drop_step xs zs k (omega arith))
+    ∙ ap (λ (ys : List ℕ). c.loop-octet.self.same && is_same c.loop-octet.self.left.now ys)
+    (drop_step xs zs k (omega arith))
     ∙ c.step.ensures (drop (k + 1) xs ++ zs)

@@ -10,4 +10,5 @@ returns-clause-joined c =
     c.rest.ensures.rest ∙ there.0 ∙ ap (λ (xs : List (List ℕ)). flat_map (λ x. x) xs) c.self.view_is
 
 pub returns-clause-each : goal.returns-clause-each
-returns-clause-each c = subst (AllByRecursion IsOpaque) c.self.view_is (opaques_there c.self.inside.list c.rest.ensures.octets c.self.invariant.0).1
+returns-clause-each c = subst (AllByRecursion IsOpaque) c.self.view_is
+    (opaques_there c.self.inside.list c.rest.ensures.octets c.self.invariant.0).1

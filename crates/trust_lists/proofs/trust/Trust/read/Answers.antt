@@ -8,6 +8,8 @@ use Rattle.trust_lists.proofs.trust.Trust.read.Goals as goal
 pub invariant_of-result : goal.invariant_of-result
 invariant_of-result c = (
   said_is_good c.args.text.now c.in_ok-entries.entries.items c.in_ok-entries.ensures.found,
-  subst (λ (es : List EntryValue). AreMarked Serial es c.in_ok-serials.serials) c.deref.ensures.value c.in_ok-serials.ensures.found,
-  subst (λ (es : List EntryValue). AreMarked KeyId es c.in_ok-key_ids.key_ids) c.deref-2.ensures.value c.in_ok-key_ids.ensures.found,
+  subst (λ (es : List EntryValue). AreMarked Serial es c.in_ok-serials.serials) c.deref.ensures.value
+      c.in_ok-serials.ensures.found,
+  subst (λ (es : List EntryValue). AreMarked KeyId es c.in_ok-key_ids.key_ids) c.deref-2.ensures.value
+      c.in_ok-key_ids.ensures.found,
 )

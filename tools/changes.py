@@ -32,6 +32,8 @@ CODE = re.compile(
     re.X | re.S,
 )
 BLOCK_MARK = re.compile(r"/\*|\*/")
+# two lines that name definitions of one file
+NAMING_TWICE = re.compile(r"(ghost use [^{};]*\{)([^{};]*)\}; \1([^{};]*\};)")
 STRING = re.compile(r'"(?:[^"\\]|\\.)*"')
 DEFINITION = re.compile(r'"(?:[^"\\]|\\.)*"|(?P<comment>(?<!\S)--(?!\S).*)|(?P<space>\s+)|.')
 
@@ -90,7 +92,8 @@ def end_of_block(text, at):
 
 
 def code_meaning(text):
-    """Code without its comments, and with one blank for white space outside of literals."""
+    """Code without its comments, with one blank for white space outside of literals, and with one line for several in which one
+    file's definitions are named."""
     parts, at = [], 0
     while at < len(text):
         found = CODE.match(text, at)
@@ -99,7 +102,10 @@ def code_meaning(text):
         parts.append(" " if is_blank else found.group())
         if is_blank and parts[-2:-1] == [" "]:
             parts.pop()
-    return "".join(parts).strip()
+    said, count = "".join(parts).strip(), 1
+    while count:
+        said, count = NAMING_TWICE.subn(r"\1\2, \3", said)
+    return said
 
 
 def line_meaning(line):

@@ -1,16 +1,16 @@
 #!/usr/bin/env python3
-"""api.py [--check | --write | --all [CRATE ..] | --words]: the public calls of the crates, their clauses and their plain words.
+"""api.py [--check | --write | --all [CRATE ..] | --laws | --words]: the public calls of the crates, their clauses and their plain words.
 
 The words stand in the code: the lines of `//` directly above a clause. A clause without them takes the first sentence of
 the call's `///`. docs/PROVED.md has lists of calls, between `<!-- api: CRATE -->` and `<!-- end -->`, a line for each clause. A
-list has what a user or an auditor names: the laws of rules and verdicts, the functions that cmsproof_api exports, the methods of VERBS and
-of traits that its types have, the crates of WHOLE and the calls of READS. It has no worked rows, no texts, no laws of the crates of
-BELOW, nothing of LEFT_OUT and no clause of DEVICES; --all prints them. A sentence that stands at an earlier clause of this name is told
-once, and so is what two calls say alike but for one phrase.
+list has what a user or an auditor names: the functions that cmsproof_api exports, the methods of VERBS and of traits that its types
+have, the crates of WHOLE and the calls of READS. It has no laws, no worked rows, no texts, nothing of LEFT_OUT and no clause of DEVICES.
+A sentence that stands at an earlier clause of this name is told once, and so is what two calls say alike but for one phrase.
 
   --write   writes the lists anew; status 1 if something is left to mend by hand
   --check   says whether they are up to date; status 1 and the command that mends them if not
   --all     prints every public call that has clauses, with all of them, of all crates or of these
+  --laws    prints the laws of all crates, which say what holds of definitions
   --words   lists the clauses without words of their own, in calls that have several clauses or no `///`
 """
 import os.path
@@ -27,18 +27,6 @@ STALE = "the list of "
 DOOR = "cmsproof_api"
 WHOLE = ("check_names", "cli_commands", "cli_files")
 VERBS = ("read", "write", "make", "ask")  # what the methods are called that read, write and make whole values, and that ask
-# the crates whose laws are about types and readings: the document says what they are about
-BELOW = (
-    "der_core",
-    "der_grammar",
-    "digests",
-    "der_time",
-    "cert_types",
-    "tsp_types",
-    "ess_types",
-    "cms_types",
-    "cms_stream_laws",
-)
 DEVICES = ("telling",)  # the clauses that say of a device what the document says of all
 READS = ("Certificate::read", "SigningCert::read_v1", "SigningCert::read_v2", "cmsproof_check", "cmsproof_check_token")
 # devices, verifiers for tests, parts of other types, calls that judge nothing, and those of cli_commands that cli_files makes
@@ -282,12 +270,13 @@ def exported(top):
 def is_told(call, names):
     """Whether the document has the words of a call's clauses."""
     known = names.get(call.crate, ())
-    if call.is_rows or (call.owner or call.path) in LEFT_OUT or call.trait in TEXTS or call.trait.startswith("From"):
+    if call.is_law or call.is_rows or (call.owner or call.path) in LEFT_OUT:
+        return False
+    if call.trait in TEXTS or call.trait.startswith("From"):
         return False
     verb = call.demanded or call.path.rpartition("::")[2] in VERBS
     exported = call.owner in known and verb if call.owner else call.path in known
-    law = call.is_law and call.crate not in BELOW
-    return law or call.crate in WHOLE or call.path in READS or exported
+    return call.crate in WHOLE or call.path in READS or exported
 
 
 def names_of(calls):
@@ -373,11 +362,11 @@ def lists_of(top, text):
     return {crate: listed(told_of(top, crate, names), told) for crate in crates}
 
 
-def all_calls(top, crates):
-    """The lines of every public call of these crates, each crate below its name."""
+def all_calls(top, crates, laws=False):
+    """The lines of every public call of these crates, or of the laws alone, each crate below its name."""
     lines = []
     for crate in crates:
-        found = listed(public_calls(top, crate), {})
+        found = listed([call for call in public_calls(top, crate) if call.is_law or not laws], {})
         lines += ["", f"## {crate}", "", *found] if found else []
     return lines[1:]
 
@@ -450,6 +439,8 @@ def run(top, words):
         return told(top)
     if words[:1] == ["--all"] and set(words[1:]) <= set(crates_of(top)):
         print("\n".join(all_calls(top, words[1:] or crates_of(top))))
+    elif words == ["--laws"]:
+        print("\n".join(all_calls(top, crates_of(top), laws=True)))
     elif words == ["--words"]:
         for crate, call, clause in all_wordless(top):
             print(crate, call.file, call.path, clause.name, sep="\t")

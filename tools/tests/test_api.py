@@ -7,7 +7,6 @@ import sys
 import tempfile
 import unittest
 from pathlib import Path
-from unittest import mock
 
 TOP = Path(__file__).resolve().parent.parent.parent
 sys.path.insert(0, str(TOP / "tools"))
@@ -219,12 +218,12 @@ class Lists(unittest.TestCase):
             with self.subTest(case):
                 self.assertEqual(self.told(text=text), paths)
 
-    def test_what_is_below(self):
+    def test_laws(self):
         self.put("crates/cups/src/lib.rt", ROOT.replace("open;", "tea_laws;"))
         holds = "/// It holds.\npub fn tea_holds() -> u8\n    ensures { x }\n" + BODY
-        self.assertEqual(self.told("tea_laws.rt", holds), ["tea_holds"])
-        with mock.patch.object(api, "BELOW", ("cups",)):
-            self.assertEqual(self.told("tea_laws.rt", holds), [])
+        self.assertEqual(self.told("tea_laws.rt", holds), [])
+        self.put("crates/cups/src/cups.rt", LISTS[0][1])
+        self.assertEqual(self.ended("--laws"), (0, "## cups\n\n- `tea_holds`: It holds.\n"))
 
     def test_clauses_of_devices(self):
         text = "/// Fills it.\npub fn fill()\n    ensures telling { x }\n    // It is full.\n    ensures full { x }\n" + BODY
@@ -235,8 +234,6 @@ class Lists(unittest.TestCase):
     def test_not_of_the_door(self):
         spill = "/// Spills it.\npub fn spill() -> u8\n    ensures { x }\n" + BODY
         self.assertEqual((self.told("open.rt", spill), self.lines("open.rt", spill)), ([], ["- `spill`: Spills it."]))
-        self.put("crates/cups/src/lib.rt", ROOT.replace("open;", "tea_laws;"))
-        self.assertEqual(self.told("tea_laws.rt", spill), ["spill"])
 
     def test_what_is_left_out(self):
         (name, *_) = api.LEFT_OUT
@@ -319,7 +316,7 @@ class Lists(unittest.TestCase):
 
     def test_what_the_tool_names_is_there(self):
         calls = {crate: api.public_calls(TOP, crate) for crate in api.crates_of(TOP)}
-        self.assertEqual([crate for crate in (*api.WHOLE, *api.BELOW) if not calls.get(crate)], [])
+        self.assertEqual([crate for crate in api.WHOLE if not calls.get(crate)], [])
         names = {clause.name for found in calls.values() for call in found for clause in call.clauses}
         self.assertEqual(set(api.DEVICES) - names, set())
         paths = {call.path for found in calls.values() for call in found}

@@ -1,9 +1,8 @@
-ghost use Rattle.std.specs.Prelude.{◌≡◌, ◌==◌, ◌∷◌, [], length, Ok, IsOk, MatchOption};
-ghost use Rattle.der_core.specs.Reading.{Gives, within};
-ghost use Rattle.der_lists.specs.Items.{all_in, IsList};
+ghost use Rattle.std.specs.Prelude.{◌≡◌, ◌==◌, ◌∷◌, [], length, IsOk, IsTrue, MatchOption};
+ghost use Rattle.der_core.specs.Reading.{Gives};
 ghost use Rattle.std.specs.List.{AllByRecursion};
 ghost use Rattle.cms_types.specs.AttributeValue.{attributes_parts, GoodAttribute};
-ghost use Rattle.cms_types.specs.AttributeReading.{attribute_in, attributes_in, signed_attributes_in};
+ghost use Rattle.cms_types.specs.AttributeReading.{attributes_in, signed_attributes_in};
 ghost use Rattle.cms_types.specs.OfType.{EntersFirst};
 
 use crate::attribute::{Attribute, count_of, enter_first};
@@ -37,47 +36,32 @@ impl<'a> Model for Attributes<'a> {
 }
 
 impl<'a> Attributes<'a> {
-    // The attributes from the cursor to the end of its body, in any order.
-    pub(crate) fn read(list: Cursor<'a>) -> Result<Attributes<'a>, Fault>
+    // The attributes from the cursor to the end of its body, in any order. AGAIN: they were read before, and are only
+    // counted.
+    pub(crate) fn read<const AGAIN: bool>(list: Cursor<'a>) -> Result<Attributes<'a>, Fault>
+        requires { IsTrue AGAIN → IsOk (attributes_in list) }
         ensures { Gives (λ a. a) result (attributes_in list.entry) }
     {
-        let count = scan_items::<Attribute>(&list)?;
+        let count = if AGAIN {
+            count_of(&list)
+        } else {
+            scan_items::<Attribute>(&list)?
+        };
         Ok(Attributes { list, count })
     }
 
     // As `read`, but the attributes, and the values of each, must also be in ascending order (X.690 11.6).
-    pub(crate) fn read_signed(list: Cursor<'a>) -> Result<Attributes<'a>, Fault>
+    pub(crate) fn read_signed<const AGAIN: bool>(list: Cursor<'a>) -> Result<Attributes<'a>, Fault>
+        requires { IsTrue AGAIN → IsOk (signed_attributes_in list) }
         ensures { Gives (λ a. a) result (signed_attributes_in list.entry) }
     {
         let _rest = list.rest();
-        let count = scan_ordered::<SignedAttribute>(&list)?;
+        let count = if AGAIN {
+            count_of(&list)
+        } else {
+            scan_ordered::<SignedAttribute>(&list)?
+        };
         Ok(Attributes { list, count })
-    }
-
-    // The attributes of a list that was tested before.
-    fn tested(list: Cursor<'a>) -> Attributes<'a>
-        requires { IsList (within 0x30 attribute_in) list }
-        ensures { result ≡ all_in (within 0x30 attribute_in) list.entry }
-    {
-        let count = count_of(&list);
-        Attributes { list, count }
-    }
-
-    // As `read`, of a list that was read before.
-    pub(crate) fn read_again(list: Cursor<'a>) -> Attributes<'a>
-        requires { IsOk (attributes_in list) }
-        ensures { attributes_in list.entry ≡ Ok result }
-    {
-        Attributes::tested(list)
-    }
-
-    // As `read_signed`, of a list that was read before.
-    pub(crate) fn read_signed_again(list: Cursor<'a>) -> Attributes<'a>
-        requires { IsOk (signed_attributes_in list) }
-        ensures { signed_attributes_in list.entry ≡ Ok result }
-    {
-        let _rest = list.rest();
-        Attributes::tested(list)
     }
 
     // The empty list.

@@ -1,4 +1,4 @@
-ghost use Rattle.std.specs.Prelude.{◌≡◌, option_map};
+ghost use Rattle.std.specs.Prelude.{◌≡◌, IsOk, IsTrue, option_map};
 ghost use Rattle.der_core.specs.Reading.{Moves, maybe_filled};
 ghost use Rattle.cms_types.specs.AttributeReading.{signed_attributes_in};
 ghost use Rattle.cms_types.specs.AttributeValue.{tail_of};
@@ -8,13 +8,13 @@ use der_core::{Cursor, Fault, Kind};
 use std::marker::Model;
 
 /// The identifier octet of signed attributes, `[0] IMPLICIT` (RFC 5652 5.3).
-pub(crate) const SIGNED_ATTRIBUTES: u8 = 0xa0;
+const SIGNED_ATTRIBUTES: u8 = 0xa0;
 
 // The signed attributes of a signer, and their octets from the length octets on.
 #[derive(Debug, Drop)]
 pub(crate) struct SignedAttributes<'a> {
-    pub(crate) tail: &'a [u8],
-    pub(crate) list: Attributes<'a>,
+    tail: &'a [u8],
+    list: Attributes<'a>,
 }
 
 impl<'a> Model for SignedAttributes<'a> {
@@ -29,8 +29,11 @@ impl<'a> Model for SignedAttributes<'a> {
 }
 
 impl<'a> SignedAttributes<'a> {
-    // The signed attributes at the cursor, if there are any.
-    pub(crate) fn read(parts: &mut Cursor<'a>) -> Result<Option<SignedAttributes<'a>>, Fault>
+    // The signed attributes at the cursor, if there are any. AGAIN: they were read before.
+    pub(crate) fn read<const AGAIN: bool>(
+        parts: &mut Cursor<'a>,
+    ) -> Result<Option<SignedAttributes<'a>>, Fault>
+        requires { IsTrue AGAIN → IsOk (maybe_filled 0xa0 signed_attributes_in parts.old) }
         ensures { Moves (option_map (λ a. a)) result parts.old parts.new
             (maybe_filled 0xa0 signed_attributes_in parts.old) }
     {
@@ -43,7 +46,7 @@ impl<'a> SignedAttributes<'a> {
             return Err(Fault::new(Kind::Empty, parts.position()));
         }
         let (_, tail) = element.whole.split_at(1);
-        let list = Attributes::read_signed(inside)?;
+        let list = Attributes::read_signed::<AGAIN>(inside)?;
         *parts = ahead;
         Ok(Some(SignedAttributes { tail, list }))
     }

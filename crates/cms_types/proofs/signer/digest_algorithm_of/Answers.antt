@@ -3,7 +3,7 @@ use Rattle.der_core.specs.Seen.{seen}
 use Rattle.der_core.specs.Values.{AlgorithmValue}
 use Rattle.der_core.proofs.ReadLengths.{ok_fst}
 use Rattle.cms_types.proofs.DigestAlgorithm.{no_version, no_sid, algorithm_there}
-use Rattle.cms_types.proofs.signer_again.digest_algorithm_of.Goals as goal
+use Rattle.cms_types.proofs.signer.digest_algorithm_of.Goals as goal
 
 pub returns-in_err-_version : goal.returns-in_err-_version
 returns-in_err-_version c = λ s read. absurd (no_version c.args.parts s c.in_err-_version.field-0.0 read c.in_err-_version.ensures.exact.0)

@@ -3,8 +3,9 @@
 
     changes.py COMMIT CRATE ..   a line for each crate and file: CRATE PATH, and whether it is its own, or of a library below
 
-Comments, white space and proofs don't count: of code (.rt) and definitions (.antt) what is left without comments is compared,
-of an edit the lines that are read. What can't be told apart for sure counts as a change. `soak.py` uses this.
+Comments, white space and proofs don't count, nor whether a line goes on in the next one, further in by four, or a list of
+names in a second `use`: of code (.rt) and definitions (.antt) what is left without comments is compared, of an edit the lines
+that are read. What can't be told apart for sure counts as a change. `soak.py` uses this.
 """
 
 import argparse
@@ -32,9 +33,8 @@ CODE = re.compile(
     re.X | re.S,
 )
 BLOCK_MARK = re.compile(r"/\*|\*/")
-# two lines that name definitions of one file
-NAMING_TWICE = re.compile(r"(ghost use [^{};]*\{)([^{};]*)\}; \1([^{};]*\};)")
-STRING = re.compile(r'"(?:[^"\\]|\\.)*"')
+USE = re.compile(r"^((?:pub |unfoldable |ghost )*use [\w.]+\{)([^{}]*)(\};?)$", re.M)
+FURTHER = 4  # how much further in rt fmt sets a line that goes on; what stands in a block is further in by two
 DEFINITION = re.compile(r'"(?:[^"\\]|\\.)*"|(?P<comment>(?<!\S)--(?!\S).*)|(?P<space>\s+)|.')
 
 
@@ -91,10 +91,19 @@ def end_of_block(text, at):
     return len(text)
 
 
+def each_used(text):
+    """A text whose `use` lines have one name each."""
+
+    def alone(found):
+        begins, names, ends = found.groups()
+        return "\n".join(begins + name.strip() + ends for name in names.split(",") if name.strip())
+
+    return USE.sub(alone, text)
+
+
 def code_meaning(text):
-    """Code without its comments, with one blank for white space outside of literals, and with one line for several in which one
-    file's definitions are named."""
-    parts, at = [], 0
+    """Code without its comments, and with one blank for white space outside of literals."""
+    parts, at, text = [], 0, each_used(text)
     while at < len(text):
         found = CODE.match(text, at)
         at = end_of_block(text, at) if found.group("block") else found.end()
@@ -102,10 +111,7 @@ def code_meaning(text):
         parts.append(" " if is_blank else found.group())
         if is_blank and parts[-2:-1] == [" "]:
             parts.pop()
-    said, count = "".join(parts).strip(), 1
-    while count:
-        said, count = NAMING_TWICE.subn(r"\1\2, \3", said)
-    return said
+    return "".join(parts).strip()
 
 
 def line_meaning(line):
@@ -118,37 +124,20 @@ def line_meaning(line):
     return indentation + "".join(parts).rstrip() if "".join(parts).strip() else ""
 
 
-def is_mark(word):
-    """Whether a word is an operator or a bracket, or begins or ends with one, so that no line can begin or end at it."""
-    return not (word[0].isalnum() or word[0] in "_\"'◌")
-
-
-def is_open(line):
-    """Whether more brackets open in a line than close."""
-    rest = STRING.sub("", line)
-    return sum(rest.count(mark) for mark in "([{") > sum(rest.count(mark) for mark in ")]}")
-
-
-def joined(lines):
-    """The lines, each with those behind it that only go on with it: that are indented deeper, and that either stand in a
-    bracket that it opens, or follow or begin with an operator. Where such a line is broken has no meaning."""
-    found = []
-    for line in lines:
-        last = found[-1] if found else ""
-        is_deeper = last and len(line) - len(line.lstrip()) > len(last) - len(last.lstrip())
-        if is_deeper and (is_open(last) or is_mark(line.split()[0]) or is_mark(last.split()[-1][::-1])):
-            found[-1] = f"{last} {line.lstrip()}"
-        else:
-            found.append(line)
-    return found
-
-
 def definition_meaning(text):
-    """Definitions without their comments and empty lines. Their indentation has a meaning, so it is kept, but for lines that
-    only go on with the one before. A text in which a comment `{- .. -}` may be is kept whole."""
+    """Definitions without their comments and empty lines, and each line with those that it goes on in. Their indentation has a
+    meaning, so it is kept. A text in which a comment `{- .. -}` may be is kept whole."""
     if "{-" in text:
         return text
-    return "\n".join(joined(line for line in map(line_meaning, text.split("\n")) if line))
+    lines, begun = [], 0
+    for line in filter(None, map(line_meaning, each_used(text).split("\n"))):
+        indentation = len(line) - len(line.lstrip())
+        if lines and indentation >= begun + FURTHER:
+            lines[-1] += " " + line.lstrip()
+        else:
+            lines.append(line)
+            begun = indentation
+    return "\n".join(lines)
 
 
 def edit_meaning(text):

@@ -140,14 +140,13 @@ class Meanings(unittest.TestCase):
         (".rt", "f::<'a>(x) // '\n;", "f::<'a>(x) ;"),
         (".rt", "f('\\'', \"\\\"\") // a", "f('\\'', \"\\\"\")"),
         (".rt", 'r#"a"b"# // c', 'r#"a"b"#'),
-        (".rt", "ghost use a.{b, c};\nghost use a.{d};\nghost use a.{e};", "ghost use a.{b, c, d, e};"),
         (".antt", "-- a\nb = c -- d\n\n", "b = c\n"),
         (".antt", "a  =  b", "a = b"),
         (".antt", 'a = "\\"" -- b', 'a = "\\""'),
         (".antt", "  -- a\n  -- ---- b\nc", "c"),
-        (".antt", "a : b →\n    c", "a : b → c"),
-        (".antt", "a : (b : c)\n    -- d\n    → e\n  = f", "a : (b : c) → e = f"),
-        (".antt", "use a.{b,\n  c}", "use a.{b, c}"),
+        (".antt", "a : b\n    → c\n    → d\ne", "a : b → c → d\ne"),
+        (".antt", "use a.{b, c}", "use a.{b}\nuse a.{c}"),
+        (".rt", "ghost use a.{b, c};", "ghost use a.{b};\nghost use a.{c};"),
         (".edit", "a\nfile: b\nold: c\nnew: d\n", "file: b\nold: c\nnew: d"),
     ]
     OTHER = [
@@ -164,17 +163,14 @@ class Meanings(unittest.TestCase):
         (".rt", "// a /*\nb", "// a /*\nc"),
         (".rt", "#[a]\nb", "#[c]\nb"),
         (".rt", "a & & b", "a && b"),
-        (".rt", "ghost use a.{b};\nghost use c.{d};", "ghost use a.{b, d};"),
-        (".rt", "use a.{b};\nuse a.{d};", "use a.{b, d};"),
         (".rt", "n+n", "n + n"),
         (".antt", "a = 1", "a = 2"),
         (".antt", 'a = "b -- c"', 'a = "b -- d"'),
         (".antt", 'a = "b  c"', 'a = "b c"'),
         (".antt", "a\n  b", "a\nb"),
-        (".antt", "a →\nb", "a → b"),
-        (".antt", "a = b\n  c = d", "a = b c = d"),
-        (".antt", "a where\n  ◌+◌ : b", "a where ◌+◌ : b"),
-        (".antt", 'a "("\n  b', 'a "(" b'),
+        (".antt", "a\n  b", "a b"),
+        (".antt", "use a.{b, c}", "use a.{b}\nuse d.{c}"),
+        (".rt", "ghost use a.{b, c};", "ghost use a.{b};"),
         (".antt", "a--b c", "a--b d"),
         (".antt", "a --b", "a --c"),
         (".antt", "{- -- -} a", "{- -- -} b"),
@@ -473,9 +469,8 @@ class Gate(Repository):
         for name in ("Makefile", ".ci/run", "tools/jobs.sh", "tools/proofs.sh"):
             (self.top / name).parent.mkdir(exist_ok=True)
             shutil.copy(TOOLS.parent / name, self.top / name)
-        # in place of what compares dist/ and PROVED with the sources, of what builds and tries the program, and of what counts
-        stood_in = ("dist.py", "api.py", "lines.py", "sources.sh", "build.sh", "program_rows.py", "instructions.py")
-        self.put({f"tools/{name}": "" for name in stood_in})
+        # in place of what compares dist/ and PROVED with the sources, and of what builds and tries the program
+        self.put({f"tools/{name}": "" for name in ("dist.py", "api.py", "sources.sh", "build.sh", "program_rows.py")})
         self.commit("the gate")
         self.soaked()
         low = "crates/low/must-fail/two.edit"

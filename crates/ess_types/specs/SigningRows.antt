@@ -53,12 +53,15 @@ pub record SigningRows : Type 0 where
   pub first_of_chain : first_id chain_by_sha1.ids ≡ Some (id None (hex "c9837c9712a431852ef9dc5897690a291514442c") None)
   -- OpenSSL's, of version 2: SHA-384; SHA-512/256 with a chain; no algorithm
   pub by_sha384 : EncodesSigningCertificateV2
-      (hex "3043 3041 303f 300b 0609 608648016503040202 0430 b719abf91c93b2a97c29112c3ee0bc5e921bf1a71e85fcf5ddbd17c67a0ef9473475c9d38efcedf00a04f1c32b5c01c6")
+      (hex "3043 3041 303f 300b 0609 608648016503040202 0430"
+      ++ hex "b719abf91c93b2a97c29112c3ee0bc5e921bf1a71e85fcf5ddbd17c67a0ef9473475c9d38efcedf00a04f1c32b5c01c6")
       (of (id (Some (alone sha384))
       (hex "b719abf91c93b2a97c29112c3ee0bc5e921bf1a71e85fcf5ddbd17c67a0ef9473475c9d38efcedf00a04f1c32b5c01c6")
       None ∷ []))
   pub by_sha512_256 : EncodesSigningCertificateV2
-      (hex "3081a5 3081a2 302f 300b 0609 608648016503040206 0420 d1729bdbaf216d6747d828b3172c1de6d92540ba4f1a7d1183e51a7ea2ce3891 306f 300b 0609 608648016503040206 0420 1f576ac65dddb3fa71a3cd8c3de214360a5465f6f8046089879f4bda049ea6fa"
+      (hex "3081a5 3081a2 302f 300b 0609 608648016503040206 0420"
+      ++ hex "d1729bdbaf216d6747d828b3172c1de6d92540ba4f1a7d1183e51a7ea2ce3891 306f 300b 0609 608648016503040206 0420"
+      ++ hex "1f576ac65dddb3fa71a3cd8c3de214360a5465f6f8046089879f4bda049ea6fa"
       ++ under_root_spelled)
       (of (id (Some (alone sha512_256)) (hex "d1729bdbaf216d6747d828b3172c1de6d92540ba4f1a7d1183e51a7ea2ce3891") None
       ∷ id (Some (alone sha512_256)) (hex "1f576ac65dddb3fa71a3cd8c3de214360a5465f6f8046089879f4bda049ea6fa")

@@ -30,6 +30,8 @@ no_signature (Some a) (Some b) None d = refl
 no_signature (Some a) (Some b) (Some c) None = refl
 no_signature (Some a) (Some b) (Some c) (Some d) = refl
 
+pub ruleset missing_field = (no_key, no_digest_alg, no_signature_alg, no_tail, no_signature)
+
 -- five fields state a question where each is pairs of digits
 pub all_pairs : (a b c d e : Result (List ℕ) FromHexError)
     → is_some (asked_of_fields (result_ok a) (result_ok b) (result_ok c) (result_ok d) (result_ok e))

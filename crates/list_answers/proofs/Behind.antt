@@ -20,6 +20,8 @@ pub behind_more : (qs rs : List Asked) (r : Result (List Asked) AnswersFault)
 behind_more qs rs (Ok others) = ap Ok (append_assoc qs rs others)
 behind_more qs rs (Err f) = refl
 
+pub ruleset in_front = (behind_none, behind_all, behind_more)
+
 -- these questions are stated before the lines that are left
 abbrev pub Before : (all left : List NumberedLine) → Type 0
 Before all left = (qs : List Asked) × (asked_of_lines all ≡ behind qs (asked_of_lines left))

@@ -33,7 +33,7 @@ fn digits_of(word: &[u8]) -> Option<&[u8]>
 }
 
 /// The fields of a line of five. Their digits aren't tested.
-#[tactic(auto, using(crate::proofs::AskedFields::no_key, crate::proofs::AskedFields::no_digest_alg, crate::proofs::AskedFields::no_signature_alg, crate::proofs::AskedFields::no_tail, crate::proofs::AskedFields::no_signature))]
+#[tactic(auto, using(crate::proofs::AskedFields::missing_field))]
 pub(crate) fn fields_of(line: &[u8]) -> Option<Fields<'_>>
     ensures { line_asked result ≡ asked_of line.now }
 {

@@ -142,7 +142,7 @@ fn states(line: &[u8]) -> bool
 }
 
 // Tests that each line states a question. It takes no memory.
-#[tactic(auto, using(crate::proofs::Behind::behind_none, crate::proofs::Behind::behind_all, crate::proofs::Behind::behind_more))]
+#[tactic(auto, using(crate::proofs::Behind::in_front))]
 fn test(lines: &Lines<'_>) -> Result<(), AnswersFault>
     ensures tested { MatchResult result (λ _. IsOk (asked_of_lines lines.now)) (λ f. asked_of_lines lines.now ≡ Err f) }
     ensures line { IfErr result (λ f. f.rule ≡ AnswersRule.Line) }
@@ -198,7 +198,7 @@ fn add(alloc: Global, line: &[u8], found: &mut Vec<Vouched>) -> Result<bool, All
 }
 
 // The questions of lines, in their order.
-#[tactic(auto, using(crate::proofs::Behind::behind_none, crate::proofs::Behind::behind_all, crate::proofs::Behind::behind_more))]
+#[tactic(auto, using(crate::proofs::Behind::in_front))]
 fn asked_of_lines(alloc: Global, lines: Lines<'_>) -> Result<Vec<Vouched>, AnswersFault>
     ensures found { IfOk result (λ v. asked_of_lines lines.entry ≡ Ok v.items) }
     ensures refused { IfErr result (λ f. (f ≡ record { rule = AnswersRule.OutOfMemory; line = 0 })

@@ -2,6 +2,7 @@
 use Rattle.std.proofs.Common.{◌≡◌, ℕ, List, [], ◌∷◌, ◌++◌, length, Ok, refl, sym, ap, subst, ◌∙◌, append-nil, arith}
 use Rattle.hex.specs.Hex.{encode_with, encode_lower}
 use Rattle.devices.specs.Device.{Wrote}
+use Rattle.devices.proofs.Putting.{wrote_next, wrote_part}
 
 -- nothing is put of nothing
 pub wrote_none : (u : Unit {0}) (tells : Type 0) (t : List ℕ) (c : ℕ) → Wrote (Ok u) tells t t c c []
@@ -15,6 +16,8 @@ digits_first b bs = refl
 pub no_digits : encode_lower [] ≡ []
 unfolding encode_with
 no_digits = refl
+
+pub ruleset digit_by_digit = (wrote_next, wrote_part, wrote_none, digits_first, no_digits)
 
 -- ---- octets as digits
 

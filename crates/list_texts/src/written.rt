@@ -72,7 +72,7 @@ fn put_pair<S: Sink>(sink: &mut S, pair: [u8; 2]) -> Result<(), SinkFault>
 /// Writes octets as digits in lower case, two for each (RFC 4648 8).
 ///
 /// Errors: `SinkFault` if the sink fails; then only a beginning of the digits was written.
-#[tactic(auto, using(devices::proofs::Putting::wrote_next, devices::proofs::Putting::wrote_part, crate::proofs::Puts::wrote_none, crate::proofs::Puts::digits_first, crate::proofs::Puts::no_digits))]
+#[tactic(auto, using(crate::proofs::Puts::digit_by_digit))]
 pub fn put_digits<S: Sink>(sink: &mut S, octets: &[u8]) -> Result<(), SinkFault>
     // Writes two digits in lower case for each octet, or after a fault, which is counted, a beginning of them.
     ensures wrote { Wrote result (S.tells sink.old) (S.taken sink.old) (S.taken sink.new) (S.failures sink.old)

@@ -15,7 +15,8 @@ abbrev pub abc_by_sha512 : ImprintValue
 abc_by_sha512 = record {
   algorithm = with_null sha512;
   digest =
-      hex "ddaf35a193617abacc417349ae20413112e6fa4e89a97ea20a9eeee64b55d39a 2192992a274fc1a836ba3c23a3feebbd454d4423643ce80e2a9ac94fa54ca49f";
+      hex "ddaf35a193617abacc417349ae20413112e6fa4e89a97ea20a9eeee64b55d39a"
+      ++ hex "2192992a274fc1a836ba3c23a3feebbd454d4423643ce80e2a9ac94fa54ca49f";
 }
 
 -- the policies 2.999.3 and 2.999.4
@@ -71,7 +72,8 @@ pub record TstRows : Type 0 where
       })
   -- OpenSSL's: SHA-1 without parameters, thousandths alone, a nonce whose contents begin with 00
   pub thousandths : EncodesTst
-      (hex "304f 0201 01 0603 883703 3021 3009 0605 2b0e03021a 0500 0414 a9993e364706816aba3e25717850c26c9cd0d89d 0201 0d 180f"
+      (hex "304f 0201 01 0603 883703 3021 3009 0605 2b0e03021a 0500 0414 a9993e364706816aba3e25717850c26c9cd0d89d"
+      ++ hex "0201 0d 180f"
       ++ codes "20261123001628Z"
       ++ hex "3003 8001 05 0209 00f01b1a919ff67921")
       (record {
@@ -87,7 +89,9 @@ pub record TstRows : Type 0 where
       })
   -- OpenSSL's: SHA-512, millionths in the time, seconds alone, TRUE for ordering
   pub fraction : EncodesTst
-      (hex "307f 0201 01 0603 883704 3051 300d 0609 608648016503040203 0500 0440 ddaf35a193617abacc417349ae20413112e6fa4e89a97ea20a9eeee64b55d39a 2192992a274fc1a836ba3c23a3feebbd454d4423643ce80e2a9ac94fa54ca49f 0201 0a 1816"
+      (hex "307f 0201 01 0603 883704 3051 300d 0609 608648016503040203 0500 0440"
+      ++ hex "ddaf35a193617abacc417349ae20413112e6fa4e89a97ea20a9eeee64b55d39a"
+      ++ hex "2192992a274fc1a836ba3c23a3feebbd454d4423643ce80e2a9ac94fa54ca49f 0201 0a 1816"
       ++ codes "20261123001609.965918Z" ++ hex "3004 0202 012c 0101 ff")
       (record {
         policy = policy_4;

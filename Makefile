@@ -70,11 +70,11 @@ check:
 	@$(NEED_RT)
 	@rt all check
 
-# The whole gate: whether dist/ says that it is of these sources, and docs/PROVED.md has the clauses of their calls; the edits that are
-# owed because something changed that they stand on; every proof (from nothing, unless this machine proved the same text before), the
-# edits that the gate keeps, none of them bad, the tests, the program as two compilers build it; then whether dist/ is what those
-# proved sources compile to, the rows of the tests on the program that is built from it, what jobs of it cost, and rows on aarch64's
-# if it can be emulated.
+# The whole gate: whether dist/ says that it is of these sources, docs/PROVED.md has the clauses of their calls, and none of their lines
+# is too wide; the edits that are owed because something changed that they stand on; every proof (from nothing, unless this machine proved
+# the same text before), the edits that the gate keeps, none of them bad, the tests, the program as two compilers build it; then whether
+# dist/ is what those proved sources compile to, the rows of the tests on the program that is built from it, what jobs of it cost, and rows
+# on aarch64's if it can be emulated.
 # RT_JOBS=N has N checks run side by side, SOAK_MINUTES=N gives the edits that are owed N minutes. Without `rt`, what can be done
 # without it.
 ifeq ($(shell command -v rt 2> /dev/null),)
@@ -86,6 +86,7 @@ test:
 	sources=$$(sh tools/sources.sh) && \
 	$(PYTHON) tools/dist.py begin && \
 	$(PYTHON) tools/api.py --check && \
+	$(PYTHON) tools/lines.py --check && \
 	$(PYTHON) tools/soak.py --changed --minutes $(or $(SOAK_MINUTES),40) --jobs "$$jobs" && \
 	began=$$(date +%s) && \
 	RT_JOBS=$$jobs sh tools/proofs.sh && \

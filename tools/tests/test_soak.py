@@ -470,7 +470,8 @@ class Gate(Repository):
             (self.top / name).parent.mkdir(exist_ok=True)
             shutil.copy(TOOLS.parent / name, self.top / name)
         # in place of what compares dist/ and PROVED with the sources, and of what builds and tries the program
-        self.put({f"tools/{name}": "" for name in ("dist.py", "api.py", "sources.sh", "build.sh", "program_rows.py")})
+        scripts = ("dist.py", "api.py", "lines.py", "sources.sh", "build.sh", "program_rows.py", "instructions.py")
+        self.put({f"tools/{name}": "" for name in scripts})
         self.commit("the gate")
         self.soaked()
         low = "crates/low/must-fail/two.edit"
@@ -480,6 +481,7 @@ class Gate(Repository):
             ({"tools/build.sh": "echo no compiler; exit 1", "tools/program_rows.py": ""}, 1, [], "no compiler", True),
             ({"tools/build.sh": "", low: "file: src/lib.rt\nold: 1\nnew: 7\n"}, 0, ["low"], "3 passed, 0 failed", True),
             ({low: "file: src/lib.rt\nold: 1\nnew: harmless\n"}, 1, ["low"], "soak: not refused or not tried, of: low", False),
+            ({"tools/lines.py": "raise SystemExit('a line is wide')"}, 1, [], "a line is wide", False),
             ({"tools/api.py": "raise SystemExit('a table is stale')"}, 1, [], "a table is stale", False),
             ({"tools/dist.py": "raise SystemExit('dist/ is of other sources')"}, 1, [], "dist/ is of other sources", False),
         ]

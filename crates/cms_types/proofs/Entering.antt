@@ -16,7 +16,8 @@ module _ {A : Type 0} (tag : ℕ) (inside : Spot → Result A Fault) where
   read_in c after = inside c >>= λ a. Ok (a, after)
 
   -- there is a heading unless the list is at its end
-  pub not_entered : (s : Spot) (f : Fault) → IsBytes s.rest → eqb (length s.rest) 0 ≡ false → enter_at tag s ≡ Err f → IsList (within tag inside) s → ⊥
+  pub not_entered : (s : Spot) (f : Fault) → IsBytes s.rest → eqb (length s.rest) 0 ≡ false → enter_at tag s ≡ Err f
+      → IsList (within tag inside) s → ⊥
   not_entered s f fits some e h =
       no_item_faulty (within tag inside) (within_shorter tag inside) s f fits some
       (ap (λ (r : Result (Spot × Spot) Fault). r >>= λ x. inside x.0 >>= λ a. Ok (a, x.1)) e) h
@@ -28,7 +29,8 @@ module _ {A : Type 0} (tag : ℕ) (inside : Spot → Result A Fault) where
     pub items : all_in (within tag inside) s ≡ value ∷ all_in (within tag inside) after
     pub list : IsList (within tag inside) after
 
-  pub entered : (s c after : Spot) → IsBytes s.rest → eqb (length s.rest) 0 ≡ false → enter_at tag s ≡ Ok (c, after) → IsList (within tag inside) s
+  pub entered : (s c after : Spot) → IsBytes s.rest → eqb (length s.rest) 0 ≡ false → enter_at tag s ≡ Ok (c, after)
+      → IsList (within tag inside) s
       → Entered s c after
   entered s c after fits some e h = go (inside c) refl
     where

@@ -1,5 +1,6 @@
 -- The element that fills a body is the only one of a list of elements there, and if none does, there is no only one.
-use Rattle.std.proofs.Common.{◌≡◌, ℕ, Bool, true, false, eqb, List, [], ◌∷◌, length, Some, None, Result, Ok, Err, refl, sym, ap, subst, ◌∙◌, inl, inr}
+use Rattle.std.proofs.Common.{◌≡◌, ℕ, Bool, true, false, eqb, List, [], ◌∷◌, length, Some, None, Result, Ok, Err, refl}
+use Rattle.std.proofs.Common.{sym, ap, subst, ◌∙◌, inl, inr}
 use Rattle.std.specs.Prelude.{IsErr}
 use Rattle.der_core.specs.declared.fault.Fault.{Fault}
 use Rattle.der_core.specs.declared.fault.Kind.TheVariants.{Trailing}
@@ -28,7 +29,8 @@ no_end s x f e = go (eqb (length s.rest) 0) refl
     go true k = absurd (let z = rw k at e in cc)
     go false k = refl
 
-listed : (s : Spot) (xs : List (List ℕ)) → many_in opaque_item s ≡ Ok xs → IsList opaque_item s × (all_in opaque_item s ≡ xs)
+listed : (s : Spot) (xs : List (List ℕ)) → many_in opaque_item s ≡ Ok xs
+    → IsList opaque_item s × (all_in opaque_item s ≡ xs)
 listed s xs e = (rw e refl, rw e refl)
 
 some_here : (s : Spot) (y : List ℕ × Spot) → IsBytes s.rest → opaque_item s ≡ Ok y → eqb (length s.rest) 0 ≡ false
@@ -36,22 +38,26 @@ some_here s y fits e = go (eqb (length s.rest) 0) refl
   where
     go : (b : Bool) → eqb (length s.rest) 0 ≡ b → b ≡ false
     go true k =
-        let z = subst (λ (r : Result (List ℕ × Spot) Fault). IsErr r) e (end_faulty opaque_item opaque_shorter s fits k) in
+        let z =
+        subst (λ (r : Result (List ℕ × Spot) Fault). IsErr r) e (end_faulty opaque_item opaque_shorter s fits k) in
         absurd (let x = z in cc)
     go false k = refl
 
-pub filled_by : (s : Spot) (xs : List (List ℕ)) (x : List ℕ) → IsBytes s.rest → many_in opaque_item s ≡ Ok xs → explicit_opaque_in s ≡ Ok x → Some x ≡ only xs
+pub filled_by : (s : Spot) (xs : List (List ℕ)) (x : List ℕ) → IsBytes s.rest → many_in opaque_item s ≡ Ok xs
+    → explicit_opaque_in s ≡ Ok x → Some x ≡ only xs
 unfolding explicit_opaque_in
 filled_by s xs x fits e k =
     let item = bind_ok (opaque_item s) (λ y. end_at y.1 >>= λ u. Ok y.0) x k in
     let end = bind_ok (end_at item.0.1) (λ u. Ok item.0.0) x item.2 in
     let list = listed s xs e in
     let first = first_item opaque_item opaque_shorter s item.0 fits (some_here s item.0 fits item.1) item.1 list.0 in
-    let none : all_in opaque_item item.0.1 ≡ [] = no_items opaque_item opaque_shorter item.0.1 (at_end item.0.1 end.0 end.1) in
+    let none : all_in opaque_item item.0.1 ≡ [] =
+    no_items opaque_item opaque_shorter item.0.1 (at_end item.0.1 end.0 end.1) in
     let all : xs ≡ item.0.0 ∷ [] = sym list.1 ∙ first.1 ∙ ap (λ (ys : List (List ℕ)). item.0.0 ∷ ys) none in
     ap (λ (y : List ℕ). Some y) (sym (ok_is item.0.0 x end.2)) ∙ sym (ap only all)
 
-pub filled_by_none : (s : Spot) (xs : List (List ℕ)) (f : Fault) → IsBytes s.rest → many_in opaque_item s ≡ Ok xs → explicit_opaque_in s ≡ Err f
+pub filled_by_none : (s : Spot) (xs : List (List ℕ)) (f : Fault) → IsBytes s.rest → many_in opaque_item s ≡ Ok xs
+    → explicit_opaque_in s ≡ Err f
     → None ≡ only xs
 unfolding explicit_opaque_in
 filled_by_none s xs f fits e k = go (eqb (length s.rest) 0) refl
@@ -59,17 +65,20 @@ filled_by_none s xs f fits e k = go (eqb (length s.rest) 0) refl
     list : IsList opaque_item s × (all_in opaque_item s ≡ xs)
     list = listed s xs e
 
-    two : (y : List ℕ × Spot) → opaque_item s ≡ Ok y → IsBytes y.1.rest → IsList opaque_item y.1 × (all_in opaque_item s ≡ y.0 ∷ all_in opaque_item y.1)
+    two : (y : List ℕ × Spot) → opaque_item s ≡ Ok y → IsBytes y.1.rest
+        → IsList opaque_item y.1 × (all_in opaque_item s ≡ y.0 ∷ all_in opaque_item y.1)
         → eqb (length y.1.rest) 0 ≡ false → (r : Result (List ℕ × Spot) Fault) → opaque_item y.1 ≡ r → None ≡ only xs
     two y at fit first more (Ok z) is =
         let second = first_item opaque_item opaque_shorter y.1 z fit more is first.0 in
-        let all : xs ≡ y.0 ∷ z.0 ∷ all_in opaque_item z.1 = sym list.1 ∙ first.1 ∙ ap (λ (ys : List (List ℕ)). y.0 ∷ ys) second.1 in
+        let all : xs ≡ y.0 ∷ z.0 ∷ all_in opaque_item z.1 = sym list.1 ∙ first.1
+        ∙ ap (λ (ys : List (List ℕ)). y.0 ∷ ys) second.1 in
         sym (ap only all)
     two y at fit first more (Err g) is = absurd (no_item_faulty opaque_item opaque_shorter y.1 g fit more is first.0)
 
     one : eqb (length s.rest) 0 ≡ false → (r : Result (List ℕ × Spot) Fault) → opaque_item s ≡ r → None ≡ only xs
     one some (Ok y) is =
-        let behind : (end_at y.1 >>= λ u. Ok y.0) ≡ Err f = sym (ap (λ (r : Result (List ℕ × Spot) Fault). r >>= λ x. end_at x.1 >>= λ u. Ok x.0) is) ∙ k in
+        let behind : (end_at y.1 >>= λ u. Ok y.0) ≡ Err f =
+        sym (ap (λ (r : Result (List ℕ × Spot) Fault). r >>= λ x. end_at x.1 >>= λ u. Ok x.0) is) ∙ k in
         let first = first_item opaque_item opaque_shorter s y fits some is list.0 in
         two y is (opaque_shorter.fits s y fits is) first (no_end y.1 y.0 f behind) (opaque_item y.1) refl
     one some (Err g) is = absurd (no_item_faulty opaque_item opaque_shorter s g fits some is list.0)

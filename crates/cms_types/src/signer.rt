@@ -78,8 +78,8 @@ fn unsigned_attributes<'a, const AGAIN: bool>(
 //   signedAttrs [0] IMPLICIT SignedAttributes OPTIONAL, signatureAlgorithm SignatureAlgorithmIdentifier,
 //   signature SignatureValue, unsignedAttrs [1] IMPLICIT UnsignedAttributes OPTIONAL }
 //
-// AGAIN: it was read before. The order of its signed attributes, and what is in each attribute, were tested then and are
-// not tested again.
+// AGAIN: it was read before. The order of its signed attributes, and what is in each attribute, were tested then and
+// are not tested again.
 #[tactic(auto, unfolding(crate::specs::SignerReading::signer_in))]
 fn fields_of<'a, const AGAIN: bool>(mut parts: Cursor<'a>) -> Result<SignerFields<'a>, Fault>
     requires { IsTrue AGAIN → IsOk (signer_in parts) }

@@ -5,7 +5,8 @@ use Rattle.cms_types.proofs.OfType.{type_is, type_there}
 use Rattle.cms_types.proofs.attribute.behind_type.Goals as goal
 
 pub returns-in_default : goal.returns-in_default
-returns-in_default c = λ a read. absurd (type_there c.args.parts.now c.in_default.field-0 a (rw (← c.again-ahead.ensures) c.in_default.ensures.0) read)
+returns-in_default c = λ a read. absurd
+    (type_there c.args.parts.now c.in_default.field-0 a (rw (← c.again-ahead.ensures) c.in_default.ensures.0) read)
 
 pub returns-then-is_same : goal.returns-then-is_same
 returns-then-is_same c = λ a read.

@@ -8,7 +8,8 @@ use Rattle.cms_types.proofs.attribute.count_of.Given as goal
 abbrev pub invariant-loop-parts : goal.invariant-loop-parts
 invariant-loop-parts l = record {
   list : IsList (within 0x30 attribute_in) l.left;
-  counted : l.count + length (all_in (within 0x30 attribute_in) l.left) ≡ length (all_in (within 0x30 attribute_in) l.fn.list);
+  counted : l.count + length (all_in (within 0x30 attribute_in) l.left)
+      ≡ length (all_in (within 0x30 attribute_in) l.fn.list);
   room : l.count + length l.left.rest ≤ l.most;
 }
 

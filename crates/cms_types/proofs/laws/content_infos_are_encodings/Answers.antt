@@ -9,7 +9,8 @@ pub returns-clause-encodings : goal.returns-clause-encodings
 returns-clause-encodings c = content_encodes
 
 pub returns-clause-no_faults : goal.returns-clause-no_faults
-returns-clause-no_faults c = λ bytes v h f x. openly_refuted (file content_info) bytes f content_info_clear (content_encodes bytes v h) x
+returns-clause-no_faults c =
+    λ bytes v h f x. openly_refuted (file content_info) bytes f content_info_clear (content_encodes bytes v h) x
 
 pub returns-clause-unique : goal.returns-clause-unique
 returns-clause-unique c = content_unique

@@ -10,4 +10,5 @@ returns-clause-joined c =
     c.rest.ensures.rest ∙ there.0 ∙ ap (λ (xs : List AttributeValue). attributes_parts xs) c.self.view_is
 
 pub returns-clause-each : goal.returns-clause-each
-returns-clause-each c = subst (AllByRecursion GoodAttribute) c.self.view_is (attributes_there c.self.inside.list c.rest.ensures.octets c.self.invariant.0).1
+returns-clause-each c = subst (AllByRecursion GoodAttribute) c.self.view_is
+    (attributes_there c.self.inside.list c.rest.ensures.octets c.self.invariant.0).1

@@ -6,7 +6,8 @@ returns-in-Some-behind_type c =
     let entered = c.in-Some.ensures in
     let at = c.in-Some-behind_type.ensures entered.0 entered.2 in (
       entered.0,
-      passes_found c.args.id.now c.args.self.now c.loop-parts.left c.in-Some.others entered.0 entered.1 at.0 c.loop-parts.invariant,
+      passes_found c.args.id.now c.args.self.now c.loop-parts.left c.in-Some.others entered.0 entered.1 at.0
+          c.loop-parts.invariant,
       c.only_value.ensures entered.0 at.1,
     )
 

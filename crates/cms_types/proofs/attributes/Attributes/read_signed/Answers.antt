@@ -30,5 +30,6 @@ returns g c =
           let again = w.if-this-ne0.true in
           let read = c.requires in
           (signed_list c.args.list c.rest-rest.ensures.octets (search rules)).1
-      | else-this-ne0+in_ok-count w ↦ (signed_list c.args.list c.rest-rest.ensures.octets (tested w.in_ok-count.ensures.1)).1
+      | else-this-ne0+in_ok-count w ↦
+          (signed_list c.args.list c.rest-rest.ensures.octets (tested w.in_ok-count.ensures.1)).1
     ]

@@ -11,7 +11,8 @@ pub returns-in_err-signers-clause-fault : goal.returns-in_err-signers-clause-fau
 returns-in_err-signers-clause-fault c =
     let e = rw c.new.ensures at c.in_err-signers.ensures in
     let p = err_from_is_err_and c.from_residual.result c.from_residual.ensures.1 in
-    rw (p.1, p.2) (signers_fault c.args.at c.args.octets.now c.in_err-signers.field-0.0 (λ i. omega (arith, c.type_inv.octets i)) e)
+    rw (p.1, p.2) (signers_fault c.args.at c.args.octets.now c.in_err-signers.field-0.0
+    (λ i. omega (arith, c.type_inv.octets i)) e)
 
 pub returns-clause-found : goal.returns-clause-found
 returns-clause-found c = let e = rw c.new.ensures at c.in_ok-signers.ensures in

@@ -25,14 +25,14 @@ const UNSIGNED_ATTRIBUTES: u8 = 0xa1;
 
 // The parts of a signer.
 #[derive(Debug, Drop)]
-pub(crate) struct SignerFields<'a> {
-    pub(crate) version: u8,
-    pub(crate) sid: SignerId<'a>,
-    pub(crate) digest_algorithm: AlgorithmIdentifier<'a>,
-    pub(crate) signed_attributes: Option<SignedAttributes<'a>>,
-    pub(crate) signature_algorithm: AlgorithmIdentifier<'a>,
-    pub(crate) signature: &'a [u8],
-    pub(crate) unsigned_attributes: Option<Attributes<'a>>,
+struct SignerFields<'a> {
+    version: u8,
+    sid: SignerId<'a>,
+    digest_algorithm: AlgorithmIdentifier<'a>,
+    signed_attributes: Option<SignedAttributes<'a>>,
+    signature_algorithm: AlgorithmIdentifier<'a>,
+    signature: &'a [u8],
+    unsigned_attributes: Option<Attributes<'a>>,
 }
 
 /// A signer (SignerInfo, RFC 5652 5.3), as a view.
@@ -40,7 +40,7 @@ pub(crate) struct SignerFields<'a> {
 /// Contracts see a `SignerValue` (`specs/SignerValue.antt`).
 #[derive(Debug, Drop)]
 pub struct Signer<'a> {
-    pub(crate) fields: SignerFields<'a>,
+    fields: SignerFields<'a>,
 }
 
 impl<'a> Model for Signer<'a> {

@@ -2,7 +2,6 @@ pub mod Algorithms
 pub mod Named
 pub mod Digests
 pub mod Messages
-pub mod BlockHashers
 pub mod Sets
 pub mod Selection
 pub mod Hashers

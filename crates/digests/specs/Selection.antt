@@ -1,8 +1,8 @@
 -- The hashers of wanted algorithms, and what they give.
 use Rattle.std.specs.Prelude.{◌≡◌, ℕ, List, is_some, IfSome}
 use Rattle.sha1.specs.Sha1.{Holds}
-use Rattle.digests.specs.BlockHashers.{Holds224, Holds256}
-use Rattle.sha2_blocks.specs.LongHashers.{HoldsLong, hashes_of}
+use Rattle.sha2_blocks.specs.ShortHashers.{HoldsShort, short_hashes_of}
+use Rattle.sha2_blocks.specs.LongHashers.{HoldsLong, long_hashes_of}
 use Rattle.digests.specs.Messages.{digest_of}
 use Rattle.digests.specs.declared.algorithm.Alg.TheVariants.{Sha1, Sha224, Sha256, Sha384, Sha512, Sha512_224}
 use Rattle.digests.specs.declared.algorithm.Alg.TheVariants.{Sha512_256}
@@ -10,17 +10,17 @@ use Rattle.digests.specs.declared.set.Algs.{Algs}
 use Rattle.digests.specs.declared.selection.Wanted.{Wanted}
 use Rattle.digests.specs.declared.selection.WantedDigests.{WantedDigests}
 
--- the algorithms that have a hasher, or a hash value in the hasher of those whose words have 64 bits; the others are
+-- the algorithms that have a hasher, or a hash value in the hasher of those with words of their width; the others are
 -- fed nothing
 abbrev pub set_of : Wanted → Algs
 set_of wanted = record {
   sha1 = is_some wanted.sha1;
-  sha224 = is_some wanted.sha224;
-  sha256 = is_some wanted.sha256;
-  sha384 = is_some (hashes_of wanted.long).sha384;
-  sha512 = is_some (hashes_of wanted.long).sha512;
-  sha512_224 = is_some (hashes_of wanted.long).sha512_224;
-  sha512_256 = is_some (hashes_of wanted.long).sha512_256;
+  sha224 = is_some (short_hashes_of wanted.short).sha224;
+  sha256 = is_some (short_hashes_of wanted.short).sha256;
+  sha384 = is_some (long_hashes_of wanted.long).sha384;
+  sha512 = is_some (long_hashes_of wanted.long).sha512;
+  sha512_224 = is_some (long_hashes_of wanted.long).sha512_224;
+  sha512_256 = is_some (long_hashes_of wanted.long).sha512_256;
 }
 
 -- the algorithms that have a digest
@@ -38,8 +38,7 @@ set_given digests = record {
 -- each hasher that is present was fed this message
 pub record FedWanted (wanted : Wanted) (message : List ℕ) : Type 0 where
   pub sha1 : IfSome wanted.sha1 (λ h. Holds h message)
-  pub sha224 : IfSome wanted.sha224 (λ h. Holds224 h message)
-  pub sha256 : IfSome wanted.sha256 (λ h. Holds256 h message)
+  pub short : IfSome wanted.short (λ h. HoldsShort h message)
   pub long : IfSome wanted.long (λ h. HoldsLong h message)
 
 -- each digest that is present is the digest of this message

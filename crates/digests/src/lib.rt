@@ -11,6 +11,7 @@ mod selection;
 mod set;
 mod short;
 mod value;
+mod wanting;
 
 pub use algorithm::Alg;
 pub use feeding::ContentFault;

@@ -4,10 +4,9 @@ ghost use Rattle.digests.specs.Messages.{digest_of};
 
 use crate::algorithm::Alg;
 use crate::long::{digest_384, digest_512, digest_512_224, digest_512_256};
-use crate::short::{Sha224, Sha256};
+use crate::short::{digest_224, digest_256};
 use crate::value::Digest;
 use sha1::Sha1;
-use sha2::Digest as _;
 
 /// The digest of a message that is completely in memory.
 #[tactic(auto, unfolding(crate::specs::Messages::digest_of))]
@@ -19,8 +18,8 @@ pub fn digest(alg: Alg, message: &[u8]) -> Digest
 {
     match alg {
         Alg::Sha1 => Digest::Sha1(Sha1::digest(message)),
-        Alg::Sha224 => Digest::Sha224(Sha224::digest(message)),
-        Alg::Sha256 => Digest::Sha256(Sha256::digest(message)),
+        Alg::Sha224 => Digest::Sha224(digest_224(message)),
+        Alg::Sha256 => Digest::Sha256(digest_256(message)),
         Alg::Sha384 => Digest::Sha384(digest_384(message)),
         Alg::Sha512 => Digest::Sha512(digest_512(message)),
         Alg::Sha512_224 => Digest::Sha512_224(digest_512_224(message)),

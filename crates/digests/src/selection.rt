@@ -10,21 +10,20 @@ use crate::algorithm::Alg;
 use crate::feeding::{ContentFault, Feed, feed_from};
 use crate::long::{begin_long, end_384, end_512, end_512_224, end_512_256, end_long, feed_long};
 use crate::set::Algs;
-use crate::short::{Sha224, Sha256, feed_short};
+use crate::short::{begin_short, end_224, end_256, end_short, feed_short};
 use crate::value::Digest;
 use devices::Source;
 use sha1::Sha1;
-use sha2::Digest as Hasher;
-use sha2_blocks::LongHasher;
+use sha2_blocks::{LongHasher, ShortHasher};
 
 /// Hashers of the wanted algorithms only, all fed the same message. `FedWanted wanted m`: `m` is everything they were
 /// fed, joined. The algorithms are `set_of wanted`. One that is not wanted has no hash value, so it is fed nothing.
-/// Those whose words have 64 bits have one hasher, with a hash value of each of them that is wanted.
+/// Those whose words have 32 bits have one hasher, with a hash value of each of them that is wanted, and so have those
+/// whose words have 64 bits.
 #[derive(Drop)]
 pub struct Wanted {
     sha1: Option<Sha1>,
-    sha224: Option<Sha224>,
-    sha256: Option<Sha256>,
+    short: Option<ShortHasher>,
     long: Option<LongHasher>,
 }
 
@@ -40,26 +39,7 @@ pub struct WantedDigests {
     pub(crate) sha512_256: Option<[u8; 32]>,
 }
 
-/// A hasher, if it is wanted.
-fn begin<H: Hasher>(is_wanted: bool) -> Option<H>
-    ensures there { is_some result ≡ is_wanted }
-    ensures fed { IfSome result (λ h. H.holds h []) }
-{
-    if is_wanted { Some(H::new()) } else { None }
-}
-
-/// The result of a hasher, if it is present.
-fn end<H: Hasher>(hasher: Option<H>) -> Option<H::Output>
-    ensures there { is_some result ≡ is_some hasher }
-    ensures digest { (m : List ℕ) → IfSome hasher (λ h. H.holds h m) → IfSome result (λ d. H.digest_of m d) }
-{
-    match hasher {
-        Some(hasher) => Some(hasher.finalize()),
-        None => None,
-    }
-}
-
-/// As `begin`, for SHA-1, whose hasher has methods of its own.
+/// A hasher of SHA-1, if it is wanted.
 fn begin_sha1(is_wanted: bool) -> Option<Sha1>
     ensures there { is_some result ≡ is_wanted }
     ensures fed { IfSome result (λ h. Holds h []) }
@@ -78,7 +58,7 @@ fn feed_sha1(hasher: &mut Option<Sha1>, piece: &[u8])
     }
 }
 
-/// As `end`, for SHA-1.
+/// The digest by SHA-1, if its hasher is present.
 fn end_sha1(hasher: Option<Sha1>) -> Option<[u8; 20]>
     ensures there { is_some result ≡ is_some hasher }
     ensures digest { (m : List ℕ) → IfSome hasher (λ h. Holds h m) → IfSome result (λ d. d ≡ sha1 m) }
@@ -99,8 +79,7 @@ impl Wanted {
     {
         Wanted {
             sha1: begin_sha1(set.has(Alg::Sha1)),
-            sha224: begin(set.has(Alg::Sha224)),
-            sha256: begin(set.has(Alg::Sha256)),
+            short: begin_short(set.has(Alg::Sha224), set.has(Alg::Sha256)),
             long: begin_long(
                 set.has(Alg::Sha384),
                 set.has(Alg::Sha512),
@@ -118,7 +97,7 @@ impl Wanted {
         ensures fed { (m : List ℕ) → FedWanted self.old m → FedWanted self.new (m ++ piece.now) }
     {
         feed_sha1(&mut self.sha1, piece);
-        feed_short(&mut self.sha224, &mut self.sha256, piece);
+        feed_short(&mut self.short, piece);
         feed_long(&mut self.long, piece);
     }
 
@@ -149,17 +128,13 @@ impl Wanted {
         // Each digest is that of all that was fed.
         ensures digests { (m : List ℕ) → FedWanted self m → AreOfWanted result m }
     {
-        let Wanted {
-            sha1,
-            sha224,
-            sha256,
-            long,
-        } = self;
+        let Wanted { sha1, short, long } = self;
+        let short = end_short(short);
         let long = end_long(long);
         WantedDigests {
             sha1: end_sha1(sha1),
-            sha224: end(sha224),
-            sha256: end(sha256),
+            sha224: end_224(short.sha224),
+            sha256: end_256(short.sha256),
             sha384: end_384(long.sha384),
             sha512: end_512(long.sha512),
             sha512_224: end_512_224(long.sha512_224),

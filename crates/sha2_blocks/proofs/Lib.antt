@@ -1,8 +1,11 @@
 pub mod Bits
-pub mod Schedules
+pub mod Octets
+pub mod Wanted
+pub mod Sums
+pub mod Lanes
+pub mod ShortSchedules
 pub mod LongSchedules
+pub mod ShortPairs
 pub mod LongPairs
-pub mod PairRounds
-pub mod PairPieces
-pub mod Pieces
+pub mod ShortPieces
 pub mod LongPieces

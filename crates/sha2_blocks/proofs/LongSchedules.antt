@@ -1,14 +1,13 @@
 -- The words of a block of SHA-384, SHA-512, SHA-512/224 or SHA-512/256, two at a time, and their sums with the round
 -- constants.
 use Rattle.std.proofs.Common.{◌≡◌, ℕ, zero, suc, ◌+◌, ◌-◌, ◌*◌, ◌/◌, ◌%◌, ◌^◌, ◌<◌, ◌≤◌, List, [], ◌∷◌, ◌++◌, length, map, slice_index, bit_or}
-use Rattle.std.proofs.Common.{Fits, w64, bit_xor, inl, inr, refl, sym, ap, ◌∙◌, arith}
-use Rattle.std.proofs.lemmas.Bool.{cases_lt}
-use Rattle.std.proofs.lemmas.Simd.{Each1-get_or, get_or-chunk, get_or-put_chunk_at, get_or-put_chunk_below, get_or-zip2, length-chunk, length-zip2}
-use Rattle.std.specs.Simd.Lanes.{Each1, chunk, pick_l, put_chunk, zip2}
+use Rattle.std.proofs.Common.{Fits, w64, bit_xor, refl, sym, ap, ◌∙◌, arith}
+use Rattle.std.proofs.lemmas.Simd.{Each1-get_or, get_or-chunk, length-chunk}
+use Rattle.std.specs.Simd.Lanes.{Each1, chunk, pick_l, zip2}
 use Rattle.sha2.specs.Sha512.{add64, next_word, round, round_constants, rounds, schedule, small_sigma0, small_sigma1, word_at}
 use Rattle.sha2.proofs.Schedule512.{rounds_next, slice_index-schedule_first, slice_index-schedule_next}
 use Rattle.sha2_blocks.proofs.Bits.{turned, twice_is}
-use Rattle.sha2_blocks.specs.LongSteps.{AreSixteen, AreSums, HaveCome, two_sums, two_words}
+use Rattle.sha2_blocks.specs.LongSteps.{AreSixteen, HaveCome, two_sums, two_words}
 use Rattle.sha2_blocks.specs.declared.long_singles.Stage.{Stage}
 use Rattle.sha2_blocks.specs.declared.long_words.Sixteen.{Sixteen}
 
@@ -93,7 +92,7 @@ two_first b w t fits e =
 
 -- ---- sums
 
-two_at : (ws : List ℕ) (t j : ℕ) → j < 2 → slice_index (two_words ws t) j ≡ slice_index ws (t + j)
+pub two_at : (ws : List ℕ) (t j : ℕ) → j < 2 → slice_index (two_words ws t) j ≡ slice_index ws (t + j)
 two_at ws t zero h = ap (slice_index ws) (omega arith)
 two_at ws t (suc zero) h = refl
 two_at ws t (suc (suc j)) h = absurd (omega arith)
@@ -115,33 +114,12 @@ sums_are words constants ws t fits ec two =
     rw (constants_are, two) (λ i. add64 ((k0 ∙ ap (slice_index round_constants) none) i) (slice_index ws t)
     ∷ add64 (k1 i) (slice_index ws (t + 1)) ∷ [])
 
-pub sums_more : (sums new words constants ws : List ℕ) (t : ℕ) → t + 2 ≤ 80 → length sums ≡ 80 → constants ≡ chunk t 2 round_constants
-    → new ≡ put_chunk t sums (zip2 add64 constants words) → words ≡ two_words ws t → AreSums sums ws t → AreSums new ws (t + 2)
-sums_more sums new words constants ws t fits len ec e two held k below =
-    let count : length constants ≡ 2 = ap length ec ∙ length-chunk t 2 round_constants fits in
-    let width : length words ≡ 2 = ap length two in
-    let added : length (zip2 add64 constants words) ≡ 2 = length-zip2 add64 constants words (omega arith) ∙ count in
-    rw e (elim (cases_lt k t) [
-      | inl lt ↦ get_or-put_chunk_below t sums (zip2 add64 constants words) k 0 lt ∙ held k lt
-      | inr ge ↦
-          let j : ℕ = k - t in
-          let at : k ≡ t + j = omega arith in
-          let small : j < 2 = omega arith in
-          rw at (get_or-put_chunk_at t sums (zip2 add64 constants words) j 0 (omega arith) (omega arith)
-          ∙ get_or-zip2 add64 constants words j 0 0 0 (omega arith) (omega arith)
-          ∙ (λ i. add64 ((ap (λ (x : List ℕ). slice_index x j) ec ∙ get_or-chunk t 2 round_constants j 0 small) i)
-          ((ap (λ (x : List ℕ). slice_index x j) two ∙ two_at ws t j small) i)))
-    ])
-
 -- a round, with its sum
 pub round_by : (h ws v next : List ℕ) (t sum : ℕ) → sum ≡ add64 (slice_index round_constants t) (slice_index ws t) → v ≡ rounds h ws t
     → ((k w : ℕ) → sum ≡ add64 k w → next ≡ round v k w) → next ≡ rounds h ws (t + 1)
 round_by h ws v next t sum held ev is =
     is (slice_index round_constants t) (slice_index ws t) held
     ∙ ap (λ (x : List ℕ). round x (slice_index round_constants t) (slice_index ws t)) ev ∙ sym (rounds_next h ws t)
-
-pub fewer_sums : (sums ws : List ℕ) (n k : ℕ) → k ≤ n → AreSums sums ws n → AreSums sums ws k
-fewer_sums sums ws n k le held t below = held t (omega arith)
 
 pub at_place : (w ws : List ℕ) (n k : ℕ) → n ≡ k → w ≡ two_words ws n → w ≡ two_words ws k
 at_place w ws n k e held = held ∙ ap (two_words ws) e

@@ -1,5 +1,6 @@
-pub mod BlockSteps
-pub mod BlockHashers
+pub mod Sums
+pub mod Pairs
+pub mod ShortSteps
+pub mod ShortHashers
 pub mod LongSteps
-pub mod PairSteps
 pub mod LongHashers

@@ -1,27 +1,13 @@
 //! The rounds of two hash values over a block at once (FIPS 180-4, 6.4.2, steps 2 to 4): the lanes of a vector are the
 //! same working variable of both.
-ghost use Rattle.std.specs.Prelude.{◌≡◌, ℕ, ◌+◌, ◌<◌, ◌≤◌, List, map};
-ghost use Rattle.sha2.specs.Sha512.{add64, add_state, big_sigma0, big_sigma1, ch, compress, maj, round, rounds};
-ghost use Rattle.sha2.specs.Sha512.{schedule};
-ghost use Rattle.sha2_blocks.specs.LongSteps.{AreBoth, AreSums, two_lanes};
+ghost use Rattle.std.specs.Prelude.{◌≡◌, ℕ, ◌+◌, ◌≤◌, List, map};
+ghost use Rattle.sha2.specs.Sha512.{add64, add_state, big_sigma0, big_sigma1, compress, round, rounds, schedule};
+ghost use Rattle.sha2_blocks.specs.Pairs.{AreBoth, HoldOnce};
+ghost use Rattle.sha2_blocks.specs.Sums.{AreLongSums};
 
+use crate::long_rounds::add_variables;
+use crate::pairs::{Pair, choose, majority};
 use std::simd::u64x2;
-
-/// Ch of each lane (4.1.3).
-#[inline(always)]
-fn choose(x: u64x2, y: u64x2, z: u64x2) -> u64x2
-    ensures { result ≡ two_lanes ch x y z }
-{
-    z ^ (x & (y ^ z))
-}
-
-/// Maj of each lane (4.1.3). `x ^ y` of a round is `y ^ z` of the next.
-#[inline(always)]
-fn majority(x: u64x2, y: u64x2, z: u64x2) -> u64x2
-    ensures { result ≡ two_lanes maj x y z }
-{
-    y ^ ((x ^ y) & (y ^ z))
-}
 
 /// The upper case sigma 0 of each lane (4.1.3).
 #[inline(always)]
@@ -39,23 +25,10 @@ fn upper_sigma1(x: u64x2) -> u64x2
     ((x >> 14) | (x << 50)) ^ ((x >> 18) | (x << 46)) ^ ((x >> 41) | (x << 23))
 }
 
-/// The working variables of two hash values.
-#[derive(Clone, Copy)]
-pub(crate) struct Pair {
-    a: u64x2,
-    b: u64x2,
-    c: u64x2,
-    d: u64x2,
-    e: u64x2,
-    f: u64x2,
-    g: u64x2,
-    h: u64x2,
-}
-
 /// The working variables before the first round: the two hash values.
 #[inline(always)]
 fn begin_pair(first: &[u64; 8], second: &[u64; 8]) -> Pair
-    ensures { AreBoth result first.now second.now }
+    ensures { AreBoth HoldOnce result first.now second.now }
 {
     Pair {
         a: u64x2::from_array([first[0], second[0]]),
@@ -72,7 +45,7 @@ fn begin_pair(first: &[u64; 8], second: &[u64; 8]) -> Pair
 /// One round of both, with the sum of its constant and its word.
 #[inline(always)]
 fn one_round(v: Pair, sum: u64) -> Pair
-    ensures { (x y : List ℕ) (k w : ℕ) → sum ≡ add64 k w → AreBoth v x y → AreBoth result (round x k w) (round y k w) }
+    ensures { (x y : List ℕ) (k w : ℕ) → sum ≡ add64 k w → AreBoth HoldOnce v x y → AreBoth HoldOnce result (round x k w) (round y k w) }
 {
     let temp1 = v.h + upper_sigma1(v.e) + choose(v.e, v.f, v.g) + u64x2::splat(sum);
     let temp2 = upper_sigma0(v.a) + majority(v.a, v.b, v.c);
@@ -88,34 +61,24 @@ fn one_round(v: Pair, sum: u64) -> Pair
     }
 }
 
-/// Round `t` of both.
-#[inline(always)]
-fn round_at(v: Pair, sums: &[u64; 80], t: usize) -> Pair
-    requires { t < 80 }
-    ensures { (g h ws : List ℕ) → AreSums sums.now ws (t + 1) → AreBoth v (rounds g ws t) (rounds h ws t)
-        → AreBoth result (rounds g ws (t + 1)) (rounds h ws (t + 1)) }
-{
-    one_round(v, sums[t])
-}
-
 /// The four rounds from `t` on, of both.
 #[inline(always)]
 fn four_rounds(v: Pair, sums: &[u64; 80], t: usize) -> Pair
     requires { t + 4 ≤ 80 }
-    ensures { (g h ws : List ℕ) → AreSums sums.now ws (t + 4) → AreBoth v (rounds g ws t) (rounds h ws t)
-        → AreBoth result (rounds g ws (t + 4)) (rounds h ws (t + 4)) }
+    ensures { (g h ws : List ℕ) → AreLongSums sums.now ws (t + 4) → AreBoth HoldOnce v (rounds g ws t) (rounds h ws t)
+        → AreBoth HoldOnce result (rounds g ws (t + 4)) (rounds h ws (t + 4)) }
 {
-    let v = round_at(v, sums, t);
-    let v = round_at(v, sums, t + 1);
-    let v = round_at(v, sums, t + 2);
-    round_at(v, sums, t + 3)
+    let v = one_round(v, sums[t]);
+    let v = one_round(v, sums[t + 1]);
+    let v = one_round(v, sums[t + 2]);
+    one_round(v, sums[t + 3])
 }
 
 /// Adds the working variables to the hash values.
 #[inline(always)]
 fn add_pair(first: &mut [u64; 8], second: &mut [u64; 8], v: Pair)
-    ensures first { (x y : List ℕ) → AreBoth v x y → first.new ≡ add_state first.old x }
-    ensures second { (x y : List ℕ) → AreBoth v x y → second.new ≡ add_state second.old y }
+    ensures first { (x y : List ℕ) → AreBoth HoldOnce v x y → first.new ≡ add_state first.old x }
+    ensures second { (x y : List ℕ) → AreBoth HoldOnce v x y → second.new ≡ add_state second.old y }
 {
     let [a0, a1] = v.a.to_array();
     let [b0, b1] = v.b.to_array();
@@ -125,32 +88,14 @@ fn add_pair(first: &mut [u64; 8], second: &mut [u64; 8], v: Pair)
     let [f0, f1] = v.f.to_array();
     let [g0, g1] = v.g.to_array();
     let [h0, h1] = v.h.to_array();
-    *first = [
-        first[0].wrapping_add(a0),
-        first[1].wrapping_add(b0),
-        first[2].wrapping_add(c0),
-        first[3].wrapping_add(d0),
-        first[4].wrapping_add(e0),
-        first[5].wrapping_add(f0),
-        first[6].wrapping_add(g0),
-        first[7].wrapping_add(h0),
-    ];
-    *second = [
-        second[0].wrapping_add(a1),
-        second[1].wrapping_add(b1),
-        second[2].wrapping_add(c1),
-        second[3].wrapping_add(d1),
-        second[4].wrapping_add(e1),
-        second[5].wrapping_add(f1),
-        second[6].wrapping_add(g1),
-        second[7].wrapping_add(h1),
-    ];
+    add_variables(first, [a0, b0, c0, d0, e0, f0, g0, h0]);
+    add_variables(second, [a1, b1, c1, d1, e1, f1, g1, h1]);
 }
 
 /// Takes a block, of which these are the sums, into two hash values.
 pub(crate) fn take_sums_of_two(first: &mut [u64; 8], second: &mut [u64; 8], sums: &[u64; 80])
-    ensures first { (b : List ℕ) → AreSums sums.now (schedule b 64) 80 → first.new ≡ compress first.old b }
-    ensures second { (b : List ℕ) → AreSums sums.now (schedule b 64) 80 → second.new ≡ compress second.old b }
+    ensures first { (b : List ℕ) → AreLongSums sums.now (schedule b 64) 80 → first.new ≡ compress first.old b }
+    ensures second { (b : List ℕ) → AreLongSums sums.now (schedule b 64) 80 → second.new ≡ compress second.old b }
 {
     let mut v = begin_pair(first, second);
     'turns: for turn in 0..10usize {

@@ -1,12 +1,15 @@
 //! A block of SHA-384, SHA-512, SHA-512/224 or SHA-512/256 that is taken into one hash value (FIPS 180-4, 6.4.2). The
 //! schedule, by vectors of two words, goes beside the rounds, and nothing of it is kept in memory.
-ghost use Rattle.std.specs.Prelude.{◌≡◌, ℕ, ◌+◌, ◌≤◌, List, length};
-ghost use Rattle.sha2.specs.Sha512.{compress, rounds, schedule};
+ghost use Rattle.std.specs.Prelude.{◌≡◌, ℕ, ◌+◌, ◌/◌, ◌%◌, ◌≤◌, List, length};
+ghost use Rattle.sha2.specs.Sha512.{compress, hash_after, rounds, schedule};
 ghost use Rattle.sha2_blocks.specs.LongSteps.{HaveCome, two_words};
 
 use crate::long_rounds::{add_variables, one_round};
 use crate::long_words::{Sixteen, sixteen_first, sums_of, two_later};
 use std::simd::u64x2;
+
+/// How many octets a block has.
+const BLOCK: usize = 128;
 
 /// How far a block was taken: the sixteen words of the next rounds, and the working variables.
 #[derive(Clone, Copy)]
@@ -67,7 +70,7 @@ fn last_rounds(stage: Stage) -> [u64; 8]
 
 /// Takes a block into a hash value.
 #[inline(never)]
-pub(crate) fn take_block_alone(hash: &mut [u64; 8], block: &[u8])
+fn take_block(hash: &mut [u64; 8], block: &[u8])
     requires { length block.now ≡ 128 }
     ensures { hash.new ≡ compress hash.old block.now }
 {
@@ -81,4 +84,14 @@ pub(crate) fn take_block_alone(hash: &mut [u64; 8], block: &[u8])
         stage = eight_further(stage, 16 * turn + 8);
     }
     add_variables(hash, last_rounds(stage));
+}
+
+/// Takes whole blocks into a hash value.
+pub(crate) fn take_blocks_of_one(hash: &mut [u64; 8], octets: &[u8])
+    requires { length octets.now % 128 ≡ 0 }
+    ensures { hash.new ≡ hash_after hash.old octets.now (length octets.now / 128) }
+{
+    'each: for i in 0..octets.len() / BLOCK {
+        take_block(hash, &octets[BLOCK * i..BLOCK * i + BLOCK]);
+    }
 }

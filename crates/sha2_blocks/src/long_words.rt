@@ -3,7 +3,8 @@
 ghost use Rattle.std.specs.Prelude.{◌≡◌, ℕ, ◌+◌, ◌≤◌, List, [], ◌∷◌, length, map};
 ghost use Rattle.std.specs.Simd.Lanes.{chunk, put_chunk};
 ghost use Rattle.sha2.specs.Sha512.{schedule, small_sigma0, small_sigma1, word_at};
-ghost use Rattle.sha2_blocks.specs.LongSteps.{AreSixteen, AreSums, two_sums, two_words};
+ghost use Rattle.sha2_blocks.specs.LongSteps.{AreSixteen, two_sums, two_words};
+ghost use Rattle.sha2_blocks.specs.Sums.{AreLongSums};
 
 use std::simd::u64x2;
 
@@ -178,7 +179,7 @@ pub(crate) fn sums_of(words: u64x2, t: usize) -> [u64; 2]
 #[inline(always)]
 fn put_sums(sums: &mut [u64; 80], t: usize, words: u64x2)
     requires { t + 2 ≤ 80 }
-    ensures { (ws : List ℕ) → words ≡ two_words ws t → AreSums sums.old ws t → AreSums sums.new ws (t + 2) }
+    ensures { (ws : List ℕ) → words ≡ two_words ws t → AreLongSums sums.old ws t → AreLongSums sums.new ws (t + 2) }
 {
     store_two(sums, t, load_two(&ROUND_CONSTANTS, t) + words);
 }
@@ -217,7 +218,7 @@ pub(crate) fn sixteen_first(block: &[u8]) -> Sixteen
 /// The sums of sixteen words from `t` on.
 #[inline(always)]
 fn put_sixteen(w: &Sixteen, sums: &mut [u64; 80])
-    ensures { (ws : List ℕ) → AreSixteen w.now ws 0 → AreSums sums.new ws 16 }
+    ensures { (ws : List ℕ) → AreSixteen w.now ws 0 → AreLongSums sums.new ws 16 }
 {
     put_sums(sums, 0, w.w0);
     put_sums(sums, 2, w.w1);
@@ -253,8 +254,8 @@ pub(crate) fn two_later(w: Sixteen) -> Sixteen
 fn two_more(w: Sixteen, sums: &mut [u64; 80], t: usize) -> Sixteen
     requires { t + 18 ≤ 80 }
     ensures words { (b : List ℕ) → AreSixteen w (schedule b 64) t → AreSixteen result (schedule b 64) (t + 2) }
-    ensures sums { (b : List ℕ) → AreSixteen w (schedule b 64) t → AreSums sums.old (schedule b 64) (t + 16)
-        → AreSums sums.new (schedule b 64) (t + 18) }
+    ensures sums { (b : List ℕ) → AreSixteen w (schedule b 64) t → AreLongSums sums.old (schedule b 64) (t + 16)
+        → AreLongSums sums.new (schedule b 64) (t + 18) }
 {
     let later = two_later(w);
     put_sums(sums, t + 16, later.w7);
@@ -266,8 +267,8 @@ fn two_more(w: Sixteen, sums: &mut [u64; 80], t: usize) -> Sixteen
 fn eight_more(w: Sixteen, sums: &mut [u64; 80], t: usize) -> Sixteen
     requires { t + 24 ≤ 80 }
     ensures words { (b : List ℕ) → AreSixteen w (schedule b 64) t → AreSixteen result (schedule b 64) (t + 8) }
-    ensures sums { (b : List ℕ) → AreSixteen w (schedule b 64) t → AreSums sums.old (schedule b 64) (t + 16)
-        → AreSums sums.new (schedule b 64) (t + 24) }
+    ensures sums { (b : List ℕ) → AreSixteen w (schedule b 64) t → AreLongSums sums.old (schedule b 64) (t + 16)
+        → AreLongSums sums.new (schedule b 64) (t + 24) }
 {
     let w = two_more(w, sums, t);
     let w = two_more(w, sums, t + 2);
@@ -278,7 +279,7 @@ fn eight_more(w: Sixteen, sums: &mut [u64; 80], t: usize) -> Sixteen
 /// The sums of all words of a block and the round constants.
 pub(crate) fn put_schedule(sums: &mut [u64; 80], block: &[u8])
     requires { length block.now ≡ 128 }
-    ensures { AreSums sums.new (schedule block.now 64) 80 }
+    ensures { AreLongSums sums.new (schedule block.now 64) 80 }
 {
     let mut w = sixteen_first(block);
     put_sixteen(&w, sums);

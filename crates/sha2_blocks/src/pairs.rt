@@ -1,190 +1,39 @@
-//! The rounds of a hash value of SHA-224 and of one of SHA-256 over a block at once (FIPS 180-4, 6.2.2, steps 2 to 4):
-//! the lanes of a vector are the same working variable of both. A lane of 64 bits holds its word twice, in its low and
-//! in its high half, so that the low half of a shift is the word rotated.
-ghost use Rattle.std.specs.Prelude.{◌≡◌, ℕ, ◌+◌, ◌%◌, ◌^◌, ◌<◌, ◌≤◌, List, [], ◌∷◌, map};
-ghost use Rattle.sha2.specs.Sha256.{add32, add_state, big_sigma0, big_sigma1, ch, compress, maj, round, rounds};
-ghost use Rattle.sha2.specs.Sha256.{schedule};
-ghost use Rattle.sha2_blocks.specs.BlockSteps.{AreSums};
-ghost use Rattle.sha2_blocks.specs.LongSteps.{two_lanes};
-ghost use Rattle.sha2_blocks.specs.PairSteps.{AreBoth, HoldTwice, low_words};
+//! The working variables of two hash values, which take the rounds of a block at once: the lanes of a vector are the
+//! same working variable of both.
+ghost use Rattle.std.specs.Prelude.{◌≡◌};
+ghost use Rattle.sha2.specs.Sha256.{ch as short_ch, maj as short_maj};
+ghost use Rattle.sha2.specs.Sha512.{ch as long_ch, maj as long_maj};
+ghost use Rattle.sha2_blocks.specs.Pairs.{low_words, two_lanes};
 
 use std::simd::u64x2;
-
-/// The low word of each lane, twice.
-#[inline(always)]
-fn doubled(x: u64x2) -> u64x2
-    ensures { HoldTwice result (low_words x) }
-{
-    (x & u64x2::splat(0xffff_ffff)) | (x << 32)
-}
-
-/// Ch of each low word (4.1.2).
-#[inline(always)]
-fn choose(x: u64x2, y: u64x2, z: u64x2) -> u64x2
-    ensures { low_words result ≡ two_lanes ch (low_words x) (low_words y) (low_words z) }
-{
-    z ^ (x & (y ^ z))
-}
-
-/// Maj of each low word (4.1.2). `x ^ y` of a round is `y ^ z` of the next.
-#[inline(always)]
-fn majority(x: u64x2, y: u64x2, z: u64x2) -> u64x2
-    ensures { low_words result ≡ two_lanes maj (low_words x) (low_words y) (low_words z) }
-{
-    y ^ ((x ^ y) & (y ^ z))
-}
-
-/// The upper case sigma 0 of each word (4.1.2).
-#[inline(always)]
-fn upper_sigma0(x: u64x2) -> u64x2
-    ensures { (words : List ℕ) → HoldTwice x words → low_words result ≡ map big_sigma0 words }
-{
-    (x >> 2) ^ (x >> 13) ^ (x >> 22)
-}
-
-/// The upper case sigma 1 of each word (4.1.2).
-#[inline(always)]
-fn upper_sigma1(x: u64x2) -> u64x2
-    ensures { (words : List ℕ) → HoldTwice x words → low_words result ≡ map big_sigma1 words }
-{
-    (x >> 6) ^ (x >> 11) ^ (x >> 25)
-}
 
 /// The working variables of two hash values.
 #[derive(Clone, Copy)]
 pub(crate) struct Pair {
-    a: u64x2,
-    b: u64x2,
-    c: u64x2,
-    d: u64x2,
-    e: u64x2,
-    f: u64x2,
-    g: u64x2,
-    h: u64x2,
+    pub(crate) a: u64x2,
+    pub(crate) b: u64x2,
+    pub(crate) c: u64x2,
+    pub(crate) d: u64x2,
+    pub(crate) e: u64x2,
+    pub(crate) f: u64x2,
+    pub(crate) g: u64x2,
+    pub(crate) h: u64x2,
 }
 
-/// A word of each hash value.
+/// Ch of each lane (FIPS 180-4, 4.1.3), and so of the words in the low halves (4.1.2).
 #[inline(always)]
-fn both(first: u32, second: u32) -> u64x2
-    ensures { HoldTwice result (first ∷ second ∷ []) }
+pub(crate) fn choose(x: u64x2, y: u64x2, z: u64x2) -> u64x2
+    ensures long { result ≡ two_lanes long_ch x y z }
+    ensures short { low_words result ≡ two_lanes short_ch (low_words x) (low_words y) (low_words z) }
 {
-    doubled(u64x2::from_array([first as u64, second as u64]))
+    z ^ (x & (y ^ z))
 }
 
-/// The working variables before the first round: the two hash values.
+/// Maj of each lane (4.1.3), and so of the words in the low halves (4.1.2). `x ^ y` of a round is `y ^ z` of the next.
 #[inline(always)]
-fn begin_pair(first: &[u32; 8], second: &[u32; 8]) -> Pair
-    ensures { AreBoth result first.now second.now }
+pub(crate) fn majority(x: u64x2, y: u64x2, z: u64x2) -> u64x2
+    ensures long { result ≡ two_lanes long_maj x y z }
+    ensures short { low_words result ≡ two_lanes short_maj (low_words x) (low_words y) (low_words z) }
 {
-    Pair {
-        a: both(first[0], second[0]),
-        b: both(first[1], second[1]),
-        c: both(first[2], second[2]),
-        d: both(first[3], second[3]),
-        e: both(first[4], second[4]),
-        f: both(first[5], second[5]),
-        g: both(first[6], second[6]),
-        h: both(first[7], second[7]),
-    }
-}
-
-/// One round of both, with the sum of its constant and its word. What a sum carries out of a word is in the high half,
-/// which `doubled` drops.
-#[inline(always)]
-fn one_round(v: Pair, sum: u32) -> Pair
-    ensures { (x y : List ℕ) (k w : ℕ) → sum ≡ add32 k w → AreBoth v x y → AreBoth result (round x k w) (round y k w) }
-{
-    let temp1 = v.h + upper_sigma1(v.e) + choose(v.e, v.f, v.g) + u64x2::splat(sum as u64);
-    let temp2 = upper_sigma0(v.a) + majority(v.a, v.b, v.c);
-    Pair {
-        a: doubled(temp1 + temp2),
-        b: v.a,
-        c: v.b,
-        d: v.c,
-        e: doubled(v.d + temp1),
-        f: v.e,
-        g: v.f,
-        h: v.g,
-    }
-}
-
-/// Round `t` of both.
-#[inline(always)]
-fn round_at(v: Pair, sums: &[u32; 64], t: usize) -> Pair
-    requires { t < 64 }
-    ensures { (g h ws : List ℕ) → AreSums sums.now ws (t + 1) → AreBoth v (rounds g ws t) (rounds h ws t)
-        → AreBoth result (rounds g ws (t + 1)) (rounds h ws (t + 1)) }
-{
-    one_round(v, sums[t])
-}
-
-/// The four rounds from `t` on, of both.
-#[inline(always)]
-fn four_rounds(v: Pair, sums: &[u32; 64], t: usize) -> Pair
-    requires { t + 4 ≤ 64 }
-    ensures { (g h ws : List ℕ) → AreSums sums.now ws (t + 4) → AreBoth v (rounds g ws t) (rounds h ws t)
-        → AreBoth result (rounds g ws (t + 4)) (rounds h ws (t + 4)) }
-{
-    let v = round_at(v, sums, t);
-    let v = round_at(v, sums, t + 1);
-    let v = round_at(v, sums, t + 2);
-    round_at(v, sums, t + 3)
-}
-
-/// The low words of two lanes.
-#[inline(always)]
-fn words_of(lanes: u64x2) -> [u32; 2]
-    ensures { result ≡ low_words lanes }
-{
-    let [first, second] = lanes.to_array();
-    [(first & 0xffff_ffff) as u32, (second & 0xffff_ffff) as u32]
-}
-
-/// Adds the working variables to the hash values.
-#[inline(always)]
-fn add_pair(first: &mut [u32; 8], second: &mut [u32; 8], v: Pair)
-    ensures first { (x y : List ℕ) → AreBoth v x y → first.new ≡ add_state first.old x }
-    ensures second { (x y : List ℕ) → AreBoth v x y → second.new ≡ add_state second.old y }
-{
-    let [a0, a1] = words_of(v.a);
-    let [b0, b1] = words_of(v.b);
-    let [c0, c1] = words_of(v.c);
-    let [d0, d1] = words_of(v.d);
-    let [e0, e1] = words_of(v.e);
-    let [f0, f1] = words_of(v.f);
-    let [g0, g1] = words_of(v.g);
-    let [h0, h1] = words_of(v.h);
-    *first = [
-        first[0].wrapping_add(a0),
-        first[1].wrapping_add(b0),
-        first[2].wrapping_add(c0),
-        first[3].wrapping_add(d0),
-        first[4].wrapping_add(e0),
-        first[5].wrapping_add(f0),
-        first[6].wrapping_add(g0),
-        first[7].wrapping_add(h0),
-    ];
-    *second = [
-        second[0].wrapping_add(a1),
-        second[1].wrapping_add(b1),
-        second[2].wrapping_add(c1),
-        second[3].wrapping_add(d1),
-        second[4].wrapping_add(e1),
-        second[5].wrapping_add(f1),
-        second[6].wrapping_add(g1),
-        second[7].wrapping_add(h1),
-    ];
-}
-
-/// Takes a block, of which these are the sums, into two hash values.
-pub(crate) fn take_sums_of_two(first: &mut [u32; 8], second: &mut [u32; 8], sums: &[u32; 64])
-    ensures first { (b : List ℕ) → AreSums sums.now (schedule b 48) 64 → first.new ≡ compress first.old b }
-    ensures second { (b : List ℕ) → AreSums sums.now (schedule b 48) 64 → second.new ≡ compress second.old b }
-{
-    let mut v = begin_pair(first, second);
-    'turns: for turn in 0..8usize {
-        v = four_rounds(v, sums, 8 * turn);
-        v = four_rounds(v, sums, 8 * turn + 4);
-    }
-    add_pair(first, second, v);
+    y ^ ((x ^ y) & (y ^ z))
 }

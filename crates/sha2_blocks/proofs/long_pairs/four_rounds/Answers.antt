@@ -1,13 +1,12 @@
 use Rattle.std.proofs.Common.{ℕ, ◌+◌, arith}
-use Rattle.sha2_blocks.proofs.LongPairs.{both_after}
-use Rattle.sha2_blocks.proofs.LongSchedules.{fewer_sums}
+use Rattle.sha2_blocks.proofs.LongPairs.{both_after, both_next}
 use Rattle.sha2_blocks.proofs.long_pairs.four_rounds.Goals as goal
 
 pub returns : goal.returns
 returns c = λ g h ws held both.
     let t : ℕ = c.args.t in
-    let v1 = c.round_at-v.ensures g h ws (fewer_sums _ ws _ (t + 1) (omega arith) held) both in
-    let v2 = c.round_at-v-2.ensures g h ws (fewer_sums _ ws _ (t + 1 + 1) (omega arith) held) v1 in
-    let v3 = c.round_at-v-3.ensures g h ws (fewer_sums _ ws _ (t + 2 + 1) (omega arith) held) (both_after _ g h ws _ (t + 2) (omega arith) v2) in
-    let v4 = c.round_at.ensures g h ws (fewer_sums _ ws _ (t + 3 + 1) (omega arith) held) (both_after _ g h ws _ (t + 3) (omega arith) v3) in
+    let v1 = both_next g h ws c.args.v _ t _ (held t (omega arith)) both c.one_round-v.ensures in
+    let v2 = both_next g h ws _ _ (t + 1) _ (held (t + 1) (omega arith)) v1 c.one_round-v-2.ensures in
+    let v3 = both_next g h ws _ _ (t + 2) _ (held (t + 2) (omega arith)) (both_after _ g h ws _ (t + 2) (omega arith) v2) c.one_round-v-3.ensures in
+    let v4 = both_next g h ws _ _ (t + 3) _ (held (t + 3) (omega arith)) (both_after _ g h ws _ (t + 3) (omega arith) v3) c.one_round.ensures in
     both_after _ g h ws _ (t + 4) (omega arith) v4

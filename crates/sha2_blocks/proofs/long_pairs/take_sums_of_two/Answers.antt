@@ -1,7 +1,7 @@
 use Rattle.std.proofs.Common.{◌≡◌, ℕ, ◌+◌, ◌*◌, arith}
 use Rattle.sha2.specs.Sha512.{compress, schedule}
 use Rattle.sha2_blocks.proofs.LongPairs.{both_after, both_none}
-use Rattle.sha2_blocks.proofs.LongSchedules.{fewer_sums}
+use Rattle.sha2_blocks.proofs.Sums.{fewer_long}
 use Rattle.sha2_blocks.proofs.long_pairs.take_sums_of_two.Goals as goal
 
 pub turns-init : goal.turns-init
@@ -12,8 +12,8 @@ turns-preserved c = λ ws sums.
     let g = c.args.first.now in
     let h = c.args.second.now in
     let t : ℕ = 8 * c.turns.turn in
-    let v0 = c.four_rounds-v.ensures g h ws (fewer_sums _ ws _ (t + 4) (omega arith) sums) (c.turns.invariant ws sums) in
-    let v1 = c.four_rounds-v-in-turns.ensures g h ws (fewer_sums _ ws _ (t + 4 + 4) (omega arith) sums) v0 in
+    let v0 = c.four_rounds-v.ensures g h ws (fewer_long _ ws _ (t + 4) (omega arith) sums) (c.turns.invariant ws sums) in
+    let v1 = c.four_rounds-v-in-turns.ensures g h ws (fewer_long _ ws _ (t + 4 + 4) (omega arith) sums) v0 in
     both_after _ g h ws _ (8 * (c.turns.turn + 1)) (omega arith) v1
 
 pub returns-clause-first : goal.returns-clause-first

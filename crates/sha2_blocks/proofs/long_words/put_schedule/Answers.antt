@@ -1,6 +1,7 @@
 use Rattle.std.proofs.Common.{ℕ, ◌+◌, ◌*◌, arith}
 use Rattle.sha2.specs.Sha512.{schedule}
-use Rattle.sha2_blocks.proofs.LongSchedules.{fewer_sums, sixteen_at}
+use Rattle.sha2_blocks.proofs.LongSchedules.{sixteen_at}
+use Rattle.sha2_blocks.proofs.Sums.{fewer_long}
 use Rattle.sha2_blocks.proofs.long_words.put_schedule.Goals as goal
 
 pub turns-init : goal.turns-init
@@ -14,11 +15,11 @@ turns-preserved c =
     let next : ℕ = 16 * (c.turns.turn + 1) in
     let i = c.turns.invariant in
     let w1 = c.eight_more-w.ensures.words b i.words in
-    let s1 = fewer_sums _ ws _ (t + 8 + 16) (omega arith) (c.eight_more-w.ensures.sums b i.words i.sums) in
+    let s1 = fewer_long _ ws _ (t + 8 + 16) (omega arith) (c.eight_more-w.ensures.sums b i.words i.sums) in
     record {
       words = sixteen_at _ ws _ next (omega arith) (c.eight_more-w-in-turns.ensures.words b w1);
-      sums = fewer_sums _ ws _ (next + 16) (omega arith) (c.eight_more-w-in-turns.ensures.sums b w1 s1);
+      sums = fewer_long _ ws _ (next + 16) (omega arith) (c.eight_more-w-in-turns.ensures.sums b w1 s1);
     }
 
 pub returns : goal.returns
-returns c = fewer_sums _ (schedule c.args.block.now 64) _ 80 (omega (arith, c.turns.auto.turn-end)) c.turns.invariant.sums
+returns c = fewer_long _ (schedule c.args.block.now 64) _ 80 (omega (arith, c.turns.auto.turn-end)) c.turns.invariant.sums

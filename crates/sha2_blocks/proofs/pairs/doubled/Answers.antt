@@ -1,5 +1,0 @@
-use Rattle.sha2_blocks.proofs.PairRounds.{doubled_lanes}
-use Rattle.sha2_blocks.proofs.pairs.doubled.Goals as goal
-
-pub returns : goal.returns
-returns c = doubled_lanes c.args.x c.fits-x.0

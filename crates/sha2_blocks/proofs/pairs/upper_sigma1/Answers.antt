@@ -1,5 +1,0 @@
-use Rattle.sha2_blocks.proofs.PairRounds.{sigma1_lanes}
-use Rattle.sha2_blocks.proofs.pairs.upper_sigma1.Goals as goal
-
-pub returns : goal.returns
-returns c = λ words held. sigma1_lanes c.args.x words c.fits-x.0 held

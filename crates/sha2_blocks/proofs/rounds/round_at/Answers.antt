@@ -1,5 +1,0 @@
-use Rattle.sha2_blocks.proofs.Schedules.{round_is}
-use Rattle.sha2_blocks.proofs.rounds.round_at.Goals as goal
-
-pub returns : goal.returns
-returns c = λ h ws held ev. round_is h ws c.args.v _ c.args.sums.now c.args.t held ev c.one_round.ensures

@@ -7,7 +7,7 @@ use Rattle.devices.specs.Device.{Wrote}
 use Rattle.devices.specs.declared.sink.SinkFault.{SinkFault}
 use Rattle.trust_lists.specs.Asking.{Asked}
 use Rattle.devices.proofs.Putting.{TwoPuts, FirstPut, SecondPut, BothPut, wrote_next, wrote_both, wrote_first}
-use Rattle.list_texts.proofs.Puts.{wrote_none}
+use Rattle.list_answers.proofs.Puts.{wrote_none}
 use Rattle.check_questions.specs.FileQuestions.{Joined, InOrder, OneOrNone}
 use Rattle.check_questions.specs.QuestionsText.{ended, question_line, question_lines}
 use Rattle.check_questions.specs.AskingSteps.{PutsLines}

@@ -3,8 +3,8 @@ use Rattle.std.proofs.Common.{◌≡◌, ◌<◌, ◌+◌, ◌-◌, ℕ, Bool, t
 use Rattle.std.specs.List.{slice_split}
 use Rattle.std.specs.Prelude.{◌==◌}
 use Rattle.memchr.specs.Find.{IsFirstByte, is_byte}
-use Rattle.list_texts.specs.Texts.{parts}
-use Rattle.list_texts.proofs.Cuts.{uncut, cut_there, first_place}
+use Rattle.list_answers.specs.Texts.{parts}
+use Rattle.list_answers.proofs.Cuts.{uncut, cut_there, first_place}
 use Rattle.cli_files.specs.Paths.{names_of, names_of_parts}
 
 -- there is always a part

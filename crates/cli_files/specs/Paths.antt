@@ -1,6 +1,6 @@
 -- The paths in a list of files.
 use Rattle.std.specs.Prelude.{◌≡◌, ⊤, ◌⊎◌, ℕ, Bool, true, false, if◌then◌else◌, List, [], ◌∷◌, IsUtf8, bytes_eq, codes}
-use Rattle.list_texts.specs.Texts.{parts}
+use Rattle.list_answers.specs.Texts.{parts}
 
 -- behind the last octet that ends a name there is one more, if there are octets
 abbrev pub last_name : List ℕ → List (List ℕ)

@@ -6,7 +6,7 @@ use Rattle.list_answers.specs.declared.answers_fault.AnswersFault.{AnswersFault}
 use Rattle.list_answers.specs.declared.answers_fault.AnswersRule.TheVariants as rule
 use Rattle.list_answers.specs.Asking.{Asked}
 use Rattle.list_answers.specs.AnswersText.{asked_first, asked_of, asked_of_lines, behind}
-use Rattle.list_texts.specs.Texts.{NumberedLine}
+use Rattle.list_answers.specs.Texts.{NumberedLine}
 
 pub behind_none : (r : Result (List Asked) AnswersFault) → behind [] r ≡ r
 behind_none (Ok others) = refl

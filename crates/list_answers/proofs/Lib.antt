@@ -1,3 +1,9 @@
+pub mod Pairs
+pub mod Decoding
+pub mod LaneDigits
+pub mod Cuts
+pub mod Puts
+pub mod PairDigits
 pub mod AskedFields
 pub mod Ranks
 pub mod Behind

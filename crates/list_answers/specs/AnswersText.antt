@@ -7,7 +7,7 @@ use Rattle.der_core.specs.Lists.{is_same}
 use Rattle.list_answers.specs.declared.answers_fault.AnswersFault.{AnswersFault}
 use Rattle.list_answers.specs.declared.answers_fault.AnswersRule.TheVariants as rule
 use Rattle.list_answers.specs.Asking.{Asked}
-use Rattle.list_texts.specs.Texts.{NumberedLine, lines_of, words_of, under, told}
+use Rattle.list_answers.specs.Texts.{NumberedLine, lines_of, words_of, under, told}
 
 -- the octets of a field: none for -, and otherwise those of one or more pairs of hexadecimal digits, in either case
 abbrev pub field_of : List ℕ → Option (List ℕ)

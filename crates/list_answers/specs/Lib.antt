@@ -1,3 +1,6 @@
+pub mod Texts
+pub mod TextSteps
+pub mod DigitLanes
 pub mod Asking
 pub mod FaultTexts
 pub mod AnswersText

@@ -5,8 +5,9 @@ ghost use Rattle.hex.specs.Hex.{decode_of};
 ghost use Rattle.list_answers.specs.AnswersText.{field_of, asked_of};
 ghost use Rattle.list_answers.specs.AnswerLines.{fields_asked, line_asked};
 
+use crate::hexadecimal::are_pairs;
+use crate::texts::Words;
 use der_core::octets::is_same;
-use list_texts::{Words, are_pairs};
 
 /// The five fields of a line, which are those of a question if each is pairs of digits.
 #[derive(Debug, Drop)]
@@ -19,7 +20,7 @@ pub(crate) struct Fields<'a> {
 }
 
 // The digits of a field: none for `-`, and otherwise one or more octets. They aren't tested.
-#[tactic(auto, using(list_texts::proofs::Pairs::none_decode))]
+#[tactic(auto, using(crate::proofs::Pairs::none_decode))]
 fn digits_of(word: &[u8]) -> Option<&[u8]>
     ensures { MatchOption result (field_of word.now ≡ None) (λ d. field_of word.now ≡ result_ok (decode_of d.now)) }
 {

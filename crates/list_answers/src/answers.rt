@@ -9,9 +9,10 @@ ghost use Rattle.list_answers.specs.AnswerSteps.{under_signature_cmp, asked_cmp,
 
 use crate::answer_lines::{Fields, are_asked, fields_of};
 use crate::answers_fault::{AnswersFault, AnswersRule};
+use crate::hexadecimal::decode;
 use crate::question::Question;
+use crate::texts::{Line, Lines};
 use crate::verifier::{AskFault, Verifier};
-use list_texts::{Line, Lines, decode};
 use std::alloc::{AllocError, Global};
 use std::cmp::Ordering;
 use std::marker::Model;

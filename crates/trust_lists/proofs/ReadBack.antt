@@ -19,7 +19,7 @@ use Rattle.trust_lists.specs.declared.trust_version.Version.{Version}
 use Rattle.trust_lists.specs.declared.trust_version.Version.TheVariants.{First, Second}
 use Rattle.trust_lists.specs.Entries.{EntryValue}
 use Rattle.trust_lists.specs.Periods.{is_backwards}
-use Rattle.list_texts.specs.Texts.{NumberedLine, trimmed, is_silent, lines_of, words_of, telling}
+use Rattle.list_answers.specs.Texts.{NumberedLine, trimmed, is_silent, lines_of, words_of, telling}
 use Rattle.trust_lists.specs.TrustText.{LineFields, role_of, moment_in, fields_from, first_fields, second_fields}
 use Rattle.trust_lists.specs.TrustText.{fields_of, SaysEntry, Answer, behind}
 use Rattle.trust_lists.specs.TrustText.{IsOfLines, IsUnder, IsTrust}

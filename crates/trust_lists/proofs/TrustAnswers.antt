@@ -11,7 +11,7 @@ use Rattle.trust_lists.specs.declared.trust_version.Version.{Version}
 use Rattle.trust_lists.specs.declared.trust_version.Version.TheVariants.{First, Second}
 use Rattle.trust_lists.specs.Entries.{EntryValue}
 use Rattle.trust_lists.specs.Periods.{is_backwards}
-use Rattle.list_texts.specs.Texts.{NumberedLine}
+use Rattle.list_answers.specs.Texts.{NumberedLine}
 use Rattle.trust_lists.specs.TrustText.{LineFields, fields_of, entry_from, SaysEntry, FailsRule, HasForm, BeginsWell}
 use Rattle.trust_lists.specs.TrustText.{Answer, behind, IsOfLines, IsUnder}
 use Rattle.trust_lists.specs.TrustText.{IsTrust}

@@ -16,7 +16,7 @@ use Rattle.der_time.proofs.Texts.{IsFraction, fraction_parts, generalized_parts,
 use Rattle.der_time.proofs.Texts.{same_from}
 use Rattle.trust_lists.specs.declared.role.Role.{Role}
 use Rattle.trust_lists.specs.declared.role.Role.TheVariants.{Signer, Tsa}
-use Rattle.list_texts.specs.Texts.{parts, trimmed}
+use Rattle.list_answers.specs.Texts.{parts, trimmed}
 use Rattle.trust_lists.specs.Written.{role_word, IsMomentWord}
 
 -- each octet is above the space

@@ -16,7 +16,7 @@ use Rattle.trust_lists.specs.declared.trust_version.Version.{Version}
 use Rattle.trust_lists.specs.declared.trust_version.Version.TheVariants.{First, Second}
 use Rattle.trust_lists.specs.Entries.{EntryValue}
 use Rattle.trust_lists.specs.Periods.{is_backwards}
-use Rattle.list_texts.specs.Texts.{NumberedLine, lines_of, words_of, under}
+use Rattle.list_answers.specs.Texts.{NumberedLine, lines_of, words_of, under}
 
 -- the content of a line: an entry, if the octets are those of its certificate
 pub record LineFields : Type 0 where

@@ -17,10 +17,9 @@ mod written;
 pub use entry::Entry;
 pub use laws::{lists_are_read_back, rows_hold};
 pub use list_answers::{
-    Answers, AnswersFault, AnswersRule, AskFault, ExpectingVerifier, FusedVerifier, Question,
-    Verifier,
+    Answers, AnswersFault, AnswersRule, AskFault, Digits, ExpectingVerifier, FusedVerifier,
+    Question, Verifier, put_digits,
 };
-pub use list_texts::{Digits, put_digits};
 pub use role::Role;
 pub use trust::Trust;
 pub use trust_fault::{TrustFault, TrustRule};

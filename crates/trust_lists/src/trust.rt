@@ -14,7 +14,7 @@ use crate::trust_lines::entry_of;
 use crate::trust_version::Version;
 use crate::written::put_entries;
 use devices::{Sink, SinkFault};
-use list_texts::{Lines, put_word};
+use list_answers::{Lines, put_word};
 use std::alloc::Global;
 use std::marker::Model;
 

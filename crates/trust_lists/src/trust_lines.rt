@@ -1,7 +1,7 @@
 //! What a line of a trust list states.
 ghost use Rattle.std.specs.Prelude.{◌≡◌, ◌⊎◌, IfErr, IfSome, None, MatchResult, option_map};
 ghost use Rattle.trust_lists.specs.Periods.{is_backwards};
-ghost use Rattle.list_texts.specs.Texts.{words_of};
+ghost use Rattle.list_answers.specs.Texts.{words_of};
 ghost use Rattle.trust_lists.specs.TrustText.{role_of, moment_in, first_fields, second_fields, fields_of, SaysEntry};
 ghost use Rattle.trust_lists.specs.TrustText.{FailsRule, HasForm};
 ghost use Rattle.trust_lists.specs.TrustSteps.{line_fields, FailsWithoutMemory};
@@ -17,7 +17,7 @@ use crate::trust_version::Version;
 use cert_types::Certificate;
 use der_core::octets::is_same;
 use der_time::{Moment, read_generalized};
-use list_texts::{Words, are_pairs, decode};
+use list_answers::{Words, are_pairs, decode};
 use std::alloc::Global;
 
 /// What a line states: an entry, if the digits are pairs of digits, and those of its certificate.

@@ -9,7 +9,7 @@ use crate::entry::Entry;
 use crate::role::Role;
 use der_time::{Moment, TimeText, generalized_text};
 use devices::{Sink, SinkFault, put_all};
-use list_texts::{put_digits, put_word};
+use list_answers::{put_digits, put_word};
 
 fn role_word(role: Role) -> &'static [u8]
     ensures { result.now ≡ role_word role }

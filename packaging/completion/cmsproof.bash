@@ -15,11 +15,11 @@ _cmsproof_options() {
     'cmsproof compare') echo '--first --second --help' ;;
     'cmsproof migrate') echo '--help' ;;
     'cmsproof help') echo '' ;;
-    'cmsproof-archive') echo '--help --version --trust --issuer --tsa-issuer --intermediate --crl --crl-dir --ocsp --trusted-list --scheme-operator --write-trust --content --sha1 --jobs --json --explain --files-from --pair --no-pairs --pairs-from --partial --stamps --null --state --since --only --recheck --dask --progress --log' ;;
+    'cmsproof-archive') echo '--help --version --trust --issuer --tsa-issuer --intermediate --crl --crl-dir --ocsp --trusted-list --scheme-operator --write-trust --content --pair --no-pairs --pairs-from --sha1 --partial --stamps --jobs --json --explain --files-from --null --state --since --only --recheck --known --dask --progress --log' ;;
     'cmsproof-extract') echo '--help --version --to --partial --mend' ;;
     'cmsproof-trust') echo '--help --version --signer --tsa --issuer --tsa-issuer --intermediate --crl --crl-dir --ocsp --trusted-list --scheme-operator --from-files --files-from --null --sha1 --explain --diff --merge --all --from --until' ;;
     'cmsproof-verify') echo '--help --version' ;;
-    'cmsproof-archive report') echo '--help --version --html --csv --json --only' ;;
+    'cmsproof-archive report') echo '--help --version --html --csv --json --known --only' ;;
     'cmsproof-archive evidence') echo '--help --version --trust --content --sha1 --part --without-content --to --verify --list-of-the-bundle' ;;
     esac
 }
@@ -68,13 +68,14 @@ _cmsproof_values() {
     'cmsproof-archive --scheme-operator') echo files ;;
     'cmsproof-archive --write-trust') echo files ;;
     'cmsproof-archive --content') echo files ;;
-    'cmsproof-archive --jobs') echo '' ;;
-    'cmsproof-archive --files-from') echo files ;;
     'cmsproof-archive --pair') echo '' ;;
     'cmsproof-archive --pairs-from') echo files ;;
+    'cmsproof-archive --jobs') echo '' ;;
+    'cmsproof-archive --files-from') echo files ;;
     'cmsproof-archive --state') echo files ;;
     'cmsproof-archive --since') echo '' ;;
     'cmsproof-archive --only') echo 'accepted stamped refused malformed failed' ;;
+    'cmsproof-archive --known') echo files ;;
     'cmsproof-archive --dask') echo '' ;;
     'cmsproof-archive --log') echo files ;;
     'cmsproof-extract --to') echo files ;;
@@ -98,6 +99,7 @@ _cmsproof_values() {
     'cmsproof-archive report --html') echo files ;;
     'cmsproof-archive report --csv') echo files ;;
     'cmsproof-archive report --json') echo files ;;
+    'cmsproof-archive report --known') echo files ;;
     'cmsproof-archive report --only') echo 'accepted stamped refused malformed failed' ;;
     'cmsproof-archive evidence --trust') echo files ;;
     'cmsproof-archive evidence --content') echo files ;;

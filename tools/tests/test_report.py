@@ -79,7 +79,9 @@ class Texts(HTMLParser):
         self.inside = tag
         if tag == "script":
             self.scripts.append(dict(attrs))
-        self.others += [(tag, name) for name, _ in attrs if name.startswith("on") or name in ("src", "href", "action", "style")]
+        outward = {name: value for name, value in attrs if name in ("src", "href", "action", "style") or name.startswith("on")}
+        # (the rules lead to the table of the files)
+        self.others += [(tag, name) for name, value in outward.items() if (tag, name, value) != ("a", "href", "#files")]
 
     def handle_endtag(self, tag):
         self.inside = ""
@@ -132,7 +134,11 @@ class Report(unittest.TestCase):
         self.assertIn(f"SHA-256 {accepted} 1", text)
         self.assertIn(f"SHA-512 0 {accepted}", text)
         self.assertIn("<b>versions</b>", text)
-        self.assertIn("no unsigned attribute has a time-stamp token", text)
+        # (cause and cure stand apart, and the number leads to the files)
+        refused = len(NAMES) - accepted
+        self.assertIn(f"S10 {refused} files When it refuses no unsigned attribute has a time-stamp token", text)
+        self.assertIn("What helps have the signature stamped", text)
+        self.assertIn(f'<a href="#files" data-code="S10">{refused} files</a>', self.page)
         # (the subject of the first authority, as `openssl x509 -subject` shows it)
         self.assertIn("CN=tsa", text)
 
@@ -240,7 +246,7 @@ class Report(unittest.TestCase):
                     state.commit()
             status, out, err = run_tool("cmsproof-archive", "report", path, "--html", "-")
             self.assertEqual((status, err), (0, ""))
-            self.assertIn(f'<td class="day">{day}</td>', out.decode(), number)
+            self.assertIn(f'<td class="day" data-head="Lasts until">{day}</td>', out.decode(), number)
             self.assertEqual("Not all by the same list" in out.decode(), len(lists) > 1)
 
     def test_a_file_called_report_is_one(self):
@@ -313,6 +319,28 @@ class InABrowser(unittest.TestCase):
                 browser.ask("Emulation.setEmulatedMedia", features=[{"name": "prefers-color-scheme", "value": scheme}])
                 colour = browser.value("getComputedStyle(document.body).backgroundColor")
                 self.assertEqual(sum(map(int, re.findall(r"\d+", colour))) < 200, dark)
+
+    def test_on_a_phone(self):
+        """390 pixels: nothing is wider than the page but what scrolls by itself, no text is small or cut, and a rule leads to its files."""
+        with Browser("--window-size=390,844") as browser:
+            browser.ask("Emulation.setDeviceMetricsOverride", width=390, height=844, deviceScaleFactor=2, mobile=True)
+            self.opened(browser, 200)
+            wide = "[...document.querySelectorAll('main *:not(.scroll *)')].filter(one => one.getBoundingClientRect().right > 390).length"
+            shown = "[...document.querySelectorAll('p, td, dd, dt, h2, h3, th, label, svg text')].filter(one => one.offsetParent !== null)"
+            small = f"{shown}.filter(one => parseFloat(getComputedStyle(one).fontSize) < 12).length"
+            self.assertEqual(browser.value("[innerWidth, document.documentElement.scrollWidth].join()"), "390,390")
+            self.assertEqual((browser.value(wide), browser.value(small)), (0, 0))
+            browser.click("document.querySelector('a[data-code]')")
+            self.assertEqual(browser.value("document.getElementById('code').value"), "S10")
+            self.assertEqual({line.split()[0] for line in self.column(browser, 2)}, {"refused"})
+            # (a row has its height, by which the script scrolls; what is cut of it is shown whole once it is touched)
+            rows = "[...document.querySelectorAll('#rows tr:not(.space)')]"
+            self.assertEqual(browser.value(f"new Set({rows}.map(row => row.getBoundingClientRect().height)).size"), 1)
+            browser.value(f"{rows}[2].click()")
+            self.assertEqual(
+                browser.value("document.getElementById('whole').textContent.split(' \u2014 ')[0]"),
+                browser.value(f"{rows}[2].querySelector('.name').textContent"),
+            )
 
     def test_a_hundred_thousand_rows(self):
         with Browser("--window-size=1300,900") as browser:

@@ -16,6 +16,7 @@ from cmsproof_tools.checking import Unread, Work, all_noted, content_named, outc
 from cmsproof_tools.descriptors import path_of
 from cmsproof_tools.folders import files_under
 from cmsproof_tools.issuer_words import add_words, asked_of, goes_with_issuers, names_issuers
+from cmsproof_tools.known import Known
 from cmsproof_tools.outcomes import Outcome, json_lines, lost, named, text_lines
 from cmsproof_tools.pairs import USUAL, Pairs, ending_of, rows_of
 from cmsproof_tools.progress import Progress
@@ -54,18 +55,22 @@ no lines for the others. The first word `report` or `evidence` stands for anothe
 
 A file of such a name is ./report or ./evidence.
 
+With --known a refusal that the text FILE acknowledges counts no longer for the status. FILE has the code of each and the name of its
+file, as it is printed, as `S10 letter.p7s`, on a line of their own, and lines of comments that begin with #.
+
 Exit status: the worst that a file had: 0 all are accepted, or `stamped`; 1 one is refused; 2 one is malformed, or the trust list is;
-3 wrong words; 4 a file or a library failed.
+3 wrong words; 4 a file or a library failed; 5 not all are accepted, but with --known nothing is new.
 """
 # where descriptors have names
 PLACES = ("/dev/", "/proc/")
 
 
-def last_line(trust: str, trusted: bytes, resume: Resume | None, count: int, worst: int) -> str:
+def last_line(trust: str, trusted: bytes, resume: Resume | None, known: Known | None, count: int, worst: int) -> str:
     """The last line of JSON: which trust list it was, how many files there were, and the exit status."""
     members = {"trust": named(trust)["file"], "sha256": hashlib.sha256(trusted).hexdigest()}
     kept = {} if resume is None else {"kept": sum(resume.kept.values())}
-    return json.dumps({**members, "files": count, **kept, "worst": worst})
+    counts = {} if known is None else {"acknowledged": known.old, "new": sum(known.new.values())}
+    return json.dumps({**members, "files": count, **kept, **counts, "worst": worst})
 
 
 def names_in(path: str, null: bool) -> list[str]:
@@ -110,12 +115,17 @@ def trust_list(path: str, explain: bool) -> TrustList:
         raise Stop(FAILED, str(error)) from error
 
 
-def trust_by(tool: str, given: argparse.Namespace, named: TrustList | None, names: list[str]) -> TrustList:
+def trust_by(tool: str, given: argparse.Namespace, named: TrustList | None, names: list[str], known: Known | None) -> TrustList:
     """The trust list that is named, or the one that is made of what issuers issued, which is written before it is used."""
+
+    def of_file(line: str) -> None:
+        if known is None or not known.hold(line):
+            tell(tool, line)
+
     if not names_issuers(given) and named is not None:
         return named
     trusted = None if named is None else (given.trust, named.text)
-    made: TrustList = module("issuing").list_for(asked_of(given), trusted, names, lambda line: tell(tool, line))
+    made: TrustList = module("issuing").list_for(asked_of(given), trusted, names, lambda line: tell(tool, line), of_file)
     if given.write_trust is not None:
         write(given.write_trust, made.text)
     return made
@@ -130,11 +140,12 @@ def complaints(outcomes: list[Outcome]) -> Iterator[str]:
                 yield f"{outcome.called}: {text}"
 
 
-def print_lines(tool: str, several: list[list[Outcome]], line_of: Callable[[Outcome], str]) -> None:
-    """Writes the lines of some files at once, but those of a file behind what is said of it on standard error."""
+def print_lines(tool: str, several: list[list[Outcome]], line_of: Callable[[Outcome], str], known: Known | None = None) -> None:
+    """Writes the lines of some files at once, but those of a file behind what is said of it on standard error; nothing is said there of
+    what is acknowledged."""
     lines: list[str] = []
     for outcomes in several:
-        for text in complaints(outcomes):
+        for text in complaints(outcomes if known is None else known.without(outcomes)):
             write("-", "".join(lines).encode())
             lines.clear()
             tell(tool, text)
@@ -142,17 +153,25 @@ def print_lines(tool: str, several: list[list[Outcome]], line_of: Callable[[Outc
     write("-", "".join(lines).encode())
 
 
-def checked(tool: str, found: Iterable[list[list[Outcome]]], progress: Progress, line_of: Callable[[Outcome], str]) -> int:
-    """Writes the line of each outcome of each file, of some files at a time, and answers the worst status."""
+def checked(
+    tool: str,
+    found: Iterable[list[list[Outcome]]],
+    progress: Progress,
+    line_of: Callable[[Outcome], str],
+    known: Known | None = None,
+) -> int:
+    """Writes the line of each outcome of each file, of some files at a time, and answers the worst status of those that are not
+    acknowledged."""
     worst = DONE
     for several in found:
         progress.put("")
-        print_lines(tool, several, line_of)
+        print_lines(tool, several, line_of, known)
         for outcomes in several:
             ended = max(outcomes, key=lambda outcome: outcome.status, default=None)
             progress.step("content" if ended is None else ended.line)
-            worst = max(worst, DONE if ended is None else ended.status)
-    progress.end()
+            status = DONE if ended is None else ended.status
+            worst = max(worst, status if known is None or status == DONE else known.add(outcomes))
+    progress.end("" if known is None else known.text())
     return worst
 
 
@@ -199,55 +218,49 @@ def names_of(tool: str, given: argparse.Namespace, pairs: Pairs) -> tuple[list[s
     return names, frozenset(contents.intersection(walked))
 
 
+def add_contents(parser: Words) -> None:
+    """The words that say which files are contents, and what a signature may leave out."""
+    parser.add_argument("--content", metavar="FILE", help="the content, where the files do not hold it")
+    usual = "the content of a file that ends in SUFFIX is beside it and ends in ENDING; `.p7s=`, `.p7m=` and `.sig=` by default"
+    parser.add_argument("--pair", action="append", default=[], type=pair_of, metavar="SUFFIX=ENDING", help=usual)
+    alone = "no file beside another one is its content, unless a list says so"
+    parser.add_argument("--no-pairs", action="store_true", help=alone)
+    listed = "a list of files and their contents, with a TAB between"
+    parser.add_argument("--pairs-from", action="append", default=[], metavar="FILE", help=listed)
+    parser.add_argument("--sha1", action="store_true", help="allow SHA-1 as a digest of contents and stamped signatures")
+    parser.add_argument("--partial", action="store_true", help="allow signatures that do not cover the whole file, with a note")
+    parser.add_argument("--stamps", action="store_true", help="allow time-stamps in files that have no accepted signature")
+
+
+def add_state(parser: Words) -> None:
+    """The words that go with a state."""
+    kept = "a file with a row for each file: only what changed is judged again"
+    parser.add_argument("--state", metavar="FILE", help=kept)
+    since = "with --state: judge again what was judged before this time"
+    parser.add_argument("--since", type=moment_of, metavar="TIME", help=since)
+    parser.add_argument("--only", choices=VERDICTS, metavar="VERDICT", help="with --state: only files of this verdict")
+    parser.add_argument("--recheck", action="store_true", help="with --state: judge all files again")
+    known = "with --state: a text of refusals that are known, a code and a name on each line: the status is that of what is new"
+    parser.add_argument("--known", metavar="FILE", help=known)
+
+
 def parser_of(tool: str) -> Words:
     """The parser of the words."""
     parser = Words(tool, description=ABOUT)
     parser.add_argument("--trust", metavar="LIST", help="the trust list, which is read once")
     add_words(parser, several=False)
     parser.add_argument("--write-trust", metavar="FILE", help="with an issuer: the list that was made and used")
-    parser.add_argument("--content", metavar="FILE", help="the content, where the files do not hold it")
-    parser.add_argument("--sha1", action="store_true", help="allow SHA-1 as a digest of contents and stamped signatures")
-    parser.add_argument(
-        "--jobs",
-        type=jobs_of,
-        default=len(os.sched_getaffinity(0)),
-        metavar="N",
-        help="files that are checked at a time; as many as there are processors by default",
-    )
+    add_contents(parser)
+    jobs = "files that are checked at a time; as many as there are processors by default"
+    parser.add_argument("--jobs", type=jobs_of, default=len(os.sched_getaffinity(0)), metavar="N", help=jobs)
     parser.add_argument("--json", action="store_true", help="a line of JSON for each file, and a last one about all")
     parser.add_argument("--explain", action="store_true", help="a second line for each refusal: its cause and cure")
     parser.add_argument("--files-from", action="append", default=[], metavar="FILE", help="a list of names, one on each line")
-    parser.add_argument(
-        "--pair",
-        action="append",
-        default=[],
-        type=pair_of,
-        metavar="SUFFIX=ENDING",
-        help="the content of a file that ends in SUFFIX is beside it and ends in ENDING; `.p7s=`, `.p7m=` and `.sig=` by default",
-    )
-    parser.add_argument(
-        "--no-pairs", action="store_true", help="no file beside another one is its content, unless a list says so"
-    )
-    parser.add_argument(
-        "--pairs-from",
-        action="append",
-        default=[],
-        metavar="FILE",
-        help="a list of files and their contents, with a TAB between",
-    )
-    parser.add_argument("--partial", action="store_true", help="allow signatures that do not cover the whole file, with a note")
-    parser.add_argument("--stamps", action="store_true", help="allow time-stamps in files that have no accepted signature")
     parser.add_argument("--null", action="store_true", help="names in lists end in an octet 00, as find -print0 writes them")
-    parser.add_argument("--state", metavar="FILE", help="a file with a row for each file: only what changed is judged again")
-    parser.add_argument(
-        "--since", type=moment_of, metavar="TIME", help="with --state: judge again what was judged before this time"
-    )
-    parser.add_argument("--only", choices=VERDICTS, metavar="VERDICT", help="with --state: only files of this verdict")
-    parser.add_argument("--recheck", action="store_true", help="with --state: judge all files again")
+    add_state(parser)
     parser.add_argument("--dask", metavar="ADDRESS", help="let the workers of this scheduler of Dask check the files")
-    parser.add_argument(
-        "--progress", action="store_true", help="say how far the work is, also where standard error is not a terminal"
-    )
+    progress = "say how far the work is, also where standard error is not a terminal"
+    parser.add_argument("--progress", action="store_true", help=progress)
     parser.add_argument("--log", metavar="FILE", help="add a line of JSON to this file for each thousand files")
     parser.add_argument("--program", help=argparse.SUPPRESS)
     parser.add_argument("files", nargs="*", metavar="FILE", help="a signed file, a folder of files, or `-`")
@@ -266,10 +279,10 @@ def check_words(parser: Words, given: argparse.Namespace) -> None:
     """Ends the tool where words do not go together."""
     if given.program is not None:
         parser.error("there is no --program any more: the library libcmsproof is asked, and no program is run")
-    if "-" in (given.state, given.log):
-        parser.error("- is no name for --state and --log: write ./-")
-    if given.state is None and (given.since is not None or given.only is not None or given.recheck):
-        parser.error("--since, --only and --recheck need --state")
+    if "-" in (given.state, given.log, given.known):
+        parser.error("- is no name for --state, --known and --log: write ./-")
+    if given.state is None and (given.recheck or {given.since, given.only, given.known} != {None}):
+        parser.error("--since, --only, --recheck and --known need --state")
     if given.dask is not None and (given.content is not None or given.pairs_from):
         parser.error("--content and --pairs-from cannot be said with --dask")
 
@@ -289,7 +302,7 @@ def check_outputs(parser: Words, given: argparse.Namespace, names: list[str], pa
     if given.write_trust is None and given.log is None:
         return
     states = beside(given.state) if given.state else []
-    lists = [*states, given.content, *given.files_from, *given.pairs_from]
+    lists = [*states, given.known, given.content, *given.files_from, *given.pairs_from]
     in_folders = [found for folder in given.crl_dir for found in directly_in(folder)]
     issuers = [*given.issuer, *given.tsa_issuer, *given.intermediate, *given.crl, *in_folders, *given.ocsp, *given.trusted_list]
     read = [*lists, *issuers, given.scheme_operator, *names, *filter(None, map(pairs.content_of, names))]
@@ -308,7 +321,7 @@ def sum_of(content: File) -> bytes:
     return bytes(found)
 
 
-def resumed(tool: str, given: Any, stack: ExitStack, work: Work) -> tuple[Resume | None, Work]:
+def resumed(tool: str, given: Any, stack: ExitStack, work: Work, known: Known | None) -> tuple[Resume | None, Work]:
     """The state, if one is named, and the work with what is noted for it."""
     if given.state is None:
         return None, work
@@ -322,7 +335,7 @@ def resumed(tool: str, given: Any, stack: ExitStack, work: Work) -> tuple[Resume
     policy = " ".join(f"--{name}" for name in ("sha1", "partial", "stamps") if getattr(given, name))
     basis = Basis(hashlib.sha256(trusted).hexdigest(), content.hex(), policy, module("versions").versions_text())
     state.judge_by(basis, trusted)
-    return Resume(tool, state, given, work), work._replace(noting=Noting(keys_of(trusted), content, {}))
+    return Resume(tool, state, given, work, known), work._replace(noting=Noting(keys_of(trusted), content, {}))
 
 
 def outcomes(tool: str, given: Any, work: Work, names: list[str], stack: ExitStack) -> Iterable[list[list[Outcome]]]:
@@ -346,16 +359,17 @@ def outcomes(tool: str, given: Any, work: Work, names: list[str], stack: ExitSta
     return cast("Iterable[list[list[Outcome]]]", found)
 
 
-def run(tool: str, given: Any, work: Work, names: list[str], resume: Resume | None) -> int:
-    """Checks the files of these names that are due, and answers the worst status of all."""
+def run(tool: str, given: Any, work: Work, names: list[str], resume: Resume | None, known: Known | None) -> int:
+    """Checks the files of these names that are due, and answers the worst status of all, or with what is acknowledged that of the run."""
     due = names if resume is None else resume.due(names)
     asked = given.progress or given.dask is not None
     progress = Progress(tool, len(due), asked, given.log, None if resume is None else resume.kept)
     with ExitStack() as stack:
         found = outcomes(tool, given, work, due, stack)
         kept = found if resume is None else resume.kept_of(due, found)
-        worst = checked(tool, kept, progress, json_lines if given.json else text_lines)
-    return worst if resume is None else max(worst, resume.worst)
+        worst = checked(tool, kept, progress, json_lines if given.json else text_lines, known)
+    worst = worst if resume is None else max(worst, resume.worst)
+    return worst if known is None else known.status(worst)
 
 
 def command_of(words: list[str]) -> str | None:
@@ -374,6 +388,8 @@ def main(tool: str, words: list[str]) -> int:
     given = parser.parse_args(words)
     check_words(parser, given)
     check_issuers(parser, given)
+    # (what a person wrote is read first, so that a mistake in it costs no time)
+    known = None if given.known is None else Known(given.known)
     # A missing library ends the tool here, and not in a worker; and what each of them would read is read once.
     for name in ("verifying", "containers.twofold", *(["explaining", "cures"] if given.explain else [])):
         module(name)
@@ -385,14 +401,17 @@ def main(tool: str, words: list[str]) -> int:
     pairs = pairs_of(given)
     names, contents = names_of(tool, given, pairs)
     check_outputs(parser, given, names, pairs)
-    trust = trust_by(tool, given, named, names)
+    trust = trust_by(tool, given, named, names, known)
     work = Work(trust, content, given.sha1, given.explain, {}, pairs, contents, given.partial, given.stamps)
     if not names and (given.only is None or given.trust is None):
         parser.error("no file is named")
     with ExitStack() as stack:
-        resume, work = resumed(tool, given, stack, work)
+        resume, work = resumed(tool, given, stack, work, known)
         meant = names if resume is None else resume.named(names)
-        worst = run(tool, given, work, meant, resume)
+        worst = run(tool, given, work, meant, resume, known)
+    for line in () if known is None else known.left_to_tell(given.only is None):
+        tell(tool, line)
     if given.json:
-        write("-", last_line(given.trust or given.write_trust or "", trust.text, resume, len(meant), worst).encode() + b"\n")
+        last = last_line(given.trust or given.write_trust or "", trust.text, resume, known, len(meant), worst)
+        write("-", last.encode() + b"\n")
     return worst

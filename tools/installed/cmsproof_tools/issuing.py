@@ -220,14 +220,25 @@ def lines_of(head: Iterable[str], entries: Iterable[Entry]) -> Iterator[str]:
 
 
 def list_text(
-    asked: Asked, given: Iterable[Entry], names: list[str], told: Told, unread: Told | None = None
+    asked: Asked,
+    given: Iterable[Entry],
+    names: list[str],
+    told: Told,
+    unread: Told | None = None,
+    of_file: Told | None = None,
 ) -> tuple[bytes, int]:
     """The list for these files as a text, and the worst status of a file. `unread`, or else `told`, is called with the line of a
-    file that cannot be read."""
+    file that cannot be read; `of_file`, or else `told`, with a line about whose certificates in a file get an entry."""
     tell = once(told)
     lists = trusted_lists_of(asked, tell)
     with trusted_by(asked, lists, tell) as trusted:
-        entries, worst = grown(trusted, [*given, *authorities_of(lists, asked.most)], names, tell, unread or tell)
+        entries, worst = grown(
+            trusted,
+            [*given, *authorities_of(lists, asked.most)],
+            names,
+            tell if of_file is None else once(of_file),
+            unread or tell,
+        )
         text = "".join(line + "\n" for line in lines_of(head_of(trusted, lists), entries)).encode("utf-8", "surrogateescape")
     if len(TrustList(text)) != len(entries):
         raise Stop(FAILED, "the list that was made is not read as it was meant")
@@ -252,9 +263,12 @@ def entries_of(trusted: bytes, name: str) -> list[Entry]:
     return [Entry(row.role, Period(row.first, row.last), Certificate(row.octets), shown(name)) for row in rows]
 
 
-def list_for(asked: Asked, trusted: tuple[str, bytes] | None, names: list[str], told: Told) -> TrustList:
-    """The list by which files are checked: the entries of the list that is named, if one is, and what issuers issued."""
+def list_for(
+    asked: Asked, trusted: tuple[str, bytes] | None, names: list[str], told: Told, of_file: Told | None = None
+) -> TrustList:
+    """The list by which files are checked: the entries of the list that is named, if one is, and what issuers issued. What is told is as
+    of `list_text`."""
     given = entries_of(trusted[1], trusted[0]) if trusted else []
     # (a file that cannot be read has a line of its own in the check)
-    text, _ = list_text(asked, given, names, told, lambda line: None)
+    text, _ = list_text(asked, given, names, told, lambda line: None, of_file)
     return TrustList(text)

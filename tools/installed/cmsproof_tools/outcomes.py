@@ -6,7 +6,7 @@ import os
 from typing import Any, NamedTuple
 
 from cmsproof_tools.lines import parts_of
-from cmsproof_tools.running import FAILED, one_line, shown
+from cmsproof_tools.running import FAILED, one_line, shown, shown_apart
 
 
 # what the line of JSON has only where there is something to say
@@ -41,7 +41,7 @@ class Outcome(NamedTuple):
         if not self.part:
             return shown(self.name)
         both = f"{self.name} {self.part}"
-        return rf"{shown(self.name)}\x20{shown(self.part)}" if is_there(both) else shown(both)
+        return shown_apart(self.name, self.part) if is_there(both) else shown(both)
 
 
 def is_there(name: str) -> bool:

@@ -2,9 +2,11 @@
 // The table of the files: only the rows that can be seen are in the document. Texts are set as texts, never as HTML.
 (() => {
   const data = JSON.parse(document.getElementById("data").textContent);
-  const HEIGHT = 28, AROUND = 20, PRINTED = 500;
-  const view = document.getElementById("window"), body = document.getElementById("rows");
-  const search = document.getElementById("search"), verdict = document.getElementById("verdict"), count = document.getElementById("count");
+  const AROUND = 20, PRINTED = 500, fresh = new Set(data.new);
+  const [view, body, search, verdict, code, count, whole] =
+    ["window", "rows", "search", "verdict", "code", "count", "whole"].map(name => document.getElementById(name));
+  // how high a row is, in pixels, which the style says: on a narrow page it has several lines
+  let height = 28;
   const text = [
     row => row[0],
     row => data.lines[row[1]],
@@ -13,11 +15,13 @@
     row => row[4],
   ];
   const word = row => data.lines[row[1]].split(" ", 1)[0];
+  const fits = (number, row) => !verdict.value || (verdict.value === "new" ? fresh.has(number) : word(row) === verdict.value);
   const sought = data.rows.map(row => [0, 1, 3].map(column => text[column](row)).join("\n").toLowerCase());
   let order = data.rows.map((_, number) => number), shown = order, column = -1, descending = false;
 
   function cells(number) {
     const row = data.rows[number], line = document.createElement("tr");
+    line.dataset.number = number;
     text.forEach((of, at) => {
       const cell = line.insertCell();
       cell.textContent = cell.title = of(row);
@@ -30,12 +34,13 @@
     const line = document.createElement("tr"), cell = line.insertCell();
     line.className = "space";
     cell.colSpan = text.length;
-    cell.style.height = rows * HEIGHT + "px";
+    cell.style.height = rows * height + "px";
     return line;
   }
   function draw(printed) {
-    const first = printed ? 0 : Math.max(0, Math.floor(view.scrollTop / HEIGHT) - AROUND);
-    const last = printed ? PRINTED : first + Math.ceil(view.clientHeight / HEIGHT) + 2 * AROUND;
+    height = parseFloat(getComputedStyle(view).getPropertyValue("--row"));
+    const first = printed ? 0 : Math.max(0, Math.floor(view.scrollTop / height) - AROUND);
+    const last = printed ? PRINTED : first + Math.ceil(view.clientHeight / height) + 2 * AROUND;
     const lines = shown.slice(first, last).map(cells);
     if (printed && shown.length > last) {
       const line = document.createElement("tr"), cell = line.insertCell();
@@ -49,8 +54,11 @@
     body.replaceChildren(...lines);
   }
   function select() {
-    const part = search.value.toLowerCase(), wanted = verdict.value;
-    shown = order.filter(number => (!part || sought[number].includes(part)) && (!wanted || word(data.rows[number]) === wanted));
+    const part = search.value.toLowerCase(), rule = code.value;
+    shown = order.filter(number => {
+      const row = data.rows[number];
+      return (!part || sought[number].includes(part)) && fits(number, row) && (!rule || data.codes[row[1]] === rule);
+    });
     count.textContent = `${shown.length} of ${data.rows.length} rows`;
     view.scrollTop = 0;
     draw(false);
@@ -73,6 +81,15 @@
   document.getElementById("asked").addEventListener("submit", event => event.preventDefault());
   search.addEventListener("input", select);
   verdict.addEventListener("change", select);
+  code.addEventListener("change", select);
+  document.querySelectorAll("a[data-code]").forEach(link => link.addEventListener("click", () => {
+    [search.value, verdict.value, code.value] = ["", "", link.dataset.code];
+    select();
+  }));
+  body.addEventListener("click", event => {
+    const row = data.rows[event.target.closest("tr").dataset.number];
+    if (row) whole.textContent = text.map(of => of(row)).filter(Boolean).join(" \u2014 ");
+  });
   view.addEventListener("scroll", () => draw(false), { passive: true });
   window.addEventListener("resize", () => draw(false));
   window.addEventListener("beforeprint", () => draw(true));

@@ -11,8 +11,10 @@ from typing import NamedTuple
 
 from cmsproof_tools import plots
 from cmsproof_tools.certificates import Certificate
-from cmsproof_tools.cures import known_cures
+from cmsproof_tools.cures import known_cures, plain
+from cmsproof_tools.known import Known as Acknowledged
 from cmsproof_tools.lines import parts_of
+from cmsproof_tools.report import is_new
 from cmsproof_tools.rows import Row, time_text
 from cmsproof_tools.running import DONE, shown
 from cmsproof_tools.state import VERDICTS, Basis, State, grounds_in
@@ -50,13 +52,16 @@ class Tally:
 
     def __init__(self) -> None:
         self.verdicts, self.years, self.codes = Counter[str](), Counter[str](), Counter[str]()
+        # how many rows are not acknowledged, in all and of each code; None where nobody said what is
+        self.new: int | None = None
+        self.new_codes = Counter[str]()
         self.words: dict[str, str] = {}
         self.grounds: Counter[str] = Counter()
         self.bases: Counter[int] = Counter()
         self.judged: tuple[int, int] = (0, 0)
 
-    def add(self, row: Row, basis: int) -> None:
-        """One row more."""
+    def add(self, row: Row, basis: int, new: bool | None) -> None:
+        """One row more, and whether it is new."""
         verdict = row.line.partition(" ")[0]
         self.verdicts[verdict] += 1
         self.bases[basis] += 1
@@ -65,9 +70,17 @@ class Tally:
         if verdict == "accepted":
             self.years[row.line.partition(" ")[2][:4]] += 1
             self.grounds[row.grounds] += 1
-        elif code := (parts_of(row.status, row.line) or {}).get("code"):
+        elif code := code_of(row):
             self.codes[code] += 1
+            self.new_codes[code] += bool(new)
             self.words.setdefault(code, verdict)
+        if new is not None:
+            self.new = (self.new or 0) + new
+
+
+def code_of(row: Row) -> str:
+    """The code of a row, if its line has one."""
+    return (parts_of(row.status, row.line) or {}).get("code", "")
 
 
 class Hanging:
@@ -120,15 +133,20 @@ def day_of(time: str) -> str:
     return f"{time[:4]}-{time[4:6]}-{time[6:8]}" if len(time) >= 8 else ""
 
 
-def cells(kind: str, values: list[tuple[str, str]]) -> str:
-    """A row of a table: each value with the class of its cell, escaped."""
-    return "<tr>" + "".join(f'<{kind} class="{name}">{html.escape(text)}</{kind}>' for name, text in values) + "</tr>"
-
-
 def table(head: list[tuple[str, str]], rows: list[list[tuple[str, str]]]) -> str:
-    """A table."""
-    body = "\n".join(cells("td", row) for row in rows)
-    return f'<div class="scroll"><table><thead>{cells("th", head)}</thead><tbody>\n{body}\n</tbody></table></div>'
+    """A table, of a head and values with the classes of their cells, escaped. Each cell has what the head says of it, which a narrow page
+    shows before it."""
+    titles = [html.escape(title) for _, title in head]
+    heads = "".join(f'<th class="{name}">{title}</th>' for (name, _), title in zip(head, titles))
+    body = "\n".join(
+        "<tr>"
+        + "".join(
+            f'<td class="{name}" data-head="{title}">{html.escape(text)}</td>' for (name, text), title in zip(row, titles)
+        )
+        + "</tr>"
+        for row in rows
+    )
+    return f'<div class="scroll"><table class="cards"><thead><tr>{heads}</tr></thead><tbody>\n{body}\n</tbody></table></div>'
 
 
 def section(name: str, title: str, inside: str) -> str:
@@ -143,6 +161,8 @@ def totals(tally: Tally) -> str:
     items = [
         f'<li class="{word}"><strong>{number:,}</strong>{word}, {100 * number / count:.1f} %</li>' for word, number in found
     ]
+    if tally.new is not None:
+        items.append(f'<li class="new"><strong>{tally.new:,}</strong>new: not accepted, and not acknowledged</li>')
     return f'<ul class="totals"><li><strong>{count:,}</strong>in all</li>{"".join(items)}</ul>'
 
 
@@ -169,14 +189,21 @@ def digests_table(hanging: Hanging) -> str:
     return table([("", "Digest algorithm"), ("number", "Files, of a signer"), ("number", "Files, of a stamp")], rows)
 
 
-def cures_table(tally: Tally) -> str:
-    """What refused files, and what helps."""
-    cures, rows = known_cures(), []
+def rules(tally: Tally) -> str:
+    """The rules that refused files: how many, with a link to these, when each refuses, and what helps."""
+    cures, found, most = known_cures(), [], max(tally.codes.values())
     for code, number in sorted(tally.codes.items(), key=lambda pair: (-pair[1], pair[0])):
-        cure = cures.get(code)
-        said = [cure.when, cure.cure, f"section {cure.section}"] if cure else ["", "", ""]
-        rows.append([(tally.words[code], code), ("number", f"{number:,}"), *(("", text.replace("`", "")) for text in said)])
-    return table([("", "Rule"), ("number", "Files"), ("", "When it refuses"), ("", "What helps"), ("", "REFUSALS.md")], rows)
+        name, count = html.escape(code), f"{number:,} file{'s' * (number > 1)}"
+        new = "" if tally.new is None else f", {tally.new_codes[code]:,} new"
+        link = f'<a href="#files" data-code="{name}">{count}{new}</a>'
+        kind = tally.words[code]
+        found.append(f'<h3 id="rule-{name}" class="{html.escape(kind)}">{name} <small>{link}</small></h3>')
+        found.append(plots.bar(number / most, kind))
+        if cure := cures.get(code):
+            texts = ("When it refuses", cure.when), ("What helps", f"{cure.cure} (REFUSALS.md, section {cure.section})")
+            said = "".join(f"<div><dt>{title}</dt><dd>{html.escape(plain(text))}</dd></div>" for title, text in texts)
+            found.append(f"<dl>{said}</dl>")
+    return "\n".join(found)
 
 
 def bases_table(tally: Tally, bases: dict[int, Basis]) -> str:
@@ -206,7 +233,9 @@ def sections(tally: Tally, hanging: Hanging, known: dict[Place, Known], bases: d
         what += "shortest must be stamped anew first, above all files with stamps of no other authority."
         found += [
             section(
-                "years", "Accepted: by which year", plots.columns(tally.years, "Accepted files by the year of their moment")
+                "years",
+                "Accepted: by which year",
+                f'<div class="scroll">{plots.columns(tally.years, "Accepted files by the year of their moment")}</div>',
             ),
             section(
                 "authorities",
@@ -217,15 +246,8 @@ def sections(tally: Tally, hanging: Hanging, known: dict[Place, Known], bases: d
             section("digests", "By which digest algorithm", digests_table(hanging)),
         ]
     if tally.codes:
-        bars = plots.bars([(code, number, tally.words[code]) for code, number in tally.codes.most_common(30)], "Files by rule")
-        found.append(section("rules", "Not accepted: by which rule, and what helps", bars + cures_table(tally)))
+        found.append(section("rules", "Not accepted: by which rule, and what helps", rules(tally)))
     return "\n".join([*found, section("bases", "By what they were judged", bases_table(tally, bases))])
-
-
-def called(state: State, row: Row) -> str:
-    """The name of a file and its part, with an escape between where another file has both as its name."""
-    is_there = row.part and state.of_file(f"{row.name} {row.part}")
-    return rf"{shown(row.name)}\x20{shown(row.part)}" if is_there else row.called
 
 
 def row_data(name: str, row: Row, lines: dict[str, int], places: dict[str, int], known: dict[Place, Known]) -> list[object]:
@@ -244,11 +266,11 @@ def embedded(value: object) -> str:
     return text.replace("&", "\\u0026").replace("<", "\\u003c").replace(">", "\\u003e")
 
 
-def read_all(state: State, only: str) -> tuple[Tally, list[Row], int]:
+def read_all(state: State, only: str, acknowledged: Acknowledged | None) -> tuple[Tally, list[Row], int]:
     """What all rows add up to, the rows for the table, those that are not accepted before others, and how many of these there are."""
     tally, others, good = Tally(), list[Row](), list[Row]()
     for row, basis in state.rows(only):
-        tally.add(row, basis)
+        tally.add(row, basis, None if acknowledged is None else is_new(state, row, acknowledged))
         kept = good if row.status == DONE else others
         if len(kept) < MOST_ROWS:
             kept.append(row)
@@ -266,15 +288,25 @@ def left_out(tally: Tally, rows: list[Row], bad: int) -> str:
     return f"{missing:,} rows are not in this table{what}: --csv has them. " if missing else ""
 
 
-def page(state: State, only: str) -> str:
-    """The page of all rows, or of those of one verdict."""
-    tally, rows, bad = read_all(state, only)
+def codes_in(tally: Tally) -> str:
+    """The choices of a rule in the form over the table."""
+    return "".join(f"<option>{html.escape(code)}</option>" for code in sorted(tally.codes))
+
+
+def page(state: State, only: str, acknowledged: Acknowledged | None = None) -> str:
+    """The page of all rows, or of those of one verdict; with what is acknowledged it tells what is new."""
+    tally, rows, bad = read_all(state, only, acknowledged)
     bases = state.bases()
     hanging = Hanging(tally.grounds)
     known = known_certificates(state, [bases[number] for number in tally.bases if number in bases], set(hanging.files))
     lines: dict[str, int] = {}
     places: dict[str, int] = {}
-    data = [row_data(called(state, row), row, lines, places, known) for row in rows]
+    data = [row_data(state.called(row), row, lines, places, known) for row in rows]
+    new = [] if acknowledged is None else [at for at, row in enumerate(rows) if is_new(state, row, acknowledged)]
+    codes: dict[str, str] = {}
+    for row in rows:
+        if row.line not in codes:
+            codes[row.line] = code_of(row) if row.status != DONE else ""
     authorities = [known["tsa", name].subject if ("tsa", name) in known else name for name in places]
     folder = Path(__file__).parent
     script = (folder / "page.js").read_text(encoding="utf-8")
@@ -289,7 +321,17 @@ def page(state: State, only: str) -> str:
         "@FOOTER@": "A record and no evidence: it says what the state says, also of files that are gone or changed since. <code>cmsproof-archive evidence</code> makes a bundle "
         "that shows a verdict again.",
         "@HASH@": base64.b64encode(hashlib.sha256(script.encode()).digest()).decode(),
-        "@DATA@": embedded({"rows": data, "lines": list(lines), "authorities": authorities}),
+        "@CODES@": codes_in(tally),
+        "@NEW@": '<option value="new">new</option>' if acknowledged is not None else "",
+        "@DATA@": embedded(
+            {
+                "rows": data,
+                "lines": list(lines),
+                "codes": [codes[line] for line in lines],
+                "authorities": authorities,
+                "new": new,
+            }
+        ),
         "@SCRIPT@": script,
     }
     return filled((folder / "page.html").read_text(encoding="utf-8"), parts)

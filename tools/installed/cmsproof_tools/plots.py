@@ -1,4 +1,4 @@
-"""Plots as SVG: columns by year, and bars by rule."""
+"""Plots as SVG: columns by year, and the bar of a rule."""
 from __future__ import annotations
 
 import html
@@ -41,12 +41,7 @@ def columns(counts: Counter[str], title: str) -> str:
     return framed(step * len(years), high + 44, title, parts)
 
 
-def bars(rows: list[tuple[str, int, str]], title: str) -> str:
-    """A bar for each row: its name, its number and the class of its colour."""
-    most, parts = max(number for _, number, _ in rows), list[str]()
-    for at, (name, number, kind) in enumerate(rows):
-        top, wide = at * 22, 640 * number / most
-        parts.append(f'<text x="44" y="{top + 15}" text-anchor="end">{html.escape(name)}</text>')
-        parts.append(f'<rect class="{html.escape(kind)}" x="52" y="{top + 3}" width="{wide:.1f}" height="16"/>')
-        parts.append(f'<text x="{58 + wide:.1f}" y="{top + 15}">{number:,}</text>')
-    return framed(780, 22 * len(rows) + 4, title, parts)
+def bar(part: float, kind: str) -> str:
+    """A bar over this part of the width, in the class of its colour; the number that it shows stands beside it as text."""
+    rest = 'preserveAspectRatio="none" aria-hidden="true"'
+    return f'<svg class="rule" viewBox="0 0 100 1" {rest}><rect class="{html.escape(kind)}" width="{100 * part:.2f}" height="1"/></svg>'

@@ -83,11 +83,12 @@ class Progress:
         said = {"time": time_text(int(time.time())), "done": self.done, "of": self.total, "seconds": seconds, **self.counts}
         self.write_log(json.dumps(said).encode() + b"\n")
 
-    def end(self) -> None:
-        """Says what was found."""
+    def end(self, more: str = "") -> None:
+        """Says what was found, and more behind it."""
         text = f"{self.done} of {self.total} files: {counted(self.counts)}" if self.total else "0 files"
         if self.kept:
             text += f"; {sum(self.kept.values())} are as before: {counted(self.kept)}"
+        text += more
         if self.log is not None and (self.done % LOGGED or not self.done):
             self.write_line()
         if self.shown:

@@ -7,10 +7,11 @@ import json
 import re
 from typing import Any, Iterator
 
+from cmsproof_tools.known import Known
 from cmsproof_tools.outcomes import named
 from cmsproof_tools.lines import parts_of
 from cmsproof_tools.rows import Row, time_text
-from cmsproof_tools.running import DONE, USAGE, Stop, Words, check_kept, module, one_line, shown, write
+from cmsproof_tools.running import DONE, USAGE, Stop, Words, check_kept, module, one_line, shown, tell, write
 from cmsproof_tools.state import VERDICTS, Basis, State, beside, grounds_in
 
 ABOUT = """Shows what a state of cmsproof-archive holds.
@@ -18,7 +19,7 @@ ABOUT = """Shows what a state of cmsproof-archive holds.
     cmsproof-archive --trust trust.txt --state archive.state --files-from names.txt
     cmsproof-archive report archive.state --html archive.html
 
-The page needs no other file and no network. OUT may be `-`, standard output. A state is a record and no evidence: it says what
+With --known it tells what is new: what is not accepted, and not acknowledged in this text, as cmsproof-archive --known reads it. The page needs no other file and no network. OUT may be `-`, standard output. A state is a record and no evidence: it says what
 its writer put there. `cmsproof-archive evidence` makes a bundle that shows a verdict again.
 
 Exit status: 0 done; 3 wrong words; 4 the state is none or is damaged, or OUT cannot be written.
@@ -98,10 +99,11 @@ def csv_line(values: list[Any]) -> str:
     return text.getvalue()
 
 
-def csv_text(state: State, only: str) -> Iterator[str]:
+def csv_text(state: State, only: str, known: Known | None) -> Iterator[str]:
     """All rows as CSV (RFC 4180), with a line of the columns' names before them."""
     bases = state.bases()
-    yield csv_line(list(COLUMNS))
+    columns = [*COLUMNS, *([] if known is None else ["new"])]
+    yield csv_line(columns)
     for row, basis in state.rows(only):
         part = whole(shown(row.part))
         said = {
@@ -109,15 +111,22 @@ def csv_text(state: State, only: str) -> Iterator[str]:
             "file": cell(whole(shown(row.name))),
             "line": whole(row.line),
             "part": part if PART.fullmatch(part) else "'" + part,
+            "new": "yes" if is_new(state, row, known) else "no",
         }
-        yield csv_line([said[name] for name in COLUMNS])
+        yield csv_line([said[name] for name in columns])
 
 
-def json_text(state: State, only: str) -> Iterator[str]:
+def json_text(state: State, only: str, known: Known | None) -> Iterator[str]:
     """All rows as lines of JSON."""
     bases = state.bases()
     for row, basis in state.rows(only):
-        yield json.dumps(members(row, bases.get(basis))) + "\n"
+        new = {} if known is None else {"new": is_new(state, row, known)}
+        yield json.dumps({**members(row, bases.get(basis)), **new}) + "\n"
+
+
+def is_new(state: State, row: Row, known: Known | None) -> bool:
+    """Whether a row is not accepted, and not acknowledged."""
+    return row.status != DONE and not (known is not None and known.covers(row.status, row.line, state.called(row)))
 
 
 def main(tool: str, words: list[str]) -> int:
@@ -128,16 +137,21 @@ def main(tool: str, words: list[str]) -> int:
     if not asked:
         raise Stop(USAGE, f"--html, --csv or --json is missing (see {tool} --help)")
     for number, (_, out) in enumerate(asked):
-        check_kept(out, [*beside(given.state), *(other for _, other in asked[:number] if other != "-")])
+        check_kept(out, [*beside(given.state), given.known, *(other for _, other in asked[:number] if other != "-")])
         if out in [other for _, other in asked[:number]]:
             parser.error(f"two of --html, --csv and --json are written into {shown(out)}")
+    if given.known == "-":
+        parser.error("- is no name for --known: write ./-")
+    known = None if given.known is None else Known(given.known)
     with State(given.state, is_new=False) as state:
         for name, out in asked:
             if name == "html":
-                text = module("page").page(state, given.only or "")
+                text = module("page").page(state, given.only or "", known)
             else:
-                text = "".join((csv_text if name == "csv" else json_text)(state, given.only or ""))
+                text = "".join((csv_text if name == "csv" else json_text)(state, given.only or "", known))
             write(out, text.encode("utf-8", "backslashreplace"))
+    for line in () if known is None else known.left_to_tell(given.only is None):
+        tell(tool, line)
     return DONE
 
 
@@ -148,5 +162,6 @@ def parser_of(tool: str) -> Words:
     parser.add_argument("--html", metavar="OUT", help="write a page")
     parser.add_argument("--csv", metavar="OUT", help="write a table, a line for each row")
     parser.add_argument("--json", metavar="OUT", help="write a line of JSON for each row")
+    parser.add_argument("--known", metavar="FILE", help="a text of refusals that are known: it is told what is new beside them")
     parser.add_argument("--only", choices=VERDICTS, metavar="VERDICT", help="only rows of this verdict: " + ", ".join(VERDICTS))
     return parser

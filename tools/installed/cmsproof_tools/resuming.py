@@ -8,6 +8,7 @@ from collections import Counter
 from typing import Any, Iterable, Iterator
 
 from cmsproof_tools.checking import Work
+from cmsproof_tools.known import Known
 from cmsproof_tools.outcomes import Outcome
 from cmsproof_tools.rows import NOTHING, Row, mark_now, seen_here
 from cmsproof_tools.running import DONE, one_line, tell
@@ -29,9 +30,9 @@ def moment_of(text: str) -> int:
 class Resume:
     """A state in use: which of the named files are due, and how the others stand."""
 
-    def __init__(self, tool: str, state: State, given: Any, work: Work) -> None:
+    def __init__(self, tool: str, state: State, given: Any, work: Work, known: Known | None = None) -> None:
         self.tool, self.state, self.since, self.recheck, self.only = tool, state, given.since or 0, given.recheck, given.only
-        self.work, self.is_elsewhere = work, given.dask is not None
+        self.work, self.is_elsewhere, self.known = work, given.dask is not None, known
         self.kept: Counter[str] = Counter()
         self.worst = DONE
 
@@ -61,10 +62,16 @@ class Resume:
             if rows:
                 ended = max(rows, key=lambda row: row.status)
                 self.kept[ended.line.partition(" ")[0]] += 1
-                self.worst = max(self.worst, ended.status)
+                self.worst = max(self.worst, self.status_of(rows, ended.status))
             else:
                 found.append(name)
         return found
+
+    def status_of(self, rows: list[Row], worst: int) -> int:
+        """The worst status of the parts of a file that are not acknowledged, of which this is the worst one."""
+        if self.known is None or worst == DONE:
+            return worst
+        return self.known.add([Outcome(row.name, row.status, row.line, part=row.part) for row in rows])
 
     def warn(self, name: str, rows: list[Row]) -> None:
         """Says of which part the octets changed although its times say that they did not."""

@@ -13,8 +13,8 @@ from typing import IO, Any, Callable, Iterable, NoReturn, TypeVar, cast
 from cmsproof_tools import VERSION, descriptors
 from cmsproof_tools.writing import put, written
 
-# the exit statuses, which are those of the program
-DONE, REFUSED, MALFORMED, USAGE, FAILED = range(5)
+# the exit statuses, which are those of the program, and that of a run in which all that is not accepted is acknowledged
+DONE, REFUSED, MALFORMED, USAGE, FAILED, ACKNOWLEDGED = range(6)
 OLDEST_PYTHON = (3, 9)
 OUTPUT, COMPLAINTS = 1, 2
 # how many octets are few enough to be kept
@@ -64,6 +64,13 @@ def shown(name: str) -> str:
     """A name as it is shown: as one line, with its backslashes doubled, so that it can be told from a name that has an escape,
     and with no space behind a colon, so that it has no part of a line that is put behind it."""
     return one_line(name.replace("\\", "\\\\")).replace(": ", ":\\x20")
+
+
+def shown_apart(name: str, part: str) -> str:
+    """A name and a part as they are shown where another name looks like both: with an escape between, and one for a colon before it,
+    behind which `shown` puts that escape too."""
+    first = shown(name)
+    return (first[:-1] + r"\x3a" if first.endswith(":") else first) + r"\x20" + shown(part)
 
 
 def read(path: str) -> bytes:

@@ -18,7 +18,7 @@ from urllib.parse import quote
 
 from cmsproof_tools.lines import parts_of
 from cmsproof_tools.rows import Decided, Ground, Row
-from cmsproof_tools.running import FAILED, Stop, shown
+from cmsproof_tools.running import FAILED, Stop, shown, shown_apart
 
 # `cmsp`, by which the file is known, and the version of its tables and of the texts in them
 APPLICATION, VERSION = 0x636D7370, 2
@@ -317,6 +317,11 @@ class State:
     def of_file(self, name: str) -> list[tuple[Row, int]]:
         """The rows of a file that are written, each with the number of its basis."""
         return list(self.rows_where("WHERE name = ?", (os.fsencode(name),)))
+
+    def called(self, row: Row) -> str:
+        """The name of a file and its part, as they are shown, with an escape between where another file has both as its name."""
+        is_there = row.part and self.of_file(f"{row.name} {row.part}")
+        return shown_apart(row.name, row.part) if is_there else row.called
 
     def kept(self, name: str, mark: str, since: int = 0) -> list[Row]:
         """The rows of a file that need not be judged again: it has this mark, they are by the same basis and judged since this

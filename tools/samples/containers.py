@@ -2,6 +2,8 @@
 makes those that the documents show, in the folder where it is run:
 
     python3 tools/samples/containers.py
+
+With the name of a file behind it makes a PDF alone, which signer.pem signs there by signer.key, without a stamp.
 """
 from __future__ import annotations
 
@@ -221,6 +223,16 @@ def one_of_each(maker):
     }
 
 
+def make_pdf(name):
+    """Makes a PDF that is signed, and not stamped, by the signer in this folder."""
+
+    def sign(content):
+        words = ["-sign", "-cades", "-binary", "-outform", "DER", "-signer", "signer.pem", "-inkey", "signer.key"]
+        return subprocess.run(["openssl", "cms", *words], input=content, capture_output=True, check=True).stdout
+
+    Path(name).write_bytes(pdf_signed(sign))
+
+
 def main():
     """Makes what the documents show: the folder `letters` with one of each, `later.pdf`, and the trust list `letters.txt`."""
     folder = Path("letters")
@@ -236,4 +248,4 @@ def main():
 
 
 if __name__ == "__main__":
-    main()
+    main() if len(sys.argv) == 1 else make_pdf(sys.argv[1])

@@ -4,7 +4,7 @@ import subprocess
 import sys
 import unittest
 
-from making import TOP
+from making import TOP, lacking_tools
 
 from cmsproof import lists, tokens
 from cmsproof_tools.containers.refusals import WORDS
@@ -70,6 +70,7 @@ class Table(unittest.TestCase):
                 self.assertRegex(said_of(code), r"^Cause: .+\. Cure: .+ \(REFUSALS\.md, section [0-9]+\)\.$")
                 self.assertNotRegex(said_of(code), "[\n`|]")
 
+    @unittest.skipIf(lacking_tools(), lacking_tools())
     def test_no_cure_trusts_somebody_without_a_comparison(self):
         """Whom the file names was chosen by whoever made it."""
         from cmsproof_tools.explaining import CURES, TOKEN_ALONE

@@ -113,6 +113,17 @@ class Rules(WithWorld):
         self.assertIn("it was revoked", said)
         self.assertNotIn("give it another period", said)
 
+    def test_more_than_get_one(self):
+        """Twenty-two signers of one file: a line says, once, that not all get an entry for no time, and a check says S7 of the others."""
+        w, people = self.world, [h.issue(f"Q{number}", self.world.sub) for number in range(22)]
+        signers = [h.signed_by(who, [h.type_attribute(h.DATA), h.digest_attribute(h.sha(b"letter"))]) for who in people]
+        bag = b"".join(sorted([*(who.octets for who in people), w.sub.octets]))
+        for count, lines in ((20, 0), (21, 1), (22, 1)):
+            file = h.signed_data(signers[:count], b"letter", h.DATA, bag)
+            _, told = w.made([file])
+            self.assertEqual(sum("no more than 20 certificates get an entry for no time" in line for line in told), lines, told)
+            self.assertEqual(len(w.barred), 20)
+
     def test_an_entry_for_no_time_never_counts(self):
         """Also of a stamp at its one moment, to the nanosecond, when the certificate is no longer valid (RFC 5280 4.1.2.5)."""
         w = self.world

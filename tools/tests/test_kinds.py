@@ -140,6 +140,20 @@ class Alone(unittest.TestCase):
             self.assertEqual(cmsproof.attach(file, token).code, "A3" if text else None, text)
         self.assertEqual(token_fault(real("two_attached_ts.p7s"))[:27], "its content has the type 1.")
 
+    def test_how_many_signers_a_token_has(self):
+        """Against what `match` says of them in a response, by P3 (RFC 3161 2.4.2)."""
+        request = real("rsa_attached.1.tsq")
+        status, token = der.elements(der.only(real("rsa_attached.1.tsr")).body())
+        name, explicit = der.elements(der.only(token.whole()).body())
+        *parts, signers = [part.whole() for part in der.elements(der.only(explicit.body()).body())]
+        for count in range(3):
+            several = element(0x31, der.only(signers).body() * count)
+            made = element(0x30, name.whole(), element(0xA0, element(0x30, *parts, several)))
+            code = cmsproof.match(request, element(0x30, status.whole(), made)).code
+            self.assertEqual(
+                (token_fault(made), code), ("", None) if count == 1 else (f"it has {count} signers, and not one", "P3")
+            )
+
 
 class OneAnswer(unittest.TestCase):
     """One kind of file, one answer: in BER and in DER, wherever a file of a zip file stands, by each version of the library."""
@@ -153,21 +167,31 @@ class OneAnswer(unittest.TestCase):
         return out.decode().partition(": ")[2].strip(), err
 
     def test_other_cms_in_ber(self):
+        """Each type of CMS that openssl makes in both forms. In DER it is refused by its type, in BER by the tool too; the program says of
+        BER that it is, and after the cure of that, `openssl cms -cmsout`, the type."""
         keys, content = Keys(), REAL / "blob.bin"
         self.addCleanup(keys.close)
-        words = ["-binary", "-aes-256-cbc", "-in", content, "-outform", "DER"]
-        sealed = {form: openssl("cms", "-encrypt", *form, *words, keys.certificate("P-256")) for form in ((), ("-stream",))}
-        create = ["cms", "-data_create", "-in", content, "-outform", "DER"]
-        bare = {form: openssl(*create, *form) for form in ((), ("-stream",))}
-        for files in (sealed, bare):
-            self.assertEqual([octets[:2] == b"\x30\x80" for octets in files.values()], [False, True])
-            self.assertEqual({self.line(octets)[0] for octets in files.values()}, {"refused C2 NotSignedData"})
-            long = files[()]
-            size = len(der.only(long).body())
-            self.assertEqual(
-                self.line(b"\x30\x84" + size.to_bytes(4, "big") + der.only(long).body())[0], "refused C2 NotSignedData"
-            )
-            self.assertEqual(self.line(files[("-stream",)][:-2])[0], "refused F3 Broken")
+        folder, to = folder_of(self), keys.certificate("P-256")
+        for what, words, last in (
+            ("enveloped", ["-encrypt", "-binary", "-aes-256-cbc"], [to]),
+            ("authenticated", ["-encrypt", "-binary", "-aes-256-gcm"], [to]),
+            ("encrypted", ["-EncryptedData_encrypt", "-secretkey", "00" * 16, "-aes128"], []),
+            ("digested", ["-digest_create"], []),
+            ("bare", ["-data_create"], []),
+        ):
+            with self.subTest(what):
+                create = ["cms", *words, "-in", content, "-outform", "DER"]
+                in_der, in_ber = (openssl(*create, *form, *last) for form in ([], ["-stream"]))
+                self.assertEqual([octets[:2] == b"\x30\x80" for octets in (in_der, in_ber)], [False, True])
+                (folder / "ber").write_bytes(in_ber)
+                cured = openssl("cms", "-cmsout", "-inform", "DER", "-in", folder / "ber", "-outform", "DER")
+                body = der.only(in_der).body()
+                long = b"\x30\x84" + len(body).to_bytes(4, "big") + body
+                for octets in (in_der, in_ber, cured, long):
+                    self.assertEqual(self.line(octets)[0], "refused C2 NotSignedData")
+                said = [cmsproof.fit(octets) for octets in (in_der, in_ber, cured)]
+                self.assertEqual([found.code for found in said], ["C2", "M3", "C2"])
+                self.assertEqual(self.line(in_ber[:-2])[0], "refused F3 Broken")
         for octets in (b"\x30\x80\0\0", b"\x30\x80\x06\x01\x2a\0\0", b"\x30\x80\x02\x01\x05\xa0\x80\0\0\0\0"):
             self.assertEqual(self.line(octets)[0], "refused F3 Broken")
 

@@ -2,7 +2,7 @@
 import json
 import unittest
 
-from making import REAL, element, folder_of, run_tool
+from making import REAL, element, folder_of, lacking_tools, run_tool
 
 import cmsproof
 from cmsproof_tools.signed_parts import without_empty
@@ -39,6 +39,7 @@ def with_empty(octets, *numbers):
 class Mending(unittest.TestCase):
     """The octets, and what the proved check says before and after."""
 
+    @unittest.skipIf(lacking_tools(), lacking_tools())
     def test_rows(self):
         two, one = ((REAL / f"{name}.p7s").read_bytes() for name in ("two_attached", "rsa_attached"))
         stamped = (REAL / "two_attached_ts.p7s").read_bytes()
@@ -108,8 +109,13 @@ class Mending(unittest.TestCase):
         self.assertEqual((folder / "broken.p7s.1.p7s").read_bytes(), original)
         (folder / "whole.p7s").write_bytes(original)
         status, out, _ = run_tool("cmsproof-extract", "--mend", "whole.p7s", cwd=folder)
-        self.assertEqual((status, json.loads(out).get("converted")), (0, None))
+        said = json.loads(out)
+        nothing = ["nothing to mend: no unsigned attributes are there and empty (M15)"]
+        self.assertEqual((status, said.get("converted"), said["notes"]), (0, None, nothing))
         self.assertEqual((folder / "whole.p7s.1.p7s").read_bytes(), original)
+        # (what is mended, or not asked to be, has no such note)
+        for words, name in (([], "whole.p7s"), (["--mend"], "broken.p7s")):
+            self.assertNotIn(b"nothing to mend", run_tool("cmsproof-extract", "--to", "again", *words, name, cwd=folder)[1])
 
 
 if __name__ == "__main__":

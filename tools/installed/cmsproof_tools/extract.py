@@ -36,6 +36,8 @@ or a library failed.
 """
 ENDINGS = {"signed": "p7s", "token": "tst"}
 NO_TRUST = b"cmsproof trust 2\n"
+# what is noted where --mend left nothing out
+NOTHING = "nothing to mend: no unsigned attributes are there and empty (M15)"
 # how many signers are named of those whose attributes are left out: a file can have any number
 MOST_NAMED = 20
 
@@ -97,13 +99,22 @@ def mended(found: Union[Found, Unfound]) -> Union[Found, Unfound]:
     return found._replace(signed=octets, converted=", ".join(filter(None, [found.converted, done])))
 
 
+def ready(found: Union[Found, Unfound], mend: bool) -> Union[Found, Unfound]:
+    """The same in DER, and mended if that is asked for; where nothing was to be mended a note says so."""
+    # (which the library finds malformed too, so that it would be taken for BER)
+    before = mended(found) if mend else found
+    read = in_der(before)
+    last = mended(read) if mend else read
+    if not mend or isinstance(last, Unfound) or before is not found or last is not read:
+        return last
+    return last._replace(notes=(*last.notes, NOTHING))
+
+
 def extract(name: str, file: File, folder: str, wanted: Wanted) -> int:
     """Writes all that is found in a file, and answers the worst status."""
     worst = DONE
     for number, found in enumerate(found_in(name, file, wanted.partial), 1):
-        # (which the library finds malformed too, so that it would be taken for BER)
-        one = in_der(mended(found) if wanted.mend else found)
-        status, members = extracted(name, folder, number, mended(one) if wanted.mend else one)
+        status, members = extracted(name, folder, number, ready(found, wanted.mend))
         write("-", json.dumps(members).encode() + b"\n")
         worst = max(worst, status)
     return worst

@@ -329,10 +329,16 @@ class Growing:
 
     def bar(self, role: str, name: str, certificate: Certificate, pool: Pool) -> None:
         """Puts an entry for no time behind the list for a certificate that an issuer issued, unless another entry has it: it trusts
-        nobody, and lets a check name the rule by which no stamp passes, and not S7, or K10, of somebody who is known."""
-        if self.left_to_bar == 0 or self.is_known(role, certificate, pool):
+        nobody, and lets a check name the rule by which no stamp passes, and not S7, or K10, of somebody who is known. Says once of a file
+        that it has more of them than get one."""
+        if self.left_to_bar < 0 or self.is_known(role, certificate, pool):
             return
         self.left_to_bar -= 1
+        if self.left_to_bar < 0:
+            self.told(
+                f"{name}: of one file no more than {MOST_BARRED} certificates get an entry for no time: others can be S7 or K10"
+            )
+            return
         self.to_bar[role, certificate.octets] = name, certificate, pool
         if len(self.to_bar) >= MOST_WAITING:
             self.settle_barred()

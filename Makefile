@@ -73,8 +73,8 @@ check:
 # The whole gate: whether dist/ says that it is of these sources, docs/PROVED.md has the clauses of their calls, and none of their lines
 # is too wide; the edits that are owed because something changed that they stand on; every proof (from nothing, unless this machine proved
 # the same text before), the edits that the gate keeps, none of them bad, the tests, the program as two compilers build it; then whether
-# dist/ is what those proved sources compile to, the rows of the tests on the program that is built from it, what jobs of it cost, and rows
-# on aarch64's if it can be emulated.
+# dist/ is what those proved sources compile to, the rows of the tests on the program that is built from it, whether all of the tools is
+# installed and packed, what jobs of the program cost, and rows on aarch64's if it can be emulated.
 # RT_JOBS=N has N checks run side by side, SOAK_MINUTES=N gives the edits that are owed N minutes. Without `rt`, what can be done
 # without it.
 ifeq ($(shell command -v rt 2> /dev/null),)
@@ -93,6 +93,7 @@ test:
 	$(PYTHON) tools/dist.py gate "$$began" "$$sources" && \
 	MACHINE='' CC='$(CC)' sh tools/build.sh && \
 	$(PYTHON) tools/program_rows.py ./cmsproof && \
+	CC='$(CC)' $(PYTHON) tools/on_installed.py gate && \
 	CC='$(CC)' $(PYTHON) tools/instructions.py --gate && \
 	$(PYTHON) tools/dist.py emulated
 endif

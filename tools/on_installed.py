@@ -1,9 +1,10 @@
 #!/usr/bin/env python3
 """Installs the program and its tools into a new folder, and tests what is there, from a folder outside of the repository:
 
-    python3 tools/on_installed.py [--root FOLDER] [tests [NAME ..] | documents [DOCUMENT ..]]
+    python3 tools/on_installed.py [--root FOLDER] [tests [NAME ..] | documents [DOCUMENT ..] | gate]
 
-`tests` are those in tools/tests, or of some modules there; `documents` are the commands in them (tools/trying/docs_test.py); without a
+`tests` are those in tools/tests, or of some modules or classes there, as test_install or test_packages.Unpacked; `gate` are those of them
+that the gate runs, with a limit of time; `documents` are the commands in them (tools/trying/docs_test.py); without a
 word it is both, the second also where the first failed. No command or module of the repository is found: PATH has the folder `bin` that
 was installed, and then what it had without the folders of the repository, and there is no PYTHONPATH. The tests of the scripts in tools/
 run these where they are, since nobody installs them.
@@ -32,6 +33,9 @@ TOP = Path(__file__).resolve().parent.parent
 TESTS = TOP / "tools" / "tests"
 # what the tests import that a machine may lack, and where Debian has it
 LIBRARIES = {"cryptography": "python3-cryptography"}
+# What the gate runs: what is installed and packed, each module imported, and a file of each kind of container. And after how many seconds
+# on the clock it is ended, many times what it takes.
+GATE, MOST = ("test_install", "test_packages.Unpacked"), 1800
 
 
 def environment(root: Path) -> dict[str, str]:
@@ -52,13 +56,15 @@ def is_within(path: Path, folder: Path) -> bool:
     return path == folder or folder in path.parents
 
 
-def install(folder: Path) -> Path:
-    """Installs all into a folder, of what is built, and gives the folder under which it is."""
-    built = ("-o", "cmsproof", "-o", "tools/installed/cmsproof/libcmsproof.so.1")
-    words = ["make", "-s", "-C", str(TOP), *built, "install", f"DESTDIR={folder}", "PREFIX=/usr"]
-    done = subprocess.run(words, env=environment(folder), capture_output=True, text=True, check=False)
-    if done.returncode:
-        raise SystemExit(f"on_installed: nothing was installed: {done.stderr.strip()}")
+def install(folder: Path, anew: bool) -> Path:
+    """Installs all into a folder, of what is built, and gives the folder under which it is. The library may be built anew before."""
+    library = "tools/installed/cmsproof/libcmsproof.so.1"
+    words = ["-o", "cmsproof", "-o", library, "install", f"DESTDIR={folder}", "PREFIX=/usr"]
+    for asked in ([["--always-make", library]] if anew else []) + [words]:
+        made = ["make", "-s", "-C", str(TOP), *asked]
+        done = subprocess.run(made, env=environment(folder), capture_output=True, text=True, check=False)
+        if done.returncode:
+            raise SystemExit(f"on_installed: nothing was installed: {done.stderr.strip()}")
     return folder / "usr"
 
 
@@ -91,20 +97,23 @@ def strangers() -> list[str]:
     return [str(module.__file__) for module in found if module.__file__ and not is_within(Path(module.__file__), tree)]
 
 
-def tests_of(path: Path, left_out: Counter) -> unittest.TestSuite:
-    """The tests of a module, none where it needs what is missing; one that fails where it cannot be imported for another reason."""
+def tests_of(name: str, left_out: Counter) -> unittest.TestSuite:
+    """The tests of a module, or of a class in one, none where it needs what is missing; one that fails where it cannot be imported for
+    another reason."""
+    module = name.partition(".")[0]
     try:
-        return unittest.defaultTestLoader.loadTestsFromModule(importlib.import_module(path.stem))
+        importlib.import_module(module)
+        return unittest.defaultTestLoader.loadTestsFromName(name)
     except unittest.SkipTest as skipped:
         reason = str(skipped)
     except ModuleNotFoundError as error:
         missing = str(error.name).split(".")[0]
         if missing not in LIBRARIES:
-            return unittest.defaultTestLoader.loadTestsFromName(path.stem)
+            return unittest.defaultTestLoader.loadTestsFromName(name)
         reason = f"there is no library {missing} for Python ({LIBRARIES[missing]})"
     except Exception:
-        return unittest.defaultTestLoader.loadTestsFromName(path.stem)
-    left_out[reason] += len(re.findall(r"^    def test_", path.read_text(encoding="utf-8"), re.M))
+        return unittest.defaultTestLoader.loadTestsFromName(name)
+    left_out[reason] += len(re.findall(r"^    def test_", (TESTS / f"{module}.py").read_text(encoding="utf-8"), re.M))
     return unittest.TestSuite()
 
 
@@ -117,9 +126,10 @@ def each(suite):
 def run_tests(names: list[str]) -> int:
     """Runs the tests of these modules, or of all, and says at the end what was left out. Writes the counts where it is told to."""
     sys.path[:0] = [str(TESTS)]
-    paths = [TESTS / f"{name}.py" for name in names] or sorted(TESTS.glob("test_*.py"))
     left_out: Counter = Counter()
-    suite = unittest.TestSuite([tests_of(path, left_out) for path in paths])
+    suite = unittest.TestSuite(
+        [tests_of(name, left_out) for name in names or sorted(path.stem for path in TESTS.glob("test_*.py"))]
+    )
     missing, classes = sum(left_out.values()), Counter(unittest.util.strclass(type(test)) for test in each(suite))
     runner = unittest.TextTestRunner(resultclass=Result, buffer=False)
     making = runner._makeResult
@@ -153,14 +163,29 @@ def report(line: str) -> None:
 
 
 def part(what: str, words: list[str], root: Path, folder: Path) -> tuple[int, str]:
-    """Runs the tests or the documents in a process of its own, and gives its status and its counts."""
+    """Runs the tests or the documents in a process of its own, and gives its status and its counts. What the gate runs is ended once it
+    takes too long, with all that it started."""
     (elsewhere := folder / f"elsewhere_{what}").mkdir()
     counts = folder / f"counts_{what}"
     script = [TOP / "tools" / "trying" / "docs_test.py"] if what == "documents" else [Path(__file__).resolve(), "--here"]
     surroundings = {**environment(root), "CMSPROOF_COUNTS": str(counts)}
-    done = subprocess.run([sys.executable, *map(str, script), *words], cwd=elsewhere, env=surroundings, check=False)
-    told = counts.read_text(encoding="utf-8").strip() if counts.exists() else f"{what}: ended with status {done.returncode}"
-    return done.returncode, told
+    is_gate = what == "gate"
+    process = subprocess.Popen(
+        [sys.executable, *map(str, script), *(GATE if is_gate else words)],
+        cwd=elsewhere,
+        env=surroundings,
+        start_new_session=is_gate,
+    )
+    try:
+        status = process.wait(MOST if is_gate else None)
+    except subprocess.TimeoutExpired:
+        return 1, f"{what}: ended, since it took more than {MOST} seconds"
+    finally:
+        if process.poll() is None:
+            os.killpg(process.pid, signal.SIGKILL) if is_gate else process.terminate()
+            process.wait()
+    told = counts.read_text(encoding="utf-8").strip() if counts.exists() else f"{what}: ended with status {status}"
+    return status, told
 
 
 def main() -> int:
@@ -173,7 +198,7 @@ def main() -> int:
     if given.here:
         return run_tests(given.words)
     what = [given.words[0]] if given.words else ["tests", "documents"]
-    if not set(what) <= {"tests", "documents"}:
+    if not set(what) <= {"tests", "documents", "gate"}:
         parser.error(f"what is {what[0]}?")
     words = given.words[1:]
     if what == ["documents"]:
@@ -188,7 +213,7 @@ def main() -> int:
             raise SystemExit(f"on_installed: the folder for temporary files is in the repository: {folder}")
         # (who runs a test may be nobody, who must get there)
         folder.chmod(0o755)
-        root = given.root.resolve() if given.root else install(folder / "root")
+        root = given.root.resolve() if given.root else install(folder / "root", what == ["gate"])
         found = [part(one, words, root, folder) for one in what]
     print("on what is installed: " + "; ".join(told for _, told in found))
     return 1 if any(status for status, _ in found) else 0

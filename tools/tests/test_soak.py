@@ -469,16 +469,18 @@ class Gate(Repository):
         for name in ("Makefile", ".ci/run", "tools/jobs.sh", "tools/proofs.sh"):
             (self.top / name).parent.mkdir(exist_ok=True)
             shutil.copy(TOOLS.parent / name, self.top / name)
-        # in place of what compares dist/ and PROVED with the sources, and of what builds and tries the program
-        scripts = ("dist.py", "api.py", "lines.py", "sources.sh", "build.sh", "program_rows.py", "instructions.py")
-        self.put({f"tools/{name}": "" for name in scripts})
+        # in place of what compares dist/ and PROVED with the sources, and of what builds, tries, installs and measures the program
+        names = ("dist", "api", "lines", "program_rows", "on_installed", "instructions")
+        stand_ins = [*(f"{name}.py" for name in names), "sources.sh", "build.sh"]
+        self.put({f"tools/{name}": "" for name in stand_ins})
         self.commit("the gate")
         self.soaked()
         low = "crates/low/must-fail/two.edit"
         rows = [
             ({}, 0, [], "3 passed, 0 failed", True),
             ({"tools/program_rows.py": "raise SystemExit('1 differ')"}, 1, [], "1 differ", True),
-            ({"tools/build.sh": "echo no compiler; exit 1", "tools/program_rows.py": ""}, 1, [], "no compiler", True),
+            ({"tools/program_rows.py": "", "tools/on_installed.py": "raise SystemExit('1 failed')"}, 1, [], "1 failed", True),
+            ({"tools/build.sh": "echo no compiler; exit 1", "tools/on_installed.py": ""}, 1, [], "no compiler", True),
             ({"tools/build.sh": "", low: "file: src/lib.rt\nold: 1\nnew: 7\n"}, 0, ["low"], "3 passed, 0 failed", True),
             ({low: "file: src/lib.rt\nold: 1\nnew: harmless\n"}, 1, ["low"], "soak: not refused or not tried, of: low", False),
             ({"tools/lines.py": "raise SystemExit('a line is wide')"}, 1, [], "a line is wide", False),
@@ -494,7 +496,7 @@ class Gate(Repository):
                 self.assertEqual((bool(done.returncode), self.tried()), (bool(status), crates), done.stdout + done.stderr)
                 self.assertEqual("ci" in self.log.read_text().split(), proved)
                 self.assertEqual(done.stdout.splitlines()[-1], last)
-                self.assertIn("the gate took 0 minutes", done.stdout)
+                self.assertRegex(done.stdout, "the gate took [0-9]+ minutes on")
 
 
 if __name__ == "__main__":

@@ -121,19 +121,25 @@ pub holds : (h : LongHasher) (m : List ℕ) → h.total ≡ length m % 2 ^ 128 �
 unfolding HoldsLong
 holds h m total octets = (total, octets)
 
+-- no block was begun
+pub none_begun : (i hash rest after m piece : List ℕ) (start : ℕ) → length m % 128 ≡ 0 → start ≡ 0 → IsAbsorbed i hash rest m
+    → IsAbsorbed i (hash_after hash [] 0) after (m ++ take start piece)
+unfolding hash_after
+none_begun i hash rest after m piece start at es held = rw (es, append-nil m) (held.0, rw at (rw at at held.1))
+
 -- a block that a piece completes
-pub completed : (i hash rest after m piece ys : List ℕ) (used k room : ℕ) → length m % 128 ≡ used → 0 < used → used < 128
-    → room ≡ 128 - used → room ≤ length piece → length rest ≡ 128 → k ≡ room → ys ≡ take room piece → IsAbsorbed i hash rest m
-    → IsAbsorbed i (hash_after hash (put_mid used k rest ys) (length (put_mid used k rest ys) / 128)) after (m ++ take room piece)
-completed i hash rest after m piece ys used k room at some small er fits whole ek ey held =
-    let size : length (take room piece) ≡ room = length-take-le room piece fits in
+pub completed : (i hash rest after m piece ys : List ℕ) (used k start : ℕ) → length m % 128 ≡ used → 0 < used → used < 128
+    → start ≡ 128 - used → start ≤ length piece → length rest ≡ 128 → k ≡ start → ys ≡ take start piece → IsAbsorbed i hash rest m
+    → IsAbsorbed i (hash_after hash (take 128 (put_mid used k rest ys)) (length (take 128 (put_mid used k rest ys)) / 128)) after (m ++ take start piece)
+completed i hash rest after m piece ys used k start at some small er fits whole ek ey held =
+    let size : length (take start piece) ≡ start = length-take-le start piece fits in
     let none : post_of used k rest ≡ [] = drop_all k (drop used rest) (omega (arith, length-drop used rest)) in
-    let block : put_mid used k rest ys ≡ take (length m % 128) rest ++ take room piece = rw (none, append-nil, ey, at) refl in
+    let block : put_mid used k rest ys ≡ take (length m % 128) rest ++ take start piece = rw (none, append-nil, ey, at) refl in
     let front : length (take (length m % 128) rest) ≡ used = length-take-le (length m % 128) rest (omega arith) ∙ at in
     let count : length (put_mid used k rest ys) ≡ 128 =
-    omega (arith, ap length block, length-append (take (length m % 128) rest) (take room piece)) in
-    rw (one_block hash (put_mid used k rest ys) count)
-    (IsAbsorbed_fill i hash rest after m (take room piece) (put_mid used k rest ys) held (omega arith) block)
+    omega (arith, ap length block, length-append (take (length m % 128) rest) (take start piece)) in
+    rw (take_all 128 (put_mid used k rest ys) (omega arith), one_block hash (put_mid used k rest ys) count)
+    (IsAbsorbed_fill i hash rest after m (take start piece) (put_mid used k rest ys) held (omega arith) block)
 
 -- the whole blocks after it, and the octets after these
 pub taken : (i begun done rest after m d ys : List ℕ) (start end k : ℕ) → start ≤ end → end ≤ length d → length d - end < 128

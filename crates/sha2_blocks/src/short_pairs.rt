@@ -137,15 +137,19 @@ fn take_sums_of_two(first: &mut [u32; 8], second: &mut [u32; 8], sums: &[u32; 64
     add_pair(first, second, v);
 }
 
-/// Takes whole blocks into two hash values.
-pub(crate) fn take_blocks_of_two(first: &mut [u32; 8], second: &mut [u32; 8], octets: &[u8])
+/// Takes whole blocks into two hash values. `sums` is room for the sums of one.
+pub(crate) fn take_blocks_of_two(
+    first: &mut [u32; 8],
+    second: &mut [u32; 8],
+    sums: &mut [u32; 64],
+    octets: &[u8],
+)
     requires { length octets.now % 64 ≡ 0 }
     ensures first { first.new ≡ hash_after first.old octets.now (length octets.now / 64) }
     ensures second { second.new ≡ hash_after second.old octets.now (length octets.now / 64) }
 {
-    let mut sums = [0u32; 64];
     'each: for i in 0..octets.len() / BLOCK {
-        put_schedule(&mut sums, &octets[BLOCK * i..BLOCK * i + BLOCK]);
-        take_sums_of_two(first, second, &sums);
+        put_schedule(sums, &octets[BLOCK * i..BLOCK * i + BLOCK]);
+        take_sums_of_two(first, second, sums);
     }
 }

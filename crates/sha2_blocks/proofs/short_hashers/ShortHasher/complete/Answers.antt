@@ -1,15 +1,14 @@
-use Rattle.std.proofs.Common.{refl, arith}
-use Rattle.sha2_blocks.proofs.ShortPieces.{completed, each_after, kept_after}
+use Rattle.std.proofs.Common.{◌≡◌, ℕ, ◌-◌, ◌%◌, take, ap, ◌∙◌, arith}
+use Rattle.sha2_blocks.proofs.ShortPieces.{completed, none_begun}
 use Rattle.sha2_blocks.proofs.short_hashers.ShortHasher.complete.Goals as goal
 
-pub returns-clause-kept : goal.returns-clause-kept
-returns-clause-kept c = rw c.take_blocks.ensures (kept_after _ _ _)
+pub returns-then-used-eq0-clause-held : goal.returns-then-used-eq0-clause-held
+returns-then-used-eq0-clause-held c = λ i h m at held. none_begun i h _ _ m c.args.piece.now _ (omega arith) (omega arith) held
 
 pub returns-clause-held : goal.returns-clause-held
-returns-clause-held c = λ m at held.
-    let h = c.args.self.now in
+returns-clause-held c = λ i h m at held.
     let used = c.args.used in
-    rw c.take_blocks.ensures
-    (each_after h.hashes _ _ _ _ held (λ i x absorbed.
-    completed i x h.rest _ m c.args.piece.now _ used _ _ at (omega arith) (omega arith) refl (omega arith) (omega arith) (omega arith)
-    c.copy_from_slice.ensures.after absorbed))
+    let d = c.args.piece.now in
+    let start : 64 - used ≡ (64 - used) % 64 = omega arith in
+    completed i h c.args.self.now.rest _ m d _ used _ _ at (omega arith) (omega arith) (omega arith) (omega arith) (omega arith) (omega arith)
+    (c.copy_from_slice.ensures.after ∙ ap (λ (k : ℕ). take k d) start) held

@@ -138,12 +138,7 @@ fn take_sums_of_two(first: &mut [u32; 8], second: &mut [u32; 8], sums: &[u32; 64
 }
 
 /// Takes whole blocks into two hash values. `sums` is room for the sums of one.
-pub(crate) fn take_blocks_of_two(
-    first: &mut [u32; 8],
-    second: &mut [u32; 8],
-    sums: &mut [u32; 64],
-    octets: &[u8],
-)
+fn take_each(first: &mut [u32; 8], second: &mut [u32; 8], sums: &mut [u32; 64], octets: &[u8])
     requires { length octets.now % 64 ≡ 0 }
     ensures first { first.new ≡ hash_after first.old octets.now (length octets.now / 64) }
     ensures second { second.new ≡ hash_after second.old octets.now (length octets.now / 64) }
@@ -152,4 +147,24 @@ pub(crate) fn take_blocks_of_two(
         put_schedule(sums, &octets[BLOCK * i..BLOCK * i + BLOCK]);
         take_sums_of_two(first, second, sums);
     }
+}
+
+/// Takes a block that was begun, if any, and the whole blocks after it into two hash values.
+#[inline(never)]
+pub(crate) fn take_blocks_of_two(
+    first: &mut [u32; 8],
+    second: &mut [u32; 8],
+    begun: &[u8],
+    octets: &[u8],
+)
+    requires begun { length begun.now % 64 ≡ 0 }
+    requires octets { length octets.now % 64 ≡ 0 }
+    ensures first { first.new ≡ hash_after (hash_after first.old begun.now (length begun.now / 64)) octets.now
+        (length octets.now / 64) }
+    ensures second { second.new ≡ hash_after (hash_after second.old begun.now (length begun.now / 64)) octets.now
+        (length octets.now / 64) }
+{
+    let mut sums = [0u32; 64];
+    take_each(first, second, &mut sums, begun);
+    take_each(first, second, &mut sums, octets);
 }

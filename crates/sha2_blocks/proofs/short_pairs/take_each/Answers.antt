@@ -1,7 +1,7 @@
 use Rattle.std.proofs.Common.{◌*◌, refl, ap, ◌∙◌, arith}
 use Rattle.sha2.specs.Sha256.{hash_after}
 use Rattle.sha2_blocks.proofs.ShortPieces.{next_block}
-use Rattle.sha2_blocks.proofs.short_pairs.take_blocks_of_two.Goals as goal
+use Rattle.sha2_blocks.proofs.short_pairs.take_each.Goals as goal
 
 pub each-init : goal.each-init
 unfolding hash_after

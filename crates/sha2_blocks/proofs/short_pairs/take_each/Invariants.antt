@@ -1,6 +1,6 @@
 use Rattle.std.proofs.Common.{◌≡◌}
 use Rattle.sha2.specs.Sha256.{hash_after}
-use Rattle.sha2_blocks.proofs.short_pairs.take_blocks_of_two.Given as goal
+use Rattle.sha2_blocks.proofs.short_pairs.take_each.Given as goal
 
 abbrev pub invariant-each : goal.invariant-each
 invariant-each l = record {

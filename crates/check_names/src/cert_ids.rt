@@ -2,7 +2,7 @@ ghost use Rattle.std.specs.Prelude.{◌≡◌, ◌↔◌, IsTrue, IfSome, Some};
 ghost use Rattle.digests.specs.declared.algorithm.Alg.{Alg};
 ghost use Rattle.check_names.specs.Naming.{IsIssuerOf, NamesBy, HashedBy};
 
-use crate::memory::CertificateHasher;
+use crate::hasher::CertificateHasher;
 use cert_types::Certificate;
 use check_fit::{is_element_of, only_value};
 use der_core::octets::is_same;

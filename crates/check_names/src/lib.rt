@@ -3,12 +3,12 @@
 #![tactic(auto)]
 
 mod cert_ids;
+mod hasher;
 mod laws;
 mod matching;
-mod memory;
 mod naming;
 
+pub use hasher::{CertificateHasher, EachTime};
 pub use laws::rows_hold;
 pub use matching::matches;
-pub use memory::CertificateHasher;
-pub use naming::{must_name, must_name_with, names_if_any, names_if_any_with};
+pub use naming::{must_name, names_if_any};

@@ -5,7 +5,7 @@ ghost use Rattle.check_names.specs.Naming.{FirstId, NamesInV1, NamesInV2, Occurs
 ghost use Rattle.check_names.specs.Naming.{id_signing_certificate, id_signing_certificate_v2};
 
 use crate::cert_ids::{hash_algorithm, names_by};
-use crate::memory::{CertificateHasher, EachTime};
+use crate::hasher::CertificateHasher;
 use cert_types::Certificate;
 use check_fit::single_value;
 use cms_types::Attributes;
@@ -111,8 +111,16 @@ fn names_those<H: CertificateHasher>(
         && (!v2 || names_in_v2(attributes, certificate, number, hasher))
 }
 
-/// As `names_if_any`, with digests of this hasher, in which the certificate has this number.
-pub fn names_if_any_with<H: CertificateHasher>(
+/// Whether each signing-certificate attribute that is present names the certificate. A signer need not have one. An
+/// attribute names the certificate if its type occurs once with one value, that value can be read as its version and
+/// has a first identifier, and this identifier has the hash of the whole certificate: by SHA-1 in version 1, under
+/// every policy, and by the identifier's algorithm in version 2. If the identifier has an issuerSerial, its only name
+/// must be the certificate's issuer, and its serial number the certificate's (RFC 2634 5.4, RFC 5035 4). If the
+/// algorithm is unknown, the attribute names nothing.
+///
+/// Pass signed attributes: others are not part of what was signed. The digests are the hasher's, in which the
+/// certificate has this number; in `EachTime` each certificate has each number.
+pub fn names_if_any<H: CertificateHasher>(
     attributes: &Attributes,
     certificate: &Certificate,
     number: usize,
@@ -130,8 +138,9 @@ pub fn names_if_any_with<H: CertificateHasher>(
             || names_in_v2(attributes, certificate, number, hasher))
 }
 
-/// As `must_name`, with digests of this hasher, in which the certificate has this number.
-pub fn must_name_with<H: CertificateHasher>(
+/// Whether the attributes name this certificate, as those of a time-stamp token must (RFC 3161 2.4.2, RFC 5816 2.2.1):
+/// as `names_if_any`, and one of the two types is present.
+pub fn must_name<H: CertificateHasher>(
     attributes: &Attributes,
     certificate: &Certificate,
     number: usize,
@@ -146,28 +155,4 @@ pub fn must_name_with<H: CertificateHasher>(
     let v1 = occurs(attributes, &SIGNING_CERTIFICATE);
     let v2 = occurs(attributes, &SIGNING_CERTIFICATE_V2);
     (v1 || v2) && names_those(v1, v2, attributes, certificate, number, hasher)
-}
-
-/// Whether each signing-certificate attribute that is present names the certificate. A signer need not have one. An
-/// attribute names the certificate if its type occurs once with one value, that value can be read as its version and
-/// has a first identifier, and this identifier has the hash of the whole certificate: by SHA-1 in version 1, under
-/// every policy, and by the identifier's algorithm in version 2. If the identifier has an issuerSerial, its only name
-/// must be the certificate's issuer, and its serial number the certificate's (RFC 2634 5.4, RFC 5035 4). If the
-/// algorithm is unknown, the attribute names nothing.
-///
-/// Pass signed attributes: others are not part of what was signed.
-pub fn names_if_any(attributes: &Attributes, certificate: &Certificate) -> bool
-    // True exactly if each signing-certificate attribute that is present names the certificate.
-    ensures { IsTrue result ↔ NamesIfAny attributes.now certificate.now }
-{
-    names_if_any_with(attributes, certificate, 0, &mut EachTime)
-}
-
-/// Whether the attributes name this certificate, as those of a time-stamp token must (RFC 3161 2.4.2, RFC 5816 2.2.1):
-/// as `names_if_any`, and one of the two types is present.
-pub fn must_name(attributes: &Attributes, certificate: &Certificate) -> bool
-    // True exactly if one of the two attributes is present, and each that is names the certificate.
-    ensures { IsTrue result ↔ MustName attributes.now certificate.now }
-{
-    must_name_with(attributes, certificate, 0, &mut EachTime)
 }

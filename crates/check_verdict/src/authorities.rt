@@ -17,7 +17,7 @@ use crate::certificates::{ReadCertificate, Recent};
 use crate::claim::Claim;
 use crate::filter::{TokenFilter, further_for_token};
 use crate::hashed::Hashed;
-use check_names::{matches, must_name_with};
+use check_names::{matches, must_name};
 use trust_lists::{AskFault, Entry, Role, Trust, Verifier};
 
 // Whether the certificate is for time-stamping alone, which may be known.
@@ -60,7 +60,7 @@ fn failed_unasked(
     let Some(attributes) = claim.signer.attributes() else {
         return TokenFilter::NotNamed;
     };
-    if !must_name_with(attributes, certificate, number, hashed) {
+    if !must_name(attributes, certificate, number, hashed) {
         return TokenFilter::NotNamed;
     }
     if !is_stamping_only(read) {

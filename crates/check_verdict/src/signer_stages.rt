@@ -18,7 +18,7 @@ use crate::certificates::{ReadCertificate, Recent};
 use crate::filter::{SignerFilter, further_for_signer};
 use crate::hashed::Hashed;
 use cert_types::Certificate;
-use check_names::{matches, names_if_any_with};
+use check_names::{matches, names_if_any};
 use cms_types::Signer;
 use der_time::Moment;
 use trust_lists::{AskFault, Entry, Role, Trust, Verifier};
@@ -54,7 +54,7 @@ fn failed_unasked(
         return SignerFilter::UnknownSigner;
     }
     match signer.attributes() {
-        Some(attributes) if names_if_any_with(attributes, certificate, number, hashed) =>
+        Some(attributes) if names_if_any(attributes, certificate, number, hashed) =>
             SignerFilter::SignatureFails,
         _ => SignerFilter::NotNamed,
     }

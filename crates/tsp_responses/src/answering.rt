@@ -6,7 +6,7 @@ ghost use Rattle.tsp_responses.specs.TokenParts.{token_value};
 use crate::rules::MatchFault;
 use crate::time_stamp::{TimeStamp, time_stamp};
 use cert_types::Certificate;
-use check_names::must_name;
+use check_names::{EachTime, must_name};
 use cms_types::Attributes;
 use der_core::Flag;
 use der_core::octets::is_same;
@@ -59,7 +59,7 @@ fn is_named(attributes: &Attributes, element: &[u8]) -> bool
     ensures { IsTrue result ↔ IsNamed attributes.now element.now }
 {
     match Certificate::read(element) {
-        Ok(certificate) => must_name(attributes, &certificate),
+        Ok(certificate) => must_name(attributes, &certificate, 0, &mut EachTime),
         Err(_) => false,
     }
 }

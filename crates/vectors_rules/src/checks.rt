@@ -3,7 +3,7 @@
 use crate::lists::{answers_in, trust_in};
 use cert_types::Certificate;
 use check_fit::{Policy, fits, signer_fits};
-use check_names::{matches, must_name, names_if_any};
+use check_names::{EachTime, matches, must_name, names_if_any};
 use check_verdict::check_token;
 use cms_compare::compare;
 use cms_types::SignedData;
@@ -49,8 +49,8 @@ pub fn names(row: &Row<'_>) -> Result<String, Bad> {
     let octets = row.octets("of")?;
     let certificate = needed(Certificate::read(octets.as_slice()), "no certificate")?;
     let by_identifier = matches(signer.sid(), &certificate);
-    let by_any = names_if_any(attributes, &certificate);
-    let by_one = must_name(attributes, &certificate);
+    let by_any = names_if_any(attributes, &certificate, 0, &mut EachTime);
+    let by_one = must_name(attributes, &certificate, 0, &mut EachTime);
     Ok(format!(in row.alloc; "{by_identifier} {by_any} {by_one}")?)
 }
 

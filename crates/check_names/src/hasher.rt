@@ -29,9 +29,9 @@ pub trait CertificateHasher {
         ensures same { numbered_by self.new ≡ numbered_by self.old };
 }
 
-/// Hashes a certificate each time, whatever its number.
+/// Hashes a certificate each time, whatever its number, and keeps nothing.
 #[derive(Clone, Copy, Debug)]
-pub(crate) struct EachTime;
+pub struct EachTime;
 
 impl CertificateHasher for EachTime {
     ghost use Rattle.std.specs.Prelude.{⊤};

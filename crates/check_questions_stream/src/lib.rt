@@ -8,4 +8,4 @@ mod stream_questions;
 mod unkept;
 
 pub use fault::StreamQuestionsFault;
-pub use stream_questions::{questions_stream, questions_stream_with};
+pub use stream_questions::questions_stream;

@@ -52,10 +52,18 @@ fn put_pass<S: Sink>(
     }
 }
 
-/// As `questions_stream`, with a window that serves for one file after another.
+/// Writes the questions that a verifier must be asked so that a file can be judged, as `questions` of `check_questions`
+/// writes them of the same octets. The file is read once, to its end. The buffer holds the whole elements
+/// `eContentType` and `signerInfos` (RFC 5652 5.1, 5.2); nothing else of the file is kept, and nothing is allocated. The
+/// first octet is written when the file was read to its end.
 ///
-/// Errors: as `questions_stream`.
-pub fn questions_stream_with<F: Source, S: Sink>(
+/// The window serves for one file after another: it is empty at the front of each.
+///
+/// Errors: `Malformed` with a fault of the octets, or one met before the ends of the elements around it;
+/// `NotSignedData`; `ReadFailed` if the source fails; `TooLong` as soon as headers state more for these two elements
+/// than the buffer has; and then nothing was written; `WriteFailed` if the sink fails, and then a beginning of the text
+/// was written.
+pub fn questions_stream<F: Source, S: Sink>(
     passing: &mut Pass,
     file: &mut F,
     buffer: &mut [u8],
@@ -93,51 +101,4 @@ pub fn questions_stream_with<F: Source, S: Sink>(
 {
     let pass = passing.open_stream(file, buffer, &mut Unkept);
     put_pass(pass, trust, sink)
-}
-
-/// Writes the questions that a verifier must be asked so that a file can be judged, as `questions` of `check_questions`
-/// writes them of the same octets. The file is read once, to its end. The buffer holds the whole elements
-/// `eContentType` and `signerInfos` (RFC 5652 5.1, 5.2); nothing else of the file is kept, and nothing is allocated. The
-/// first octet is written when the file was read to its end.
-///
-/// Errors: `Malformed` with a fault of the octets, or one met before the ends of the elements around it;
-/// `NotSignedData`; `ReadFailed` if the source fails; `TooLong` as soon as headers state more for these two elements
-/// than the buffer has; and then nothing was written; `WriteFailed` if the sink fails, and then a beginning of the text
-/// was written.
-pub fn questions_stream<F: Source, S: Sink>(
-    file: &mut F,
-    buffer: &mut [u8],
-    trust: &Trust,
-    sink: &mut S,
-) -> Result<(), StreamQuestionsFault>
-    // Of a file that is known: it has questions, and their text was written, or after `WriteFailed` a beginning of it;
-    // or a fault of the file is named, or it states more than there is room for, and nothing was written.
-    ensures written { F.tells file.old → IsWrittenOf trust.now (F.rest file.old) (length buffer.old) result
-        (S.tells sink.old) (S.taken sink.old) (S.taken sink.new) (S.failures sink.old) (S.failures sink.new) }
-    // For every list of the file's questions, its text was written, unless the source failed or there was too little
-    // room.
-    ensures only { F.tells file.old → (qs : List Asked) → AreQuestionsOf trust.now (F.rest file.old) qs
-        → IsCutShort result ⊎ IsWrittenAs (questions_text qs) result (S.tells sink.old) (S.taken sink.old)
-        (S.taken sink.new) (S.failures sink.old) (S.failures sink.new) }
-    // `Malformed` is returned if the octets don't encode a ContentInfo, unless the source failed or there was too little
-    // room.
-    ensures malformed { F.tells file.old → EncodesNothing (F.rest file.old) → IsCutShort result ⊎ IsMalformed result }
-    // `NotSignedData` is returned if they encode one of another type, with the same exceptions.
-    ensures another { F.tells file.old → EncodesAnotherType (F.rest file.old) → IsCutShort result
-        ⊎ (result ≡ Err (StreamQuestionsFault.Questions QuestionsFault.NotSignedData)) }
-    // Of each file, also one that isn't known: nothing was written, unless the text or a beginning of it was.
-    ensures before { IsBeforeText result → IsUntouched (S.tells sink.old) (S.taken sink.old) (S.taken sink.new)
-        (S.failures sink.old) (S.failures sink.new) }
-    // Of each file, also one that isn't known: what was written is the text of questions about signers under this
-    // trust list, or a beginning of it, or nothing. If the file is known, they are its questions.
-    ensures text { IsTextOrBefore trust.now (F.tells file.old) (F.rest file.old) result (S.tells sink.old)
-        (S.taken sink.old) (S.taken sink.new) (S.failures sink.old) (S.failures sink.new) }
-    // The source's count of failures is raised by one exactly at `ReadFailed`.
-    ensures reads { CountsReads result (F.failures file.old) (F.failures file.new) }
-    // The file is read to its end, unless the answer is `Malformed`, `ReadFailed` or `TooLong`.
-    ensures end { F.tells file.old → IsEarly result ⊎ (F.rest file.new ≡ []) }
-    // If it was known what the sink took, it still is.
-    ensures telling { S.tells sink.old → S.tells sink.new }
-{
-    questions_stream_with(&mut Pass::new(), file, buffer, trust, sink)
 }

@@ -2,3 +2,4 @@ pub mod Keeping
 pub mod Verdicts
 pub mod StreamLaw
 pub mod Devices
+pub mod Promises

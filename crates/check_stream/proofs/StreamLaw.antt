@@ -31,7 +31,6 @@ use Rattle.check_fit.proofs.Readings.{reading_of}
 use Rattle.check_verdict.proofs.Verdicts.{never_both, one_moment}
 use Rattle.check_stream.specs.StreamVerdicts.{OfStream, fails as source_fails, too_long as no_room, told, ChecksStreamAsking, StreamSaysYes, IsStreamVerdict}
 use Rattle.check_stream.specs.StreamVerdicts.{StreamVerdictOrDevice, IsUnjudged}
-use Rattle.check_stream.specs.JudgedKept.{IsUnjudgedIn}
 
 -- ---- one verdict and another
 
@@ -237,48 +236,3 @@ module _ {S : Type 0} (facts : SourceFacts S) (t : Terms) (telling : Type 0) (oc
       (encoded octets a.0 (is_some before) a.1)
       (λ e is. refused_said t octets bytes (option_map facts.rest before) a.0 e a.1
       (ap (λ (b : Bool). file_rules a.0 b) (handed_by facts.rest before) ∙ is)) a.2)
-
--- ---- a verdict, if there is one
-
-module _ {S : Type 0} (facts : SourceFacts S) (t : Terms) (OnlyAsked : (Asked → Bool) → Type 0) (telling : Type 0) (octets : List ℕ) (room count count' : ℕ)
-    (before after : Option S) where
-  abbrev Asking : Result ℕ Refused → Type 0
-  Asking result = OfStream (ChecksStreamAsking facts t OnlyAsked octets before after) telling octets room count count' before after result
-
-  abbrev Checking : Terms → Result ℕ Refused → Type 0
-  Checking u result = OfStream (ChecksStream facts u octets before after) telling octets room count count' before after result
-
-  checking : (result : Result ℕ Refused) → Asking result → Checking t result
-  checking result h =
-      stream_along (ChecksStreamAsking facts t OnlyAsked octets before after) (ChecksStream facts t octets before after) telling octets room count count'
-      before after result
-      (λ r a. stream_checks facts t octets before after OnlyAsked r a) h
-
-  pub if_checks : (result : Option (Result ℕ Refused)) → IfSome result Asking → IfSome result (Checking t)
-  if_checks None h = tt
-  if_checks (Some r) h = checking r h
-
-  pub if_suffices : (w : Asked → Bool) → Answers t octets w → (result : Option (Result ℕ Refused)) → IfSome result Asking
-      → IfSome result (Checking (with_answers t w))
-  if_suffices w agree None h = tt
-  if_suffices w agree (Some r) h =
-      stream_along (ChecksStream facts t octets before after) (ChecksStream facts (with_answers t w) octets before after) telling octets room count count'
-      before after r
-      (λ x a. stream_suffices facts t octets before after w agree x a) (checking r h)
-
-  pub if_verdict : telling → IsBytes octets → IfSome before facts.tells → (result : Option (Result ℕ Refused)) → IfSome result Asking
-      → IfSome result (StreamVerdictOrDevice t octets (option_map facts.rest before))
-  if_verdict told_it bytes known None h = tt
-  if_verdict told_it bytes known (Some r) h = stream_verdict facts t telling octets room count count' before after r told_it bytes known (checking r h)
-
-  pub if_yes : telling → IsBytes octets → IfSome before facts.tells → (m : ℕ) (result : Option (Result ℕ Refused)) → IfSome result Asking
-      → IfSome result (λ r. StreamSaysYes t octets (option_map facts.rest before) r m)
-  if_yes told_it bytes known m None h = tt
-  if_yes told_it bytes known m (Some r) h =
-      stream_yes t octets bytes (option_map facts.rest before) r
-      (stream_verdict facts t telling octets room count count' before after r told_it bytes known (checking r h)) m
-
-  pub if_asks : telling → (result : Option (Result ℕ Refused)) → (IsUnjudgedIn result → (test : Asked → Bool) → OnlyAsked test) → IfSome result Asking
-      → AsksOnly OnlyAsked (IsQuestion t.trust octets)
-  if_asks told_it None none h = λ test asks. none tt test
-  if_asks told_it (Some r) none h = stream_asks facts t OnlyAsked telling octets room count count' before after r told_it none h

@@ -3,3 +3,4 @@ pub mod Hashing
 pub mod KeptRules
 pub mod JudgedKept
 pub mod DeviceVerdicts
+pub mod Promises

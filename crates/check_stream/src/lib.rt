@@ -9,4 +9,4 @@ mod judging;
 mod kept;
 mod stream;
 
-pub use stream::{check_stream, check_stream_by, check_stream_by_with, check_stream_with};
+pub use stream::{check_stream, check_stream_by, check_stream_with};

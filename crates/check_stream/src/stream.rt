@@ -11,6 +11,7 @@ ghost use Rattle.cms_stream.specs.Opening.{OpensStream, CountsPass};
 ghost use Rattle.check_stream.specs.StreamVerdicts.{StreamChecks, StreamChecksAsking, StreamSaysYes, facts, given};
 ghost use Rattle.check_stream.specs.StreamVerdicts.{StreamVerdictOrDevice, IsUnjudged, IsEarly, LacksDigest};
 ghost use Rattle.check_stream.specs.StreamVerdicts.{StreamSuffices, judge};
+ghost use Rattle.check_stream.specs.Promises.{Promised};
 ghost use Rattle.check_stream.specs.JudgedKept.{IsEarlyIn, CountsAsksIn, AsksVerifier, IsLacking};
 ghost use Rattle.check_stream.specs.DeviceVerdicts.{OfDevices};
 
@@ -68,14 +69,17 @@ fn verdict_of<F: Source, S: Source, V: Verifier>(
     judge_pass(pass, hashers, content, policy, verifier, hashed)
 }
 
-/// As `check_stream_by`, under the trust list of `hashed`, with a window and with the digests that `hashed` keeps, which
-/// serve for all files under this list: the window is set up once, and a certificate of the list that signers and tokens
-/// name is not hashed again by an algorithm while that digest is among the eight that were computed last. Neither changes
-/// a verdict: the window is empty at the front of each file, and each kept digest is that of the certificate of the entry
-/// by whose number it is kept.
+/// The verdict of `check_stream` under the trust list of `hashed`, with what serves for all files under this list: the
+/// window, and the digests that `hashed` keeps. Neither changes a verdict: the window is empty at the front of each file,
+/// and each kept digest is that of the certificate of the entry by whose number it is kept.
+///
+/// A content in the file is hashed by these algorithms only. `None` only if a signer needs its digest by another
+/// algorithm: then nothing was judged, and a caller that can read the file again may do so with more algorithms. So the
+/// choice of algorithms changes the time, and never the verdict: it may be a guess, such as `digestAlgorithms` of the
+/// file (RFC 5652 5.1).
 ///
 /// Errors: as `check_stream`.
-pub fn check_stream_by_with<F: Source, S: Source, V: Verifier>(
+pub fn check_stream_by<F: Source, S: Source, V: Verifier>(
     passing: &mut Pass,
     hashed: &mut Hashed,
     file: &mut F,
@@ -85,32 +89,9 @@ pub fn check_stream_by_with<F: Source, S: Source, V: Verifier>(
     verifier: &mut V,
     algorithms: Algs,
 ) -> Option<Result<Accepted, Refused>>
-    // For a file and a content that are known: yes with a moment exactly if the definition says so, unless a device
-    // failed, the content is too long or there is too little room.
-    ensures headline { F.tells file.old → IfSome content.old S.tells → (m : ℕ) → IfSome result (λ r.
-        StreamSaysYes (terms_of policy.now hashed.old (V.vouches verifier.old)) (F.rest file.old)
-        (option_map S.rest content.old) r m) }
-    // And if it isn't yes, the refusal of the definition.
-    ensures verdict { F.tells file.old → IfSome content.old S.tells → IfSome result (StreamVerdictOrDevice
-        (terms_of policy.now hashed.old (V.vouches verifier.old)) (F.rest file.old) (option_map S.rest content.old)) }
-    // X1 if the file's source failed, X3 if the file states more than there is room for; otherwise the verdict is
-    // right for the octets of the file and for what the source of the content gave.
-    ensures judged { IfSome result (StreamChecks (terms_of policy.now hashed.old (V.vouches verifier.old))
+    // If there is a verdict, it is all that `check_stream` says of its own.
+    ensures promised { IfSome result (Promised (judge V.Verifier policy.now hashed.old verifier.old verifier.new)
         (given F.Source file.old file.new buffer.old) S.Source content.old content.new) }
-    // The verdict is right with each list of answers that gives the verifier's answers to the file's questions.
-    ensures sufficient { StreamSuffices (terms_of policy.now hashed.old (V.vouches verifier.old))
-        (given F.Source file.old file.new buffer.old) S.Source content.old content.new result }
-    // The verifier is asked only questions of the file.
-    ensures only { F.tells file.old → AsksOnly (λ test. V.asked_only test verifier.old verifier.new)
-        (IsQuestion hashed.old (F.rest file.old)) }
-    // And only about signers that fit the content that was judged, and under entries that passed the earlier filters.
-    ensures asked { IfSome result (StreamChecksAsking (judge V.Verifier policy.now hashed.old verifier.old verifier.new)
-        (given F.Source file.old file.new buffer.old) S.Source content.old content.new) }
-    // Of each file, also one that isn't known: which device failed, and which refusals there are.
-    ensures devices { IfSome result (OfDevices (facts S.Source)
-        (F.failures file.old) (F.failures file.new) content.old content.new) }
-    // It is asked nothing if one of C1 to C5 refuses, there is too little room or the content could not be read.
-    ensures unasked { IfSome result IsUnjudged → (test : Asked → Bool) → V.asked_only test verifier.old verifier.new }
     // The file is read to its end, unless the verdict is C1, X1 or X3.
     ensures end { F.tells file.old → IsEarlyIn result ⊎ (F.rest file.new ≡ []) }
     // No verdict: only if a signer needs a digest by another algorithm, of the content that is in the file.
@@ -132,73 +113,6 @@ pub fn check_stream_by_with<F: Source, S: Source, V: Verifier>(
     )
 }
 
-/// The verdict of `check_stream`, from a pass that hashes a content in the file by these algorithms only. `None` only
-/// if the content is in the file and a signer needs its digest by another algorithm: then nothing was judged, and a
-/// caller that can read the file again may do so with more algorithms. So the choice of algorithms changes the time,
-/// and never the verdict: it may be a guess, such as `digestAlgorithms` of the file (RFC 5652 5.1).
-///
-/// Errors: as `check_stream`.
-pub fn check_stream_by<F: Source, S: Source, V: Verifier>(
-    file: &mut F,
-    content: &mut Option<S>,
-    buffer: &mut [u8],
-    trust: &Trust,
-    policy: &Policy,
-    verifier: &mut V,
-    algorithms: Algs,
-) -> Option<Result<Accepted, Refused>>
-    // For a file and a content that are known: yes with a moment exactly if the definition says so, unless a device
-    // failed, the content is too long or there is too little room.
-    ensures headline { F.tells file.old → IfSome content.old S.tells → (m : ℕ) → IfSome result (λ r.
-        StreamSaysYes (terms_of policy.now trust.now (V.vouches verifier.old)) (F.rest file.old)
-        (option_map S.rest content.old) r m) }
-    // And if it isn't yes, the refusal of the definition.
-    ensures verdict { F.tells file.old → IfSome content.old S.tells → IfSome result (StreamVerdictOrDevice
-        (terms_of policy.now trust.now (V.vouches verifier.old)) (F.rest file.old) (option_map S.rest content.old)) }
-    // X1 if the file's source failed, X3 if the file states more than there is room for; otherwise the verdict is
-    // right for the octets of the file and for what the source of the content gave.
-    ensures judged { IfSome result (StreamChecks (terms_of policy.now trust.now (V.vouches verifier.old))
-        (given F.Source file.old file.new buffer.old) S.Source content.old content.new) }
-    // The verdict is right with each list of answers that gives the verifier's answers to the file's questions.
-    ensures sufficient { StreamSuffices (terms_of policy.now trust.now (V.vouches verifier.old))
-        (given F.Source file.old file.new buffer.old) S.Source content.old content.new result }
-    // The verifier is asked only questions of the file.
-    ensures only { F.tells file.old → AsksOnly (λ test. V.asked_only test verifier.old verifier.new)
-        (IsQuestion trust.now (F.rest file.old)) }
-    // And only about signers that fit the content that was judged, and under entries that passed the earlier filters.
-    ensures asked { IfSome result (StreamChecksAsking (judge V.Verifier policy.now trust.now verifier.old verifier.new)
-        (given F.Source file.old file.new buffer.old) S.Source content.old content.new) }
-    // Of each file, also one that isn't known: which device failed, and which refusals there are.
-    ensures devices { IfSome result (OfDevices (facts S.Source)
-        (F.failures file.old) (F.failures file.new) content.old content.new) }
-    // It is asked nothing if one of C1 to C5 refuses, there is too little room or the content could not be read.
-    ensures unasked { IfSome result IsUnjudged → (test : Asked → Bool) → V.asked_only test verifier.old verifier.new }
-    // The file is read to its end, unless the verdict is C1, X1 or X3.
-    ensures end { F.tells file.old → IsEarlyIn result ⊎ (F.rest file.new ≡ []) }
-    // No verdict: only if a signer needs a digest by another algorithm, of the content that is in the file.
-    ensures none { result ≡ None → F.tells file.old → LacksDigest policy.now (F.rest file.old) algorithms }
-    // So there is always a verdict with all algorithms.
-    ensures lacking { result ≡ None → (alg : Alg) × (is_in alg algorithms ≡ false) }
-    // And then the content is not read, nothing is asked, and no device failed.
-    ensures untouched { result ≡ None → (content.new ≡ content.old) × (verifier.new ≡ verifier.old)
-        × (F.failures file.new ≡ F.failures file.old) }
-    // What the verifier vouches for stays the same.
-    ensures same { V.vouches verifier.new ≡ V.vouches verifier.old }
-    // The verifier failed exactly if the verdict says so.
-    ensures count { CountsAsksIn result (V.failures verifier.old) (V.failures verifier.new) }
-{
-    check_stream_by_with(
-        &mut Pass::new(),
-        &mut Hashed::of(trust),
-        file,
-        content,
-        buffer,
-        policy,
-        verifier,
-        algorithms,
-    )
-}
-
 // All algorithms.
 fn every() -> Algs
     ensures { (alg : Alg) → is_in alg result ≡ true }
@@ -213,8 +127,7 @@ fn every() -> Algs
         .with(Alg::Sha512_256)
 }
 
-/// As `check_stream`, under the trust list of `hashed`, with a window and with the digests that `hashed` keeps, as
-/// `check_stream_by_with`.
+/// The same with all algorithms, so there is always a verdict.
 ///
 /// Errors: as `check_stream`.
 pub fn check_stream_with<F: Source, S: Source, V: Verifier>(
@@ -226,33 +139,9 @@ pub fn check_stream_with<F: Source, S: Source, V: Verifier>(
     policy: &Policy,
     verifier: &mut V,
 ) -> Result<Accepted, Refused>
-    // For a file and a content that are known: yes with a moment exactly if the definition says so, unless a device
-    // failed, the content is too long or there is too little room.
-    ensures headline { F.tells file.old → IfSome content.old S.tells → (m : ℕ)
-        → StreamSaysYes (terms_of policy.now hashed.old (V.vouches verifier.old)) (F.rest file.old)
-        (option_map S.rest content.old) result m }
-    // And if it isn't yes, the refusal of the definition.
-    ensures verdict { F.tells file.old → IfSome content.old S.tells → StreamVerdictOrDevice
-        (terms_of policy.now hashed.old (V.vouches verifier.old)) (F.rest file.old)
-        (option_map S.rest content.old) result }
-    // X1 if the file's source failed, X3 if the file states more than there is room for; otherwise the verdict is
-    // right for the octets of the file and for what the source of the content gave.
-    ensures judged { StreamChecks (terms_of policy.now hashed.old (V.vouches verifier.old))
+    // It is all that `check_stream` says of its verdict.
+    ensures promised { Promised (judge V.Verifier policy.now hashed.old verifier.old verifier.new)
         (given F.Source file.old file.new buffer.old) S.Source content.old content.new result }
-    // The verdict is right with each list of answers that gives the verifier's answers to the file's questions.
-    ensures sufficient { StreamSuffices (terms_of policy.now hashed.old (V.vouches verifier.old))
-        (given F.Source file.old file.new buffer.old) S.Source content.old content.new (Some result) }
-    // The verifier is asked only questions of the file.
-    ensures only { F.tells file.old → AsksOnly (λ test. V.asked_only test verifier.old verifier.new)
-        (IsQuestion hashed.old (F.rest file.old)) }
-    // And only about signers that fit the content that was judged, and under entries that passed the earlier filters.
-    ensures asked { StreamChecksAsking (judge V.Verifier policy.now hashed.old verifier.old verifier.new)
-        (given F.Source file.old file.new buffer.old) S.Source content.old content.new result }
-    // Of each file, also one that isn't known: which device failed, and which refusals there are.
-    ensures devices { OfDevices (facts S.Source) (F.failures file.old) (F.failures file.new)
-        content.old content.new result }
-    // It is asked nothing if one of C1 to C5 refuses, there is too little room or the content could not be read.
-    ensures unasked { IsUnjudged result → (test : Asked → Bool) → V.asked_only test verifier.old verifier.new }
     // The file is read to its end, unless the verdict is C1, X1 or X3.
     ensures end { F.tells file.old → IsEarly result ⊎ (F.rest file.new ≡ []) }
     // What the verifier vouches for stays the same.
@@ -262,7 +151,7 @@ pub fn check_stream_with<F: Source, S: Source, V: Verifier>(
     // The trust list stays the same.
     ensures listed { hashed.new ≡ hashed.old }
 {
-    match check_stream_by_with(
+    match check_stream_by(
         passing,
         hashed,
         file,

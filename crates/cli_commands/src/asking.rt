@@ -21,6 +21,7 @@ use std::rt::Files;
 ///
 /// The trust list is opened, read and judged before the file is opened. The file is read in pieces, and no more octets
 /// of it are kept than the words allow.
+#[inline(never)]
 pub fn ask<'a, R: Files + AllocGlobal, O: Write>(
     rt: &R,
     words: &QuestionsWords<'a>,
@@ -33,35 +34,16 @@ pub fn ask<'a, R: Files + AllocGlobal, O: Write>(
     ensures kept { IfErr result (KeepsUnlessFailed (O.contents out.old) (O.contents out.new)) }
 {
     let trust = lists::trust_in(rt, words.trust)?;
-    ask_by(rt, words, &trust, out)
-}
-
-/// The same under a list that was read, and that serves for another file afterwards.
-#[inline(never)]
-pub fn ask_by<'a, R: Files + AllocGlobal, O: Write>(
-    rt: &R,
-    words: &QuestionsWords<'a>,
-    trust: &Trust,
-    out: &mut O,
-) -> Result<(), Failure<'a>>
-    // If the list is that of a file, the text and the failure are those of `ask`.
-    ensures asked { IsTrustOf R.File.remaining trust.now → OnOk result ((text : List ℕ)
-        × ShowsQuestions R.File.remaining text × Appends (O.contents out.old) (O.contents out.new) text) }
-    // The same of the failure.
-    ensures refused { IsTrustOf R.File.remaining trust.now → IfErr result (AsksNot R.File.remaining words.now) }
-    // Nothing was printed if this fails, unless the output failed.
-    ensures kept { IfErr result (KeepsUnlessFailed (O.contents out.old) (O.contents out.new)) }
-{
     let mut passing = Pass::new();
-    ask_by_with(rt, words, trust, out, &mut passing)
+    ask_by(rt, words, &trust, out, &mut passing)
 }
 
-/// The same with a window that serves for another file afterwards, too. What it holds of earlier files changes nothing
-/// of what is said of this one.
+/// The same under a list that was read, with a window that serves for another file afterwards, too. What it holds of
+/// earlier files changes nothing of what is said of this one.
 ///
 /// Errors: those of `ask` after its list was read: the file cannot be opened or read, memory is refused, the output
 /// fails, or the file is refused.
-pub fn ask_by_with<'a, R: Files + AllocGlobal, O: Write>(
+pub fn ask_by<'a, R: Files + AllocGlobal, O: Write>(
     rt: &R,
     words: &QuestionsWords<'a>,
     trust: &Trust,

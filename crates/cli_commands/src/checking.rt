@@ -17,7 +17,7 @@ use cli_failures::{Failure, files};
 use cli_tasks::CheckWords;
 use cmsproof_api::{
     Accepted, Answers, DeviceFault, FromWrite, Hashed, Pass, Policy, Refused, Source, Trust,
-    check_stream_by_with, check_stream_with, report,
+    check_stream_by, check_stream_with, report,
 };
 use std::alloc::{AllocError, Global};
 use std::io::{Read, Seek};
@@ -28,6 +28,7 @@ use std::rt::Files;
 /// The trust list is opened, read and judged first, then the answers list; then the content's file is opened, and then
 /// the other one, which is read in pieces; the content is read last, in pieces too. No more octets of the file are kept
 /// than the words allow. Decisions 114, 130, 131 and 244 of `docs/DECISIONS.md`.
+#[inline(never)]
 pub fn check<'a, R: Files + AllocGlobal>(
     rt: &R,
     words: &CheckWords<'a>,
@@ -38,38 +39,17 @@ pub fn check<'a, R: Files + AllocGlobal>(
 {
     let trust = lists::trust_in(rt, words.trust)?;
     let mut answers = lists::answers_in(rt, words.answers)?;
-    check_by(rt, words, &trust, &mut answers)
-}
-
-/// The same under lists that were read, and that serve for another file afterwards.
-#[inline(never)]
-pub fn check_by<'a, R: Files + AllocGlobal>(
-    rt: &R,
-    words: &CheckWords<'a>,
-    trust: &Trust,
-    answers: &mut Answers,
-) -> Result<Vec<u8>, Failure<'a>>
-    // If the lists are those of files, the line and the failure are those of `check`.
-    ensures accepted { IsTrustOf R.File.remaining trust.now → IsAnswersOf R.File.remaining answers.old
-        → IfOk result (λ line. (file : R.File) × ShowsAccepted R.File.remaining words.now
-        (R.File.remaining file) line.items) }
-    // The same of the failure.
-    ensures refused { IsTrustOf R.File.remaining trust.now → IsAnswersOf R.File.remaining answers.old
-        → IfErr result (ShowsRefused R.File.remaining words.now) }
-    // What the answers list vouches for stays the same.
-    ensures same { ◌≡◌ {A = Asked → Bool} (λ q. is_among answers.new q) (λ q. is_among answers.old q) }
-{
     let mut passing = Pass::new();
-    let mut hashed = Hashed::of(trust);
-    check_by_with(rt, words, answers, &mut passing, &mut hashed)
+    let mut hashed = Hashed::of(&trust);
+    check_by(rt, words, &mut answers, &mut passing, &mut hashed)
 }
 
-/// The same under the trust list of `hashed`, with a window and digests that serve for another file afterwards, too. What
-/// they hold of earlier files changes nothing of what is said of this one.
+/// The same under lists that were read, with a window and digests that serve for another file afterwards, too. What they
+/// hold of earlier files changes nothing of what is said of this one.
 ///
 /// Errors: those of `check` after its lists were read: a file cannot be opened or read, memory is refused, or the file
 /// is refused.
-pub fn check_by_with<'a, R: Files + AllocGlobal>(
+pub fn check_by<'a, R: Files + AllocGlobal>(
     rt: &R,
     words: &CheckWords<'a>,
     answers: &mut Answers,
@@ -271,7 +251,7 @@ fn verdict_by_hint<F: Read + Seek, S: Source>(
     let Ok(listed) = file.listed(passing) else {
         return Err(Refused::Device(DeviceFault::ReadFailed));
     };
-    if let Some(verdict) = check_stream_by_with(
+    if let Some(verdict) = check_stream_by(
         passing, hashed, file, content, buffer, policy, answers, listed,
     ) {
         return verdict;

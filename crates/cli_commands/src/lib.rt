@@ -19,8 +19,8 @@ mod signature;
 mod telling;
 mod texts;
 
-pub use asking::{ask_by, ask_by_with};
-pub use checking::{check_by, check_by_with};
+pub use asking::ask_by;
+pub use checking::check_by;
 pub use lists::{answers_in, trust_in};
 pub use telling::{print, run};
 pub use texts::text_of;

@@ -4,7 +4,7 @@ ghost use Rattle.cli_commands.specs.Asking.{AsksPass};
 
 use crate::rereading::Rereadable;
 use cmsproof_api::{
-    Pass, QuestionsFault, Sink, SinkFault, StreamQuestionsFault, Trust, questions_stream_with,
+    Pass, QuestionsFault, Sink, SinkFault, StreamQuestionsFault, Trust, questions_stream,
 };
 use std::io::{Read, Write};
 
@@ -53,7 +53,7 @@ fn put_straight<F: Read, O: Write>(
     ensures reads { CountsReads result file.old.failed file.new.failed }
 {
     let mut sink = Output { to: out, failed: 0 };
-    let asked = questions_stream_with(passing, file, buffer, trust, &mut sink);
+    let asked = questions_stream(passing, file, buffer, trust, &mut sink);
     let Output { to, failed: _ } = sink;
     // No effect at run time. The proof reads what `out` holds from this use of `to`.
     let _ = &*to;

@@ -12,7 +12,7 @@ use crate::lines::put_failure;
 use crate::names::heading_of;
 use crate::worst::worse;
 use crate::writing::put;
-use cli_commands::{ask_by_with, trust_in};
+use cli_commands::{ask_by, trust_in};
 use cli_failures::{Failure, Status};
 use cli_tasks::{QuestionsEach, QuestionsWords};
 use cmsproof_api::{Pass, QuestionsFault, Trust};
@@ -69,7 +69,7 @@ where
 
 /// The text of the questions of the file of these words, under a list that was read.
 ///
-/// Errors: as `ask_by_with`, but for an output that fails: it is a vector, and fails only if memory is refused.
+/// Errors: as `ask_by`, but for an output that fails: it is a vector, and fails only if memory is refused.
 fn questions_by<'a, R: Files + AllocGlobal>(
     rt: &R,
     words: &QuestionsWords<'a>,
@@ -82,7 +82,7 @@ fn questions_by<'a, R: Files + AllocGlobal>(
     ensures refused { IsTrustOf R.File.remaining trust.now → IfErr result (AsksNot R.File.remaining words.now) }
 {
     let mut text = Vec::new(rt.alloc());
-    match ask_by_with(rt, words, trust, &mut text, passing) {
+    match ask_by(rt, words, trust, &mut text, passing) {
         Ok(()) => Ok(text),
         Err(failure) => {
             if is_unwritten(&failure) {

@@ -7,7 +7,7 @@ ghost use Rattle.cli_files.specs.Lines.{AreAll, IsCut, IsLost};
 
 use crate::lines::put_said;
 use crate::worst::worse;
-use cli_commands::{answers_in, check_by_with, trust_in};
+use cli_commands::{answers_in, check_by, trust_in};
 use cli_failures::{Failure, Status};
 use cli_tasks::{CheckEach, CheckWords};
 use cmsproof_api::{Hashed, Pass};
@@ -53,7 +53,7 @@ where
             buffer: each.buffer,
             file: path,
         };
-        let said = check_by_with(rt, &words, &mut answers, &mut passing, &mut hashed);
+        let said = check_by(rt, &words, &mut answers, &mut passing, &mut hashed);
         worst = worse(worst, put_said(rt.alloc(), path, &said, out)?);
     }
     Ok(worst)

@@ -7,8 +7,8 @@
 //! signer, `answers` says whether a response answers a request, and `compare` whether a signer of one file and a signer
 //! of another sign the same.
 //!
-//! For many files, `check_stream_with`, `check_stream_by_with` and `questions_stream_with` take a `Pass`, the window
-//! through which the files pass one after another. The first two take their trust list in `Hashed`, with the eight digests
+//! For many files, `check_stream_with` and `check_stream_by` take what serves for one file after another: a `Pass`, the
+//! window through which the files pass, as `questions_stream` does, and the trust list in `Hashed`, with the eight digests
 //! of certificates of the list that were computed last.
 //!
 //! A content and a file come from a `Source`, which `Slice` makes of octets and `FromRead` of a reader; what is written
@@ -19,8 +19,8 @@ pub use check_fit::{
     DeviceFault, FileRule, Policy, Refused, SignerRule, TokenRefused, TokenRule, fits, signer_fits,
 };
 pub use check_questions::{QuestionsFault, questions};
-pub use check_questions_stream::{StreamQuestionsFault, questions_stream, questions_stream_with};
-pub use check_stream::{check_stream, check_stream_by, check_stream_by_with, check_stream_with};
+pub use check_questions_stream::{StreamQuestionsFault, questions_stream};
+pub use check_stream::{check_stream, check_stream_by, check_stream_with};
 pub use check_verdict::{Accepted, Hashed, check, check_signer, check_token};
 pub use cms_compare::{CompareFault, CompareRule, Compared, Which, compare};
 pub use cms_stream::{Pass, listed_algorithms};

@@ -3,8 +3,8 @@ use crate::found::pass;
 use crate::terms::Terms;
 use cms_stream::listed_algorithms;
 use cmsproof_api::{
-    Alg, Algs, ExpectingVerifier, FusedVerifier, Source, Verifier, check, check_signer,
-    check_stream, check_stream_by, fits, questions, questions_stream,
+    Alg, Algs, ExpectingVerifier, FusedVerifier, Hashed, Pass, Source, Verifier, check,
+    check_signer, check_stream, check_stream_by, fits, questions, questions_stream,
 };
 use der_time::generalized_text;
 use devices::{FromWrite, Fused, Pieces};
@@ -99,7 +99,17 @@ impl<'r, 'a> Terms<'r, 'a> {
             "stream" => Some(check_stream(file, content, room, trust, policy, verifier)),
             "guess" => {
                 let algs = algorithm(rest)?;
-                check_stream_by(file, content, room, trust, policy, verifier, algs)
+                let (mut passing, mut hashed) = (Pass::new(), Hashed::of(trust));
+                check_stream_by(
+                    &mut passing,
+                    &mut hashed,
+                    file,
+                    content,
+                    room,
+                    policy,
+                    verifier,
+                    algs,
+                )
             }
             "pass" => return pass(self.row, file, room),
             _ => return self.alone(call, octets, devices, room),
@@ -132,7 +142,11 @@ impl<'r, 'a> Terms<'r, 'a> {
                 let mut sink = FromWrite::new(Vec::new(row.alloc));
                 let said = match call {
                     "questions" => row.ended("written", questions(octets, trust, &mut sink))?,
-                    _ => row.ended("written", questions_stream(file, room, trust, &mut sink))?,
+                    _ => {
+                        let mut passing = Pass::new();
+                        let asked = questions_stream(&mut passing, file, room, trust, &mut sink);
+                        row.ended("written", asked)?
+                    }
                 };
                 let text: Vec<u8> = sink.into_inner();
                 if text.as_slice() == row.octets_or("lines", "-")?.as_slice() {

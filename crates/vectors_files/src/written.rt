@@ -2,7 +2,8 @@
 use crate::runs::Runs;
 use crate::terms::Terms;
 use cmsproof_api::{
-    Accepted, Request, Response, SignedData, Sink, attach, questions, questions_stream, report,
+    Accepted, Pass, Request, Response, SignedData, Sink, attach, questions, questions_stream,
+    report,
 };
 use der_time::read_generalized;
 use devices::{FromWrite, Limited, Pieces};
@@ -49,7 +50,7 @@ fn write<S: Sink>(row: &Row<'_>, octets: &[u8], sink: &mut S) -> Result<String, 
             let (trust, mut file) = (terms.trust, Pieces::new(&file, 7));
             return row.ended(
                 "all",
-                questions_stream(&mut file, &mut [0; 1024], &trust, sink),
+                questions_stream(&mut Pass::new(), &mut file, &mut [0; 1024], &trust, sink),
             );
         }
         "attach" => {

@@ -7,7 +7,7 @@ use crate::numbers::Numbers;
 use crate::parts::Parts;
 use crate::results::Results;
 use crate::trusting::{POLICY, take_verdict};
-use cmsproof_api::{Answers, FromWrite, Slice, Trust, check, questions_stream};
+use cmsproof_api::{Answers, FromWrite, Pass, Slice, Trust, check, questions_stream};
 use std::alloc::Global;
 
 /// How many files are asked about at a time.
@@ -70,6 +70,7 @@ fn add_questions(alloc: Global, trust: &Trust, file: &[u8], text: &mut Vec<u8>) 
     let mut buffer = vec![in alloc; 0; ROOM]?;
     let mut sink = FromWrite::new(Vec::new(alloc));
     let asked = questions_stream(
+        &mut Pass::new(),
         &mut Slice::new(file),
         buffer.as_mut_slice(),
         trust,

@@ -3,8 +3,8 @@
 use crate::bad::{Bad, needed};
 use crate::results::Results;
 use cmsproof_api::{
-    Accepted, FromWrite, Policy, Question, Refused, Slice, Trust, Verifier, check_stream,
-    check_stream_by, listed_algorithms, report,
+    Accepted, FromWrite, Hashed, Pass, Policy, Question, Refused, Slice, Trust, Verifier,
+    check_stream, check_stream_by, listed_algorithms, report,
 };
 use list_answers::AskFault;
 use std::alloc::Global;
@@ -64,10 +64,11 @@ pub(crate) fn stream_verdict<V: Verifier>(
     let listed = listed_algorithms(&mut Slice::new(file));
     let mut none: Option<Slice> = None;
     let first = check_stream_by(
+        &mut Pass::new(),
+        &mut Hashed::of(trust),
         &mut Slice::new(file),
         &mut none,
         buffer,
-        trust,
         &POLICY,
         verifier,
         listed,

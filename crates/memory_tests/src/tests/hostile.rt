@@ -3,8 +3,8 @@
 mod files;
 
 use cmsproof_api::{
-    Answers, AnswersRule, FromWrite, Pieces, Policy, QuestionsFault, StreamQuestionsFault, Trust,
-    TrustRule, check, questions_stream,
+    Answers, AnswersRule, FromWrite, Pass, Pieces, Policy, QuestionsFault, StreamQuestionsFault,
+    Trust, TrustRule, check, questions_stream,
 };
 use der_core::Oid;
 use der_oid_text::{OidFault, oid_parse, oid_text};
@@ -30,7 +30,14 @@ macro_rules! given {
 /// The questions of a file that comes in pieces of seven octets.
 fn asked(alloc: Global, file: &[u8], trust: &Trust) -> Result<Vec<u8>, StreamQuestionsFault> {
     let mut sink = FromWrite::new(Vec::new(alloc));
-    questions_stream(&mut Pieces::new(file, 7), &mut [0; 1024], trust, &mut sink)?;
+    let mut file = Pieces::new(file, 7);
+    questions_stream(
+        &mut Pass::new(),
+        &mut file,
+        &mut [0; 1024],
+        trust,
+        &mut sink,
+    )?;
     Ok(sink.into_inner())
 }
 

@@ -35,17 +35,17 @@ loop-path-preserved g c =
             ends = c.in_ok-put_said.field-0;
             says = (
               text,
-              said_by (λ (v : _). v.items) g.R.File.Read.remaining (check_of c.args.each.now path) c.check_by_with-said.result text
+              said_by (λ (v : _). v.items) g.R.File.Read.remaining (check_of c.args.each.now path) c.check_by-said.result text
                   c.in_ok-put_said.field-0 said
-                  (c.check_by_with-said.ensures.accepted h.trusted h.answers)
-                  (c.check_by_with-said.ensures.refused h.trusted h.answers),
+                  (c.check_by-said.ensures.accepted h.trusted h.answers)
+                  (c.check_by-said.ensures.refused h.trusted h.answers),
               refl,
             );
             takes = took;
             worse = c.worse-worst.ensures;
           });
-      trusted = subst (λ (es : List EntryValue). IsTrustOf g.R.File.Read.remaining es) (sym c.check_by_with-said.ensures.listed) h.trusted;
-      answers = still_answers g.R.File.Read.remaining _ _ c.check_by_with-said.ensures.same h.answers;
+      trusted = subst (λ (es : List EntryValue). IsTrustOf g.R.File.Read.remaining es) (sym c.check_by-said.ensures.listed) h.trusted;
+      answers = still_answers g.R.File.Read.remaining _ _ c.check_by-said.ensures.same h.answers;
     }
 
 pub returns-in_err-put_said-clause-refused : goal.returns-in_err-put_said-clause-refused
@@ -60,9 +60,9 @@ returns-in_err-put_said-clause-refused g c =
           (record { ref_ptr = (0, 0); now = [] }) c.loop-path.path-index (g.O.Write.contents c.args.out.now) (g.O.Write.contents c.loop-path.out)
           (g.O.Write.contents c.put_said.new.out) c.loop-path.worst ends (line_of path.now text) c.loop-path-test.true h.told (
             text,
-            said_by (λ (v : _). v.items) g.R.File.Read.remaining (check_of c.args.each.now path) c.check_by_with-said.result text ends said
-                (c.check_by_with-said.ensures.accepted h.trusted h.answers)
-                (c.check_by_with-said.ensures.refused h.trusted h.answers),
+            said_by (λ (v : _). v.items) g.R.File.Read.remaining (check_of c.args.each.now path) c.check_by-said.result text ends said
+                (c.check_by-said.ensures.accepted h.trusted h.answers)
+                (c.check_by-said.ensures.refused h.trusted h.answers),
             refl,
           ) begun,
     ))

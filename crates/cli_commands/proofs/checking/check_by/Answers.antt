@@ -2,7 +2,7 @@ use Rattle.std.proofs.Common.{refl}
 use Rattle.std.specs.Prelude.{is_some}
 use Rattle.cli_commands.proofs.JudgedFiles.{given_by}
 use Rattle.cli_commands.proofs.Checked.{shows_accepted, shows_refused}
-use Rattle.cli_commands.proofs.checking.check_by_with.Goals as goal
+use Rattle.cli_commands.proofs.checking.check_by.Goals as goal
 
 pub returns-clause-accepted : goal.returns-clause-accepted
 returns-clause-accepted g c = λ trusted vouched_for.

@@ -2,7 +2,7 @@ use Rattle.std.proofs.Common.{subst}
 use Rattle.std.specs.Prelude.{is_some}
 use Rattle.cli_commands.specs.Asking.{Attempt, AsksPass}
 use Rattle.cli_commands.proofs.Unasked.{not_asked}
-use Rattle.cli_commands.proofs.asking.ask_by_with.Goals as goal
+use Rattle.cli_commands.proofs.asking.ask_by.Goals as goal
 
 pub returns-clause-refused : goal.returns-clause-refused
 returns-clause-refused g c = λ trusted.

@@ -1,6 +1,6 @@
 ghost use Rattle.std.specs.Prelude.{◌≡◌, ℕ, List, Option, None, Ok, IfSome, IfOk};
 ghost use Rattle.digests.specs.Selection.{FedWanted, set_of};
-ghost use Rattle.check_verdict.specs.TokenVerdicts.{terms_of};
+ghost use Rattle.check_verdict.specs.Checkers.{terms_for};
 ghost use Rattle.cms_stream.specs.Opening.{OpenedValue, OpensStream};
 ghost use Rattle.check_stream.specs.StreamVerdicts.{ChecksStreamAsking, facts};
 ghost use Rattle.check_stream.specs.JudgedKept.{stopped_by, IsLeft, OfPass, Stopped, AsksVerifier};
@@ -8,8 +8,8 @@ ghost use Rattle.check_stream.specs.DeviceVerdicts.{OfRead};
 
 use crate::content::hash_wanted;
 use crate::kept::kept;
-use check_fit::{DeviceFault, FileRule, Policy, Refused};
-use check_verdict::{Accepted, Hashed, judge_signers_with};
+use check_fit::{DeviceFault, FileRule, Refused};
+use check_verdict::{Accepted, Checker, judge_signers};
 use cms_stream::{Opened, StreamFault};
 use devices::Source;
 use digests::Wanted;
@@ -32,34 +32,32 @@ fn judge_kept<S: Source, V: Verifier>(
     opened: Option<Opened>,
     hashers: Wanted,
     content: &mut Option<S>,
-    policy: &Policy,
+    checker: &mut Checker,
     verifier: &mut V,
-    hashed: &mut Hashed,
 ) -> Option<Result<Accepted, Refused>>
     ensures asked { (octets : List ℕ) (room : ℕ) → OpensStream (FedWanted hashers) room octets (Ok opened.entry)
-        → IfSome result (ChecksStreamAsking (facts S.Source) (terms_of policy.now hashed.old (V.vouches verifier.old))
+        → IfSome result (ChecksStreamAsking (facts S.Source) (terms_for checker.old (V.vouches verifier.old))
         (λ test. V.asked_only test verifier.old verifier.new) octets content.old content.new) }
     ensures devices { IfSome result (OfRead (facts S.Source) content.old content.new) }
-    ensures left { result ≡ None → IsLeft policy.now opened.entry (set_of hashers) content.old content.new
+    ensures left { result ≡ None → IsLeft checker.old.policy opened.entry (set_of hashers) content.old content.new
         × (verifier.new ≡ verifier.old) }
     ensures asks { AsksVerifier V.Verifier verifier.old verifier.new result }
-    ensures listed { hashed.new ≡ hashed.old }
+    ensures stays { checker.new ≡ checker.old }
 {
     let opened = match kept(opened, content.is_some()) {
         Ok(opened) => opened,
         Err(refused) => return Some(Err(refused)),
     };
-    let digests = match hash_wanted(*policy, opened.signers(), hashers, content)? {
+    let digests = match hash_wanted(checker.policy(), opened.signers(), hashers, content)? {
         Ok(digests) => digests,
         Err(refused) => return Some(Err(refused)),
     };
-    match judge_signers_with(
+    match judge_signers(
         &digests,
         opened.content_type(),
         opened.signers(),
-        policy,
+        checker,
         verifier,
-        hashed,
     ) {
         Ok(moment) => Some(Ok(Accepted { moment })),
         Err(refused) => Some(Err(refused)),
@@ -74,23 +72,22 @@ pub(crate) fn judge_pass<S: Source, V: Verifier>(
     pass: Result<Option<Opened>, StreamFault>,
     hashers: Wanted,
     content: &mut Option<S>,
-    policy: &Policy,
+    checker: &mut Checker,
     verifier: &mut V,
-    hashed: &mut Hashed,
 ) -> Option<Result<Accepted, Refused>>
     ensures asked { (octets : List ℕ) (room : ℕ) → OpensStream (FedWanted hashers) room octets pass.entry
-        → OfPass (ChecksStreamAsking (facts S.Source) (terms_of policy.now hashed.old (V.vouches verifier.old))
+        → OfPass (ChecksStreamAsking (facts S.Source) (terms_for checker.old (V.vouches verifier.old))
         (λ test. V.asked_only test verifier.old verifier.new) octets content.old content.new)
         pass.entry content.old content.new result }
     ensures stopped { Stopped pass.entry content.old content.new result }
     ensures devices { IfOk pass.entry (λ opened. IfSome result (OfRead (facts S.Source) content.old content.new)) }
     ensures left { result ≡ None → (opened : Option OpenedValue) × (pass.entry ≡ Ok opened)
-        × IsLeft policy.now opened (set_of hashers) content.old content.new × (verifier.new ≡ verifier.old) }
+        × IsLeft checker.old.policy opened (set_of hashers) content.old content.new × (verifier.new ≡ verifier.old) }
     ensures asks { AsksVerifier V.Verifier verifier.old verifier.new result }
-    ensures listed { hashed.new ≡ hashed.old }
+    ensures stays { checker.new ≡ checker.old }
 {
     match pass {
-        Ok(opened) => judge_kept(opened, hashers, content, policy, verifier, hashed),
+        Ok(opened) => judge_kept(opened, hashers, content, checker, verifier),
         Err(fault) => Some(Err(stopped_by(fault))),
     }
 }

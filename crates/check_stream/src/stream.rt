@@ -18,7 +18,7 @@ ghost use Rattle.check_stream.specs.DeviceVerdicts.{OfDevices};
 use crate::hashers::{Chosen, Hashers};
 use crate::judging::judge_pass;
 use check_fit::{Policy, Refused};
-use check_verdict::{Accepted, Hashed};
+use check_verdict::{Accepted, Checker};
 use cms_stream::{Opened, Pass, StreamFault};
 use devices::Source;
 use digests::{Alg, Algs, Wanted};
@@ -47,31 +47,31 @@ fn pass_over<'b, C: Chosen, F: Source>(
 // The verdict, if each digest that a signer needs was computed.
 fn verdict_of<F: Source, S: Source, V: Verifier>(
     passing: &mut Pass,
-    hashed: &mut Hashed,
+    checker: &mut Checker,
     file: &mut F,
     content: &mut Option<S>,
     buffer: &mut [u8],
-    policy: &Policy,
     verifier: &mut V,
     algorithms: Algs,
 ) -> Option<Result<Accepted, Refused>>
-    ensures asked { IfSome result (StreamChecksAsking (judge V.Verifier policy.now hashed.old verifier.old verifier.new)
+    ensures asked { IfSome result (StreamChecksAsking
+        (judge V.Verifier checker.old.policy checker.old.trust verifier.old verifier.new)
         (given F.Source file.old file.new buffer.old) S.Source content.old content.new) }
     ensures devices { IfSome result (OfDevices (facts S.Source)
         (F.failures file.old) (F.failures file.new) content.old content.new) }
     ensures end { F.tells file.old → IsEarlyIn result ⊎ (F.rest file.new ≡ []) }
     ensures lacks { result ≡ None → IsLacking F.Source file.old file.new content.old content.new
-        verifier.old verifier.new policy.now algorithms }
+        verifier.old verifier.new checker.old.policy algorithms }
     ensures asks { AsksVerifier V.Verifier verifier.old verifier.new result }
-    ensures listed { hashed.new ≡ hashed.old }
+    ensures stays { checker.new ≡ checker.old }
 {
     let (pass, hashers) = pass_over::<Brand, F>(passing, file, buffer, algorithms);
-    judge_pass(pass, hashers, content, policy, verifier, hashed)
+    judge_pass(pass, hashers, content, checker, verifier)
 }
 
-/// The verdict of `check_stream` under the trust list of `hashed`, with what serves for all files under this list: the
-/// window, and the digests that `hashed` keeps. Neither changes a verdict: the window is empty at the front of each file,
-/// and each kept digest is that of the certificate of the entry by whose number it is kept.
+/// The verdict of `check_stream`, with what serves for one file after another: the window, and what a check goes by. What
+/// they keep of earlier files changes no verdict: the window is empty at the front of each file, and what a `Checker`
+/// keeps is of its own list.
 ///
 /// A content in the file is hashed by these algorithms only. `None` only if a signer needs its digest by another
 /// algorithm: then nothing was judged, and a caller that can read the file again may do so with more algorithms. So the
@@ -81,21 +81,21 @@ fn verdict_of<F: Source, S: Source, V: Verifier>(
 /// Errors: as `check_stream`.
 pub fn check_stream_by<F: Source, S: Source, V: Verifier>(
     passing: &mut Pass,
-    hashed: &mut Hashed,
+    checker: &mut Checker,
     file: &mut F,
     content: &mut Option<S>,
     buffer: &mut [u8],
-    policy: &Policy,
     verifier: &mut V,
     algorithms: Algs,
 ) -> Option<Result<Accepted, Refused>>
     // If there is a verdict, it is all that `check_stream` says of its own.
-    ensures promised { IfSome result (Promised (judge V.Verifier policy.now hashed.old verifier.old verifier.new)
+    ensures promised { IfSome result (Promised
+        (judge V.Verifier checker.old.policy checker.old.trust verifier.old verifier.new)
         (given F.Source file.old file.new buffer.old) S.Source content.old content.new) }
     // The file is read to its end, unless the verdict is C1, X1 or X3.
     ensures end { F.tells file.old → IsEarlyIn result ⊎ (F.rest file.new ≡ []) }
     // No verdict: only if a signer needs a digest by another algorithm, of the content that is in the file.
-    ensures none { result ≡ None → F.tells file.old → LacksDigest policy.now (F.rest file.old) algorithms }
+    ensures none { result ≡ None → F.tells file.old → LacksDigest checker.old.policy (F.rest file.old) algorithms }
     // So there is always a verdict with all algorithms.
     ensures lacking { result ≡ None → (alg : Alg) × (is_in alg algorithms ≡ false) }
     // And then the content is not read, nothing is asked, and no device failed.
@@ -105,11 +105,11 @@ pub fn check_stream_by<F: Source, S: Source, V: Verifier>(
     ensures same { V.vouches verifier.new ≡ V.vouches verifier.old }
     // The verifier failed exactly if the verdict says so.
     ensures count { CountsAsksIn result (V.failures verifier.old) (V.failures verifier.new) }
-    // The trust list stays the same.
-    ensures listed { hashed.new ≡ hashed.old }
+    // What the check goes by stays the same.
+    ensures stays { checker.new ≡ checker.old }
 {
     verdict_of(
-        passing, hashed, file, content, buffer, policy, verifier, algorithms,
+        passing, checker, file, content, buffer, verifier, algorithms,
     )
 }
 
@@ -132,15 +132,14 @@ fn every() -> Algs
 /// Errors: as `check_stream`.
 pub fn check_stream_with<F: Source, S: Source, V: Verifier>(
     passing: &mut Pass,
-    hashed: &mut Hashed,
+    checker: &mut Checker,
     file: &mut F,
     content: &mut Option<S>,
     buffer: &mut [u8],
-    policy: &Policy,
     verifier: &mut V,
 ) -> Result<Accepted, Refused>
     // It is all that `check_stream` says of its verdict.
-    ensures promised { Promised (judge V.Verifier policy.now hashed.old verifier.old verifier.new)
+    ensures promised { Promised (judge V.Verifier checker.old.policy checker.old.trust verifier.old verifier.new)
         (given F.Source file.old file.new buffer.old) S.Source content.old content.new result }
     // The file is read to its end, unless the verdict is C1, X1 or X3.
     ensures end { F.tells file.old → IsEarly result ⊎ (F.rest file.new ≡ []) }
@@ -148,19 +147,10 @@ pub fn check_stream_with<F: Source, S: Source, V: Verifier>(
     ensures same { V.vouches verifier.new ≡ V.vouches verifier.old }
     // The verifier failed exactly if the verdict says so.
     ensures count { CountsAsks result (V.failures verifier.old) (V.failures verifier.new) }
-    // The trust list stays the same.
-    ensures listed { hashed.new ≡ hashed.old }
+    // What the check goes by stays the same.
+    ensures stays { checker.new ≡ checker.old }
 {
-    match check_stream_by(
-        passing,
-        hashed,
-        file,
-        content,
-        buffer,
-        policy,
-        verifier,
-        every(),
-    ) {
+    match check_stream_by(passing, checker, file, content, buffer, verifier, every()) {
         Some(verdict) => verdict,
         None => unreachable!(),
     }
@@ -220,11 +210,10 @@ pub fn check_stream<F: Source, S: Source, V: Verifier>(
 {
     check_stream_with(
         &mut Pass::new(),
-        &mut Hashed::of(trust),
+        &mut Checker::of(trust, *policy),
         file,
         content,
         buffer,
-        policy,
         verifier,
     )
 }

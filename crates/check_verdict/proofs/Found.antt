@@ -13,6 +13,11 @@ use Rattle.check_verdict.proofs.Stages.{best_of_next, best_of_skipped}
 pub entry_among : (es : List EntryValue) (i : ℕ) (e : EntryValue) → i < length es → e ≡ get_or es i e → Contains es e
 entry_among es i e lt is = (i, lt, sym is)
 
+-- what is said of each entry of a list is said of the same list
+pub asks_of : (es fs : List EntryValue) → es ≡ fs → (Says : EntryValue → Type 0) → ((e : EntryValue) → Contains es e → Says e)
+    → (e : EntryValue) → Contains fs e → Says e
+asks_of es fs same Says says e among = says e (subst (λ (xs : List EntryValue). Contains xs e) (sym same) among)
+
 -- which has this role, and whose certificate this identifier matches
 abbrev pub IsMatched : Role → SidValue → EntryValue → Type 0
 IsMatched role sid e = (e.role ≡ role) × Matches sid e.certificate

@@ -26,3 +26,4 @@ pub mod Asks
 pub mod Agreement
 pub mod OneSigner
 pub mod SignersGiven
+pub mod Going

@@ -7,7 +7,6 @@ pub mod TokenRules
 pub mod TokenVerdicts
 pub mod Checkers
 pub mod KeptCertificates
-pub mod Recent
 pub mod KeptDigests
 pub mod Verdicts
 pub mod SignerStages

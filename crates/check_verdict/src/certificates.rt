@@ -1,56 +1,64 @@
 //! The certificates of trusted entries that were read last.
 ghost use Rattle.std.specs.Prelude.{◌≡◌, List, IfSome};
 ghost use Rattle.trust_lists.specs.Entries.{EntryValue};
+ghost use Rattle.cert_types.specs.CertificateValue.{CertificateValue};
 ghost use Rattle.check_verdict.specs.KeptCertificates.{IsOfEntry, IsKept};
-ghost use Rattle.check_verdict.specs.Recent.{AreOf};
 
 use cert_types::Certificate;
-use std::marker::Model;
+use std::marker::{Model, PhantomData};
 use trust_lists::Trust;
-
-/// A certificate that was read.
-#[derive(Debug, Drop)]
-pub(crate) struct ReadCertificate<'l> {
-    /// The certificate.
-    pub certificate: Certificate<'l>,
-    /// Whether its key is known to be for time-stamping alone.
-    pub for_stamping: bool,
-}
 
 // The certificate of the entry of this number.
 #[derive(Debug, Drop)]
 struct Kept<'l> {
     number: usize,
-    read: ReadCertificate<'l>,
+    certificate: Certificate<'l>,
 }
 
-// The certificate in a slot, if it is that of the entry of this number.
-fn in_slot<'s, 'l>(slot: &'s Option<Kept<'l>>, number: usize) -> Option<&'s ReadCertificate<'l>>
-    ensures { (entries : List EntryValue) → IfSome slot.now (IsKept entries)
-        → IfSome result (λ read. IsOfEntry entries number read.now) }
-{
-    match slot {
-        Some(kept) if kept.number == number => Some(&kept.read),
-        _ => None,
-    }
+/// What is known of each certificate that is kept of a role, as a type.
+pub(crate) trait Known {
+    // That.
+    ghost known: { CertificateValue → Type 0 };
 }
 
-/// The last four certificates that were kept, of entries of a trust list: that of an entry for many signers is read
-/// once. What is kept changes no answer.
+/// Of signers: no more than whose it is.
+#[derive(Clone, Copy, Debug)]
+pub(crate) struct Signers;
+
+impl Known for Signers {
+    ghost use Rattle.std.specs.Prelude.{⊤};
+
+    ghost known = { λ _. ⊤ };
+}
+
+/// Of authorities: its key is for time-stamping alone.
+#[derive(Clone, Copy, Debug)]
+pub(crate) struct Authorities;
+
+impl Known for Authorities {
+    ghost use Rattle.cert_types.specs.Purposes.{IsStampingOnly};
+
+    ghost known = { IsStampingOnly };
+}
+
+/// The last certificates that were kept of a role, at most four, each by the number of its entry in a trust list: that of
+/// an entry for many signers is read once. What is kept changes no answer.
 ///
 /// Contracts see the entries of the list, in its order.
 #[derive(Debug, Drop)]
-pub(crate) struct Recent<'l> {
+pub(crate) struct Recent<'l, K: Known> {
     trust: &'l Trust,
+    // Four by name, since an array holds only what can be copied.
     first: Option<Kept<'l>>,
     second: Option<Kept<'l>>,
     third: Option<Kept<'l>>,
     fourth: Option<Kept<'l>>,
     // How many of the four were filled since the fourth was.
     filled: u8,
+    of: PhantomData<K>,
 }
 
-impl<'l> Model for Recent<'l> {
+impl<'l, K: Known> Model for Recent<'l, K> {
     ghost use Rattle.std.specs.Prelude.{List, IfSome};
     ghost use Rattle.trust_lists.specs.Entries.{EntryValue};
     ghost use Rattle.check_verdict.specs.KeptCertificates.{IsKept};
@@ -59,13 +67,13 @@ impl<'l> Model for Recent<'l> {
 
     ghost view = { λ r. r.trust.now };
 
-    ghost invariant = { λ r. IfSome r.first (IsKept r.trust.now) × IfSome r.second (IsKept r.trust.now)
-        × IfSome r.third (IsKept r.trust.now) × IfSome r.fourth (IsKept r.trust.now) };
+    ghost invariant = { λ r. IfSome r.first (IsKept K.known r.trust.now) × IfSome r.second (IsKept K.known r.trust.now)
+        × IfSome r.third (IsKept K.known r.trust.now) × IfSome r.fourth (IsKept K.known r.trust.now) };
 }
 
-impl<'l> Recent<'l> {
+impl<'l, K: Known> Recent<'l, K> {
     /// With none.
-    pub fn of(trust: &'l Trust) -> Recent<'l>
+    pub fn of(trust: &'l Trust) -> Recent<'l, K>
         ensures { result ≡ trust.now }
     {
         Recent {
@@ -75,31 +83,47 @@ impl<'l> Recent<'l> {
             third: None,
             fourth: None,
             filled: 0,
+            of: PhantomData,
+        }
+    }
+
+    // The certificate in a slot, if it is that of the entry of this number.
+    fn in_slot<'s>(slot: &'s Option<Kept<'l>>, number: usize) -> Option<&'s Certificate<'l>>
+        ensures { (entries : List EntryValue) → IfSome slot.now (IsKept K.known entries)
+            → IfSome result (λ c. IsOfEntry entries number c.now × K.known c.now) }
+    {
+        match slot {
+            Some(kept) if kept.number == number => Some(&kept.certificate),
+            _ => None,
         }
     }
 
     /// The certificate of the entry of this number, if it is kept.
-    pub fn find(&self, number: usize) -> Option<&ReadCertificate<'l>>
-        ensures { IfSome result (λ read. IsOfEntry self.now number read.now) }
+    pub fn find(&self, number: usize) -> Option<&Certificate<'l>>
+        ensures { IfSome result (λ c. IsOfEntry self.now number c.now × K.known c.now) }
     {
-        if let Some(read) = in_slot(&self.first, number) {
-            return Some(read);
+        if let Some(certificate) = Self::in_slot(&self.first, number) {
+            return Some(certificate);
         }
-        if let Some(read) = in_slot(&self.second, number) {
-            return Some(read);
+        if let Some(certificate) = Self::in_slot(&self.second, number) {
+            return Some(certificate);
         }
-        if let Some(read) = in_slot(&self.third, number) {
-            return Some(read);
+        if let Some(certificate) = Self::in_slot(&self.third, number) {
+            return Some(certificate);
         }
-        in_slot(&self.fourth, number)
+        Self::in_slot(&self.fourth, number)
     }
 
     /// Keeps the certificate of the entry of this number, in the place of the one that was kept first.
-    pub fn keep(&mut self, number: usize, read: ReadCertificate<'l>)
-        requires { IsOfEntry self.old number read }
+    pub fn keep(&mut self, number: usize, certificate: Certificate<'l>)
+        requires entry { IsOfEntry self.old number certificate }
+        requires known { K.known certificate }
         ensures { self.new ≡ self.old }
     {
-        let kept = Some(Kept { number, read });
+        let kept = Some(Kept {
+            number,
+            certificate,
+        });
         let filled = self.filled % 4;
         match filled {
             0 => self.first = kept,
@@ -108,27 +132,5 @@ impl<'l> Recent<'l> {
             _ => self.fourth = kept,
         }
         self.filled = filled + 1;
-    }
-}
-
-/// What is kept of signers and of authorities, apart from each other: where each signer has another certificate, those
-/// of the authorities stay.
-#[derive(Debug, Drop)]
-pub(crate) struct Certificates<'l> {
-    /// Of entries of signers.
-    pub signers: Recent<'l>,
-    /// Of entries of authorities.
-    pub authorities: Recent<'l>,
-}
-
-impl<'l> Certificates<'l> {
-    /// With none.
-    pub fn of(trust: &'l Trust) -> Certificates<'l>
-        ensures { AreOf trust.now result }
-    {
-        Certificates {
-            signers: Recent::of(trust),
-            authorities: Recent::of(trust),
-        }
     }
 }

@@ -14,12 +14,11 @@ ghost use Rattle.check_verdict.specs.Verdicts.{JudgesSigners};
 ghost use Rattle.check_verdict.specs.Questions.{IsQuestion, Answers, with_answers};
 ghost use Rattle.check_verdict.specs.Checking.{Checks, ChecksAsking, IsUnread, VerdictOrDevice, CountsAsks};
 ghost use Rattle.check_verdict.specs.SignerVerdicts.{numbered, IsLater, IsOfSigners};
+ghost use Rattle.check_verdict.specs.Checkers.{terms_for};
 ghost use Rattle.check_verdict.specs.TokenVerdicts.{terms_of};
 
 use crate::accepted::Accepted;
-use crate::certificates::Certificates;
 use crate::checker::Checker;
-use crate::hashed::Hashed;
 use crate::signer::{SignerRefused, judge_signer};
 use check_fit::{DeviceFault, FileRule, Policy, Refused, open_file};
 use cms_types::Signers;
@@ -53,32 +52,33 @@ fn later(latest: Option<Moment>, moment: Moment) -> Moment
     }
 }
 
-/// As `judge_signers`, under the trust list of `hashed`, with the digests that it keeps, so that a certificate that
-/// several signers or tokens name is hashed once. They may be kept from file to file.
+/// The latest of the moments of these signers of a content of this type, if each of them is good as `check` defines it.
+/// The digests are those of the content, by each algorithm that one of the signers names and the policy allows.
 ///
-/// Errors: as `judge_signers`.
-pub fn judge_signers_with<V: Verifier>(
+/// Errors: C3 if there is no signer; X2 if the verifier fails; otherwise the first signer, numbered from 1, that isn't
+/// good, with the first of S1 to S10 that it fails, or, if it fails none of these, its token 1 with the first of K1 to
+/// K14 that this token fails. S5 also if the digest that a signer needs is missing.
+pub fn judge_signers<V: Verifier>(
     digests: &WantedDigests,
     econtent_type: &[u8],
     signers: &Signers,
-    policy: &Policy,
+    checker: &mut Checker,
     verifier: &mut V,
-    hashed: &mut Hashed,
 ) -> Result<Moment, Refused>
     // C3 if there is no signer.
     ensures none { signers.now ≡ [] → result ≡ Err (Refused.File FileRule.NoSigner) }
     // The moment, or the refusal, of the definition; or X2.
-    ensures judged { 0 < length signers.now → (t : Terms) → t ≡ terms_of policy.now hashed.old (V.vouches verifier.old)
-        → (content : List ℕ) → HasDigests policy.now content signers.now digests.now
+    ensures judged { 0 < length signers.now → (t : Terms) → t ≡ terms_for checker.old (V.vouches verifier.old)
+        → (content : List ℕ) → HasDigests checker.old.policy content signers.now digests.now
         → JudgesSigners t content econtent_type.now signers.now result }
     // Of all digests: no, if one that a signer needs is missing.
-    ensures lacking { (alg : Alg) → WantedBy policy.now signers.now alg
+    ensures lacking { (alg : Alg) → WantedBy checker.old.policy signers.now alg
         → is_in alg (set_given digests.now) ≡ false → IsErr result }
     // And with a signer the verdict is a moment, a rule that one of the signers or its token 1 fails, or X2.
     ensures kind { 0 < length signers.now → IsOfSigners (length signers.now) result }
     // The verifier is asked only about signers that fit the content, and under entries that passed the earlier filters.
-    ensures only { (t : Terms) → t ≡ terms_of policy.now hashed.old (V.vouches verifier.old) → (content : List ℕ)
-        → HasDigests policy.now content signers.now digests.now
+    ensures only { (t : Terms) → t ≡ terms_for checker.old (V.vouches verifier.old) → (content : List ℕ)
+        → HasDigests checker.old.policy content signers.now digests.now
         → (test : Asked → Bool)
         → ((s : SignerValue) → Contains signers.now s → (q : Asked) → IsAskedOf t content econtent_type.now s q
         → test q ≡ true) → V.asked_only test verifier.old verifier.new }
@@ -86,27 +86,16 @@ pub fn judge_signers_with<V: Verifier>(
     ensures same { V.vouches verifier.new ≡ V.vouches verifier.old }
     // The verifier failed exactly if the verdict says so.
     ensures count { CountsAsks result (V.failures verifier.old) (V.failures verifier.new) }
-    // The trust list stays the same.
-    ensures listed { hashed.new ≡ hashed.old }
+    // What the check goes by stays the same.
+    ensures stays { checker.new ≡ checker.old }
 {
-    let trust = hashed.trust();
-    let checker = Checker { trust, policy };
-    let mut certificates = Certificates::of(trust);
     let mut latest: Option<Moment> = None;
     let mut left = signers.again();
     let count = left.len();
     let mut number = 0;
     while let Some((signer, others)) = left.next() {
         number += 1;
-        match judge_signer(
-            digests,
-            econtent_type,
-            &signer,
-            &checker,
-            verifier,
-            hashed,
-            &mut certificates,
-        ) {
+        match judge_signer(digests, econtent_type, &signer, checker, verifier) {
             Ok(moment) => latest = Some(later(latest, moment)),
             Err(refused) => return Err(numbered(number, refused)),
         }
@@ -118,75 +107,28 @@ pub fn judge_signers_with<V: Verifier>(
     }
 }
 
-/// The latest of the moments of these signers of a content of this type, if each of them is good as `check` defines it.
-/// The digests are those of the content, by each algorithm that one of the signers names and the policy allows.
-///
-/// Errors: C3 if there is no signer; X2 if the verifier fails; otherwise the first signer, numbered from 1, that isn't
-/// good, with the first of S1 to S10 that it fails, or, if it fails none of these, its token 1 with the first of K1 to
-/// K14 that this token fails. S5 also if the digest that a signer needs is missing.
-pub fn judge_signers<V: Verifier>(
-    digests: &WantedDigests,
-    econtent_type: &[u8],
-    signers: &Signers,
-    trust: &Trust,
-    policy: &Policy,
-    verifier: &mut V,
-) -> Result<Moment, Refused>
-    // C3 if there is no signer.
-    ensures none { signers.now ≡ [] → result ≡ Err (Refused.File FileRule.NoSigner) }
-    // The moment, or the refusal, of the definition; or X2.
-    ensures judged { 0 < length signers.now → (t : Terms) → t ≡ terms_of policy.now trust.now (V.vouches verifier.old)
-        → (content : List ℕ) → HasDigests policy.now content signers.now digests.now
-        → JudgesSigners t content econtent_type.now signers.now result }
-    // Of all digests: no, if one that a signer needs is missing.
-    ensures lacking { (alg : Alg) → WantedBy policy.now signers.now alg
-        → is_in alg (set_given digests.now) ≡ false → IsErr result }
-    // And with a signer the verdict is a moment, a rule that one of the signers or its token 1 fails, or X2.
-    ensures kind { 0 < length signers.now → IsOfSigners (length signers.now) result }
-    // The verifier is asked only about signers that fit the content, and under entries that passed the earlier filters.
-    ensures only { (t : Terms) → t ≡ terms_of policy.now trust.now (V.vouches verifier.old) → (content : List ℕ)
-        → HasDigests policy.now content signers.now digests.now
-        → (test : Asked → Bool)
-        → ((s : SignerValue) → Contains signers.now s → (q : Asked) → IsAskedOf t content econtent_type.now s q
-        → test q ≡ true) → V.asked_only test verifier.old verifier.new }
-    // What the verifier vouches for stays the same.
-    ensures same { V.vouches verifier.new ≡ V.vouches verifier.old }
-    // The verifier failed exactly if the verdict says so.
-    ensures count { CountsAsks result (V.failures verifier.old) (V.failures verifier.new) }
-{
-    judge_signers_with(
-        digests,
-        econtent_type,
-        signers,
-        policy,
-        verifier,
-        &mut Hashed::of(trust),
-    )
-}
-
 // The verdict of `check`, by what the file's octets are read as.
 fn judge_file<S: Source, V: Verifier>(
     file: &[u8],
     content: &mut Option<S>,
-    trust: &Trust,
-    policy: &Policy,
+    checker: &mut Checker,
     verifier: &mut V,
 ) -> Result<Accepted, Refused>
-    ensures asked { let terms = terms_of policy.now trust.now (V.vouches verifier.old) in
+    ensures asked { let terms = terms_for checker.old (V.vouches verifier.old) in
         ChecksAsking (facts_of S.tells S.rest S.failures) terms (λ test. V.asked_only test verifier.old verifier.new)
         file.now content.old content.new result }
     ensures unasked { IsUnread result → (test : Asked → Bool) → V.asked_only test verifier.old verifier.new }
-    ensures only { AsksOnly (λ test. V.asked_only test verifier.old verifier.new) (IsQuestion trust.now file.now) }
+    ensures only { AsksOnly (λ test. V.asked_only test verifier.old verifier.new)
+        (IsQuestion checker.old.trust file.now) }
     ensures same { V.vouches verifier.new ≡ V.vouches verifier.old }
     ensures count { CountsAsks result (V.failures verifier.old) (V.failures verifier.new) }
 {
-    let (signed, digests) = open_file(file, content, policy)?;
+    let (signed, digests) = open_file(file, content, &checker.policy())?;
     let moment = judge_signers(
         &digests,
         signed.content_type().bytes(),
         signed.signers(),
-        trust,
-        policy,
+        checker,
         verifier,
     )?;
     Ok(Accepted { moment })
@@ -241,5 +183,6 @@ pub fn check<S: Source, V: Verifier>(
     // The verifier failed exactly if the verdict says so.
     ensures count { CountsAsks result (V.failures verifier.old) (V.failures verifier.new) }
 {
-    judge_file(file, content, trust, policy, verifier)
+    let mut checker = Checker::of(trust, *policy);
+    judge_file(file, content, &mut checker, verifier)
 }

@@ -24,7 +24,7 @@ struct KeptDigest {
 ///
 /// Contracts see the entries of the list, in its order.
 #[derive(Debug, Drop)]
-pub struct Hashed<'l> {
+pub(crate) struct Hashed<'l> {
     trust: &'l Trust,
     slots: [Option<KeptDigest>; SLOTS],
     // The slot that is taken next, or as many as there are for the first.
@@ -47,7 +47,6 @@ impl<'l> Model for Hashed<'l> {
 impl<'l> Hashed<'l> {
     /// The list, with no digest.
     pub fn of(trust: &'l Trust) -> Hashed<'l>
-        // The entries are those of the list.
         ensures { result ≡ trust.now }
     {
         Hashed {
@@ -58,7 +57,7 @@ impl<'l> Hashed<'l> {
     }
 
     /// The list.
-    pub(crate) fn trust(&self) -> &'l Trust
+    pub fn trust(&self) -> &'l Trust
         ensures { result.now ≡ self.now }
     {
         self.trust

@@ -5,7 +5,6 @@
 
 mod accepted;
 mod asking;
-mod authorities;
 mod candidates;
 mod certificates;
 mod checker;
@@ -19,12 +18,13 @@ mod signer;
 mod signer_stages;
 mod tally;
 mod token;
+mod token_stages;
 
 pub use accepted::Accepted;
 pub use asking::{holds, question_of};
 pub use candidates::next_candidate;
-pub use file::{check, judge_signers, judge_signers_with};
-pub use hashed::Hashed;
+pub use checker::Checker;
+pub use file::{check, judge_signers};
 pub use laws::{
     files_are_judged, questions_suffice, rows_hold, rule_rows_hold, signers_are_judged,
     tokens_are_judged,

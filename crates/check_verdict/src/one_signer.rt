@@ -10,10 +10,8 @@ ghost use Rattle.check_verdict.specs.TokenVerdicts.{terms_of};
 ghost use Rattle.check_fit.specs.FileFitting.{facts_of};
 
 use crate::accepted::Accepted;
-use crate::certificates::Certificates;
 use crate::checker::Checker;
 use crate::file::numbered;
-use crate::hashed::Hashed;
 use crate::signer::judge_signer;
 use check_fit::{FileRule, Policy, Refused, hash_content, read_file, wanted_of};
 use devices::Source;
@@ -23,16 +21,16 @@ use trust_lists::{Trust, Verifier};
 fn judge_alone<S: Source, V: Verifier>(
     file: &[u8],
     content: &mut Option<S>,
-    checker: &Checker,
+    checker: &mut Checker,
     verifier: &mut V,
     number: u64,
 ) -> Result<Accepted, Refused>
-    ensures asked { let terms = terms_for checker.now (V.vouches verifier.old) in
+    ensures asked { let terms = terms_for checker.old (V.vouches verifier.old) in
         ChecksSignerAsking (facts_of S.tells S.rest S.failures) terms
         (λ test. V.asked_only test verifier.old verifier.new) number file.now content.old content.new result }
     ensures unasked { IsUnread result → (test : Asked → Bool) → V.asked_only test verifier.old verifier.new }
     ensures only { AsksOnly (λ test. V.asked_only test verifier.old verifier.new)
-        (IsQuestion checker.now.trust.now file.now) }
+        (IsQuestion checker.old.trust file.now) }
     ensures same { V.vouches verifier.new ≡ V.vouches verifier.old }
     ensures count { CountsAsks result (V.failures verifier.old) (V.failures verifier.new) }
 {
@@ -40,15 +38,13 @@ fn judge_alone<S: Source, V: Verifier>(
     let Some(signer) = signed.signers().get(number) else {
         return Err(Refused::File(FileRule::NoSuchSigner));
     };
-    let digests = hash_content(&signed, content, wanted_of(*checker.policy, &signer))?;
+    let digests = hash_content(&signed, content, wanted_of(checker.policy(), &signer))?;
     match judge_signer(
         &digests,
         signed.content_type().bytes(),
         &signer,
         checker,
         verifier,
-        &mut Hashed::of(checker.trust),
-        &mut Certificates::of(checker.trust),
     ) {
         Ok(moment) => Ok(Accepted { moment }),
         Err(refused) => Err(numbered(number as usize, refused)),
@@ -102,6 +98,6 @@ pub fn check_signer<S: Source, V: Verifier>(
     // The verifier failed exactly if the verdict says so.
     ensures count { CountsAsks result (V.failures verifier.old) (V.failures verifier.new) }
 {
-    let checker = Checker { trust, policy };
-    judge_alone(file, content, &checker, verifier, number)
+    let mut checker = Checker::of(trust, *policy);
+    judge_alone(file, content, &mut checker, verifier, number)
 }

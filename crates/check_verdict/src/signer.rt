@@ -1,5 +1,5 @@
 //! Whether a signer is good: S1 to S10, and the tokens.
-ghost use Rattle.std.specs.Prelude.{◌≡◌, ℕ, List, true, false, Err, IfOk, IsErr};
+ghost use Rattle.std.specs.Prelude.{◌≡◌, ℕ, List, true, false, Err, IsErr};
 ghost use Rattle.digests.specs.declared.algorithm.Alg.{Alg};
 ghost use Rattle.digests.specs.Sets.{is_in};
 ghost use Rattle.digests.specs.Selection.{AreOfWanted, set_given};
@@ -10,18 +10,15 @@ ghost use Rattle.check_verdict.specs.Verdicts.{IsStamped, tokens};
 ghost use Rattle.check_verdict.specs.SignerStages.{FailedBy};
 ghost use Rattle.check_verdict.specs.SignerVerdicts.{JudgesSigner, CountsSigner};
 ghost use Rattle.check_verdict.specs.Checkers.{terms_for};
-ghost use Rattle.check_verdict.specs.Recent.{AreOf};
 
-use crate::certificates::{Certificates, Recent};
 use crate::checker::Checker;
-use crate::hashed::Hashed;
 use crate::signer_stages::signer_stages;
 use crate::tally::tally_of;
 use check_fit::{SignerRule, TokenRule, fits_by_digests};
 use cms_types::Signer;
 use der_time::Moment;
 use digests::WantedDigests;
-use trust_lists::{Trust, Verifier};
+use trust_lists::Verifier;
 
 /// Why a signer isn't good.
 #[derive(Debug, Drop)]
@@ -35,29 +32,25 @@ pub(crate) enum SignerRefused {
 }
 
 // Why a signer that fits the content isn't good, if none of its tokens passes.
-fn unstamped<'l, V: Verifier>(
+fn unstamped<V: Verifier>(
     first_failed: Option<TokenRule>,
     signer: &Signer,
-    trust: &'l Trust,
+    checker: &mut Checker,
     verifier: &mut V,
-    hashed: &mut Hashed,
-    recent: &mut Recent<'l>,
 ) -> SignerRefused
-    requires kept { recent.old ≡ trust.now }
-    requires listed { hashed.old ≡ trust.now }
-    ensures judged { (t : Terms) → t.trust ≡ trust.now → t.vouches ≡ V.vouches verifier.old
+    ensures judged { (t : Terms) → t.trust ≡ checker.old.trust → t.vouches ≡ V.vouches verifier.old
         → (content econtent_type : List ℕ) → Fits t.policy content econtent_type signer.now
         → FailedBy t signer.now (tokens signer.now) first_failed
         → JudgesSigner t content econtent_type signer.now (Err result) }
-    ensures only { (t : Terms) → t.trust ≡ trust.now → ((m : ℕ) → IsStamped t signer.now m → ⊥)
+    ensures only { (t : Terms) → t.trust ≡ checker.old.trust → ((m : ℕ) → IsStamped t signer.now m → ⊥)
         → (content econtent_type : List ℕ) → Fits t.policy content econtent_type signer.now
         → AsksOnly (λ test. V.asked_only test verifier.old verifier.new)
         (IsAskedOf t content econtent_type signer.now) }
     ensures same { V.vouches verifier.new ≡ V.vouches verifier.old }
     ensures count { CountsSigner (Err result) (V.failures verifier.old) (V.failures verifier.new) }
-    ensures listed { hashed.new ≡ trust.now }
+    ensures stays { checker.new ≡ checker.old }
 {
-    let Ok(best) = signer_stages(signer, &None, trust, verifier, hashed, recent) else {
+    let Ok(best) = signer_stages(signer, &None, checker, verifier) else {
         return SignerRefused::Ask;
     };
     if let Some(failed) = best {
@@ -70,48 +63,36 @@ fn unstamped<'l, V: Verifier>(
 }
 
 /// The moment of a signer of a content of this type, with these digests, or why the signer isn't good.
-pub(crate) fn judge_signer<'l, V: Verifier>(
+pub(crate) fn judge_signer<V: Verifier>(
     digests: &WantedDigests,
     econtent_type: &[u8],
     signer: &Signer,
-    checker: &Checker<'l, '_>,
+    checker: &mut Checker,
     verifier: &mut V,
-    hashed: &mut Hashed,
-    certificates: &mut Certificates<'l>,
 ) -> Result<Moment, SignerRefused>
-    requires kept { AreOf checker.now.trust.now certificates.old }
-    requires listed { hashed.old ≡ checker.now.trust.now }
-    ensures judged { (t : Terms) → t ≡ terms_for checker.now (V.vouches verifier.old) → (content : List ℕ)
+    ensures judged { (t : Terms) → t ≡ terms_for checker.old (V.vouches verifier.old) → (content : List ℕ)
         → AreOfWanted digests.now content
-        → ((alg : Alg) → Wants checker.now.policy.now signer.now alg → is_in alg (set_given digests.now) ≡ true)
+        → ((alg : Alg) → Wants checker.old.policy signer.now alg → is_in alg (set_given digests.now) ≡ true)
         → JudgesSigner t content econtent_type.now signer.now result }
-    ensures only { (t : Terms) → t ≡ terms_for checker.now (V.vouches verifier.old) → (content : List ℕ)
+    ensures only { (t : Terms) → t ≡ terms_for checker.old (V.vouches verifier.old) → (content : List ℕ)
         → AreOfWanted digests.now content
-        → ((alg : Alg) → Wants checker.now.policy.now signer.now alg → is_in alg (set_given digests.now) ≡ true)
+        → ((alg : Alg) → Wants checker.old.policy signer.now alg → is_in alg (set_given digests.now) ≡ true)
         → AsksOnly (λ test. V.asked_only test verifier.old verifier.new)
         (IsAskedOf t content econtent_type.now signer.now) }
-    ensures lacking { (alg : Alg) → Wants checker.now.policy.now signer.now alg
+    ensures lacking { (alg : Alg) → Wants checker.old.policy signer.now alg
         → is_in alg (set_given digests.now) ≡ false → IsErr result }
     ensures same { V.vouches verifier.new ≡ V.vouches verifier.old }
     ensures count { CountsSigner result (V.failures verifier.old) (V.failures verifier.new) }
-    ensures kept { IfOk result (λ _. AreOf checker.now.trust.now certificates.new) }
-    ensures listed { hashed.new ≡ checker.now.trust.now }
+    ensures stays { checker.new ≡ checker.old }
 {
-    if let Err(rule) = fits_by_digests(*checker.policy, digests, econtent_type, signer) {
+    if let Err(rule) = fits_by_digests(checker.policy(), digests, econtent_type, signer) {
         return Err(SignerRefused::Rule(rule));
     }
-    let Ok(tally) = tally_of(signer, checker, verifier, hashed, certificates) else {
+    let Ok(tally) = tally_of(signer, checker, verifier) else {
         return Err(SignerRefused::Ask);
     };
     if !tally.is_stamped {
-        return Err(unstamped(
-            tally.first_failed,
-            signer,
-            checker.trust,
-            verifier,
-            hashed,
-            &mut certificates.signers,
-        ));
+        return Err(unstamped(tally.first_failed, signer, checker, verifier));
     }
     match tally.signed {
         Ok(moment) => Ok(moment),

@@ -14,14 +14,14 @@ ghost use Rattle.check_verdict.specs.SignerStages.{LeftAt, IsSignersAt};
 
 use crate::asking::{holds_under, question_of};
 use crate::candidates::next_candidate;
-use crate::certificates::{ReadCertificate, Recent};
+use crate::checker::Checker;
 use crate::filter::{SignerFilter, further_for_signer};
 use crate::hashed::Hashed;
 use cert_types::Certificate;
 use check_names::{matches, names_if_any};
 use cms_types::Signer;
 use der_time::Moment;
-use trust_lists::{AskFault, Entry, Role, Trust, Verifier};
+use trust_lists::{AskFault, Entry, Role, Verifier};
 
 // Whether the entry with this certificate holds at the moment, if one is given.
 fn holds_at(entry: &Entry, certificate: &Certificate, moment: &Option<Moment>) -> bool
@@ -45,11 +45,14 @@ fn failed_unasked(
 ) -> SignerFilter
     requires number { slice_get hashed.old number ≡ Some entry.now }
     requires certificate { certificate.now ≡ entry.now.certificate }
-    ensures stage { (t : Terms) → entry.now.role ≡ Role.Signer → certificate.now ≡ entry.now.certificate
-        → (attributes : List AttributeValue) → signer.now.signed_attributes ≡ Some attributes
+    ensures stage { (t : Terms) → certificate.now ≡ entry.now.certificate → (attributes : List AttributeValue)
+        → signer.now.signed_attributes ≡ Some attributes
         → Comes (LeftAt t signer.now attributes moment.now) 2 entry.now (before_signer result) }
     ensures listed { hashed.new ≡ hashed.old }
 {
+    if entry.role() != Role::Signer {
+        return SignerFilter::UnknownSigner;
+    }
     if !matches(signer.sid(), certificate) || !holds_at(entry, certificate, moment) {
         return SignerFilter::UnknownSigner;
     }
@@ -71,7 +74,6 @@ fn stage_under<V: Verifier>(
     hashed: &mut Hashed,
 ) -> Result<Option<SignerFilter>, AskFault>
     requires number { slice_get hashed.old number ≡ Some entry.now }
-    requires role { entry.now.role ≡ Role.Signer }
     requires certificate { certificate.now ≡ entry.now.certificate }
     ensures stage { (t : Terms) → t.vouches ≡ V.vouches verifier.old → (attributes : List AttributeValue)
         → signer.now.signed_attributes ≡ Some attributes
@@ -107,12 +109,10 @@ fn signer_stage<'l, V: Verifier>(
     moment: &Option<Moment>,
     entry: &'l Entry,
     number: usize,
+    checker: &mut Checker<'l>,
     verifier: &mut V,
-    hashed: &mut Hashed,
-    recent: &mut Recent<'l>,
 ) -> Result<Option<SignerFilter>, AskFault>
-    requires number { slice_get recent.old number ≡ Some entry.now }
-    requires listed { slice_get hashed.old number ≡ Some entry.now }
+    requires number { slice_get checker.old.trust number ≡ Some entry.now }
     ensures stage { (t : Terms) → t.vouches ≡ V.vouches verifier.old → (attributes : List AttributeValue)
         → signer.now.signed_attributes ≡ Some attributes
         → IfOk result (λ failed. Comes (LeftAt t signer.now attributes moment.now) 3 entry.now
@@ -124,21 +124,17 @@ fn signer_stage<'l, V: Verifier>(
         → V.asked_only test verifier.old verifier.new }
     ensures same { V.vouches verifier.new ≡ V.vouches verifier.old }
     ensures count { Counts result (V.failures verifier.old) (V.failures verifier.new) }
-    ensures kept { recent.new ≡ recent.old }
-    ensures listed { hashed.new ≡ hashed.old }
+    ensures stays { checker.new ≡ checker.old }
 {
-    if entry.role() != Role::Signer {
-        return Ok(Some(SignerFilter::UnknownSigner));
-    }
-    if let Some(read) = recent.find(number) {
+    if let Some(certificate) = checker.signers.find(number) {
         return stage_under(
             signer,
             moment,
             entry,
             number,
-            &read.certificate,
+            certificate,
             verifier,
-            hashed,
+            &mut checker.hashed,
         );
     }
     let certificate = entry.certificate();
@@ -149,49 +145,41 @@ fn signer_stage<'l, V: Verifier>(
         number,
         &certificate,
         verifier,
-        hashed,
+        &mut checker.hashed,
     )?;
     if failed != Some(SignerFilter::UnknownSigner) {
-        let read = ReadCertificate {
-            certificate,
-            for_stamping: false,
-        };
-        recent.keep(number, read);
+        checker.signers.keep(number, certificate);
     }
     Ok(failed)
 }
 
 /// Where the entry stops that comes furthest, at a moment if one is given; `None` if it passes S7 to S9. Those that
 /// stop at S7 by their role or their marks are passed over.
-pub(crate) fn signer_stages<'l, V: Verifier>(
+pub(crate) fn signer_stages<V: Verifier>(
     signer: &Signer,
     moment: &Option<Moment>,
-    trust: &'l Trust,
+    checker: &mut Checker,
     verifier: &mut V,
-    hashed: &mut Hashed,
-    recent: &mut Recent<'l>,
 ) -> Result<Option<SignerFilter>, AskFault>
-    requires kept { recent.old ≡ trust.now }
-    requires listed { hashed.old ≡ trust.now }
     ensures stage { (t : Terms) → t.vouches ≡ V.vouches verifier.old → (attributes : List AttributeValue)
         → signer.now.signed_attributes ≡ Some attributes
-        → IfOk result (λ failed. Best (LeftAt t signer.now attributes moment.now) 3 trust.now
+        → IfOk result (λ failed. Best (LeftAt t signer.now attributes moment.now) 3 checker.old.trust
         (passed_for_signer failed)) }
     ensures only { (test : Asked → Bool) → (attributes : List AttributeValue)
         → signer.now.signed_attributes ≡ Some attributes
-        → ((e : EntryValue) → Contains trust.now e → IsSignersAt signer.now moment.now e
+        → ((e : EntryValue) → Contains checker.old.trust e → IsSignersAt signer.now moment.now e
         → NamesIfAny attributes e.certificate → test (asked e.certificate signer.now attributes) ≡ true)
         → V.asked_only test verifier.old verifier.new }
     ensures same { V.vouches verifier.new ≡ V.vouches verifier.old }
     ensures count { Counts result (V.failures verifier.old) (V.failures verifier.new) }
-    ensures kept { recent.new ≡ recent.old }
-    ensures listed { hashed.new ≡ hashed.old }
+    ensures stays { checker.new ≡ checker.old }
 {
+    let trust = checker.trust();
     let mut best = Some(SignerFilter::UnknownSigner);
     let mut from = 0;
     while let Some(at) = next_candidate(trust, Role::Signer, signer.sid(), from) {
         let entry = &trust.entries()[at];
-        let failed = signer_stage(signer, moment, entry, at, verifier, hashed, recent)?;
+        let failed = signer_stage(signer, moment, entry, at, checker, verifier)?;
         best = further_for_signer(best, failed);
         from = at + 1;
     }

@@ -11,12 +11,9 @@ ghost use Rattle.check_verdict.specs.Asks.{IsAskedOf, AsksOnly};
 ghost use Rattle.check_verdict.specs.SignerStages.{Tallied, IsEarlier};
 ghost use Rattle.check_verdict.specs.Stages.{passed_for_signer};
 ghost use Rattle.check_verdict.specs.Checkers.{terms_for};
-ghost use Rattle.check_verdict.specs.Recent.{AreOf};
 
-use crate::certificates::Certificates;
 use crate::checker::Checker;
 use crate::filter::SignerFilter;
-use crate::hashed::Hashed;
 use crate::signer_stages::signer_stages;
 use crate::token::judge_token;
 use check_fit::{TokenRefused, TokenRule};
@@ -84,50 +81,30 @@ fn failed(tally: Tally, rule: TokenRule) -> Tally
 }
 
 // What is known after one more token.
-fn with_token<'l, V: Verifier>(
+fn with_token<V: Verifier>(
     tally: Tally,
     token: &[u8],
     signer: &Signer,
-    checker: &Checker<'l, '_>,
+    checker: &mut Checker,
     verifier: &mut V,
-    hashed: &mut Hashed,
-    certificates: &mut Certificates<'l>,
 ) -> Result<Tally, AskFault>
-    requires kept { AreOf checker.now.trust.now certificates.old }
-    requires listed { hashed.old ≡ checker.now.trust.now }
-    ensures tallied { (t : Terms) → t ≡ terms_for checker.now (V.vouches verifier.old)
+    ensures tallied { (t : Terms) → t ≡ terms_for checker.old (V.vouches verifier.old)
         → (attributes : List AttributeValue) → signer.now.signed_attributes ≡ Some attributes
         → (before : List (List ℕ)) → Tallied t signer.now attributes before tally
         → IfOk result (Tallied t signer.now attributes (before ++ token.now ∷ [])) }
-    ensures only { (t : Terms) → t ≡ terms_for checker.now (V.vouches verifier.old)
+    ensures only { (t : Terms) → t ≡ terms_for checker.old (V.vouches verifier.old)
         → (content econtent_type : List ℕ) → Fits t.policy content econtent_type signer.now
         → Contains (tokens signer.now) token.now
         → AsksOnly (λ test. V.asked_only test verifier.old verifier.new)
         (IsAskedOf t content econtent_type signer.now) }
     ensures same { V.vouches verifier.new ≡ V.vouches verifier.old }
     ensures count { Counts result (V.failures verifier.old) (V.failures verifier.new) }
-    ensures kept { AreOf checker.now.trust.now certificates.new }
-    ensures listed { hashed.new ≡ checker.now.trust.now }
+    ensures stays { checker.new ≡ checker.old }
 {
-    match judge_token(
-        token,
-        signer.signature(),
-        checker.trust,
-        checker.policy,
-        verifier,
-        hashed,
-        &mut certificates.authorities,
-    ) {
+    match judge_token(token, signer.signature(), checker, verifier) {
         Ok(accepted) => {
             let moment = accepted.moment;
-            let best = signer_stages(
-                signer,
-                &Some(moment),
-                checker.trust,
-                verifier,
-                hashed,
-                &mut certificates.signers,
-            )?;
+            let best = signer_stages(signer, &Some(moment), checker, verifier)?;
             Ok(passed(tally, moment, best))
         }
         Err(TokenRefused::Rule(rule)) => Ok(failed(tally, rule)),
@@ -136,26 +113,21 @@ fn with_token<'l, V: Verifier>(
 }
 
 /// What is known of a signer by all of its tokens.
-pub(crate) fn tally_of<'l, V: Verifier>(
+pub(crate) fn tally_of<V: Verifier>(
     signer: &Signer,
-    checker: &Checker<'l, '_>,
+    checker: &mut Checker,
     verifier: &mut V,
-    hashed: &mut Hashed,
-    certificates: &mut Certificates<'l>,
 ) -> Result<Tally, AskFault>
-    requires kept { AreOf checker.now.trust.now certificates.old }
-    requires listed { hashed.old ≡ checker.now.trust.now }
-    ensures tallied { (t : Terms) → t ≡ terms_for checker.now (V.vouches verifier.old)
+    ensures tallied { (t : Terms) → t ≡ terms_for checker.old (V.vouches verifier.old)
         → (attributes : List AttributeValue) → signer.now.signed_attributes ≡ Some attributes
         → IfOk result (Tallied t signer.now attributes (tokens signer.now)) }
-    ensures only { (t : Terms) → t ≡ terms_for checker.now (V.vouches verifier.old)
+    ensures only { (t : Terms) → t ≡ terms_for checker.old (V.vouches verifier.old)
         → (content econtent_type : List ℕ) → Fits t.policy content econtent_type signer.now
         → AsksOnly (λ test. V.asked_only test verifier.old verifier.new)
         (IsAskedOf t content econtent_type signer.now) }
     ensures same { V.vouches verifier.new ≡ V.vouches verifier.old }
     ensures count { Counts result (V.failures verifier.old) (V.failures verifier.new) }
-    ensures kept { AreOf checker.now.trust.now certificates.new }
-    ensures listed { hashed.new ≡ checker.now.trust.now }
+    ensures stays { checker.new ≡ checker.old }
 {
     let mut tally = Tally {
         is_stamped: false,
@@ -164,15 +136,7 @@ pub(crate) fn tally_of<'l, V: Verifier>(
     };
     let mut left = signer.tokens();
     while let Some((token, others)) = left.next() {
-        tally = with_token(
-            tally,
-            token.whole(),
-            signer,
-            checker,
-            verifier,
-            hashed,
-            certificates,
-        )?;
+        tally = with_token(tally, token.whole(), signer, checker, verifier)?;
         left = others;
     }
     Ok(tally)

@@ -2,44 +2,38 @@ ghost use Rattle.std.specs.Prelude.{◌≡◌, ℕ, Bool, true};
 ghost use Rattle.trust_lists.specs.Asking.{Asked};
 ghost use Rattle.check_verdict.specs.Passing.{Passes};
 ghost use Rattle.check_verdict.specs.Asks.{IsAskedOfToken};
+ghost use Rattle.check_verdict.specs.Checkers.{terms_for};
 ghost use Rattle.check_verdict.specs.TokenVerdicts.{terms_of, IsTokenVerdict, PassesOrDevice, CountsAsks};
 
 use crate::accepted::Accepted;
-use crate::authorities::token_stages;
-use crate::certificates::Recent;
+use crate::checker::Checker;
 use crate::claim::claim_of;
-use crate::hashed::Hashed;
+use crate::token_stages::token_stages;
 use check_fit::{DeviceFault, Policy, TokenRefused};
 use trust_lists::{Trust, Verifier};
 
-/// The verdict of `check_token`, with digests and certificates that are kept.
-pub(crate) fn judge_token<'l, V: Verifier>(
+/// The verdict of `check_token`, by what a check goes by.
+pub(crate) fn judge_token<V: Verifier>(
     token: &[u8],
     stamped: &[u8],
-    trust: &'l Trust,
-    policy: &Policy,
+    checker: &mut Checker,
     verifier: &mut V,
-    hashed: &mut Hashed,
-    recent: &mut Recent<'l>,
 ) -> Result<Accepted, TokenRefused>
-    requires kept { recent.old ≡ trust.now }
-    requires listed { hashed.old ≡ trust.now }
-    ensures judged { let terms = terms_of policy.now trust.now (V.vouches verifier.old) in
+    ensures judged { let terms = terms_for checker.old (V.vouches verifier.old) in
         IsTokenVerdict terms token.now stamped.now result }
-    ensures complete { let terms = terms_of policy.now trust.now (V.vouches verifier.old) in
+    ensures complete { let terms = terms_for checker.old (V.vouches verifier.old) in
         (m : ℕ) → Passes terms token.now stamped.now m → PassesOrDevice m result }
-    ensures only { (test : Asked → Bool) → ((q : Asked) → IsAskedOfToken policy.now trust.now stamped.now token.now q
-        → test q ≡ true) → V.asked_only test verifier.old verifier.new }
+    ensures only { (test : Asked → Bool) → ((q : Asked) → IsAskedOfToken checker.old.policy checker.old.trust stamped.now
+        token.now q → test q ≡ true) → V.asked_only test verifier.old verifier.new }
     ensures same { V.vouches verifier.new ≡ V.vouches verifier.old }
     ensures count { CountsAsks result (V.failures verifier.old) (V.failures verifier.new) }
-    ensures kept { recent.new ≡ recent.old }
-    ensures listed { hashed.new ≡ hashed.old }
+    ensures stays { checker.new ≡ checker.old }
 {
-    let claim = match claim_of(*policy, stamped, token) {
+    let claim = match claim_of(checker.policy(), stamped, token) {
         Ok(claim) => claim,
         Err(rule) => return Err(TokenRefused::Rule(rule)),
     };
-    let Ok(best) = token_stages(&claim, trust, verifier, hashed, recent) else {
+    let Ok(best) = token_stages(&claim, checker, verifier) else {
         return Err(TokenRefused::Device(DeviceFault::AskFailed));
     };
     match best {
@@ -75,13 +69,6 @@ pub fn check_token<V: Verifier>(
     // It failed exactly if the verdict says so.
     ensures count { CountsAsks result (V.failures verifier.old) (V.failures verifier.new) }
 {
-    judge_token(
-        token,
-        stamped,
-        trust,
-        policy,
-        verifier,
-        &mut Hashed::of(trust),
-        &mut Recent::of(trust),
-    )
+    let mut checker = Checker::of(trust, *policy);
+    judge_token(token, stamped, &mut checker, verifier)
 }

@@ -1,10 +1,10 @@
 ghost use Rattle.std.specs.Prelude.{◌≡◌, ℕ, Bool, MatchBool, MatchResult, IfErr, IfOk, IfSome, length};
 ghost use Rattle.trust_lists.specs.Asking.{Asked, is_among};
 ghost use Rattle.check_verdict.specs.Checking.{ChecksStream};
-ghost use Rattle.check_verdict.specs.TokenVerdicts.{terms_of};
+ghost use Rattle.check_verdict.specs.Checkers.{terms_for};
 ghost use Rattle.cli_commands.specs.Checking.{ShowsAccepted, ShowsRefused, TellsAccepted};
 ghost use Rattle.cli_commands.specs.Fit.{TellsUnfit};
-ghost use Rattle.cli_commands.specs.Lists.{IsAnswersOf, IsTrustOf};
+ghost use Rattle.cli_commands.specs.Lists.{IsAnswersOf, IsCheckerOf};
 ghost use Rattle.cli_commands.specs.Rereading.{IsLimitFor, OfReading};
 ghost use Rattle.check_fit.specs.FileFitting.{facts_of};
 ghost use Rattle.check_stream.specs.StreamVerdicts.{IsTooLong};
@@ -16,7 +16,7 @@ use crate::room::{Rooms, limit_of};
 use cli_failures::{Failure, files};
 use cli_tasks::CheckWords;
 use cmsproof_api::{
-    Accepted, Answers, DeviceFault, FromWrite, Hashed, Pass, Policy, Refused, Source, Trust,
+    Accepted, Answers, Checker, DeviceFault, FromWrite, Pass, Policy, Refused, Source,
     check_stream_by, check_stream_with, report,
 };
 use std::alloc::{AllocError, Global};
@@ -40,12 +40,12 @@ pub fn check<'a, R: Files + AllocGlobal>(
     let trust = lists::trust_in(rt, words.trust)?;
     let mut answers = lists::answers_in(rt, words.answers)?;
     let mut passing = Pass::new();
-    let mut hashed = Hashed::of(&trust);
-    check_by(rt, words, &mut answers, &mut passing, &mut hashed)
+    let mut checker = Checker::of(&trust, Policy { sha1: words.sha1 });
+    check_by(rt, words, &mut answers, &mut passing, &mut checker)
 }
 
-/// The same under lists that were read, with a window and digests that serve for another file afterwards, too. What they
-/// hold of earlier files changes nothing of what is said of this one.
+/// The same by what was read of the lists, with a window and a checker that serve for another file afterwards, too. What
+/// they hold of earlier files changes nothing of what is said of this one.
 ///
 /// Errors: those of `check` after its lists were read: a file cannot be opened or read, memory is refused, or the file
 /// is refused.
@@ -54,35 +54,33 @@ pub fn check_by<'a, R: Files + AllocGlobal>(
     words: &CheckWords<'a>,
     answers: &mut Answers,
     passing: &mut Pass,
-    hashed: &mut Hashed,
+    checker: &mut Checker,
 ) -> Result<Vec<u8>, Failure<'a>>
-    // If the lists are those of files, the line and the failure are those of `check`.
-    ensures accepted { IsTrustOf R.File.remaining hashed.old → IsAnswersOf R.File.remaining answers.old
+    // If it goes by the lists of files and by the words, the line and the failure are those of `check`.
+    ensures accepted { IsCheckerOf R.File.remaining words.now.sha1 checker.old → IsAnswersOf R.File.remaining answers.old
         → IfOk result (λ line. (file : R.File) × ShowsAccepted R.File.remaining words.now
         (R.File.remaining file) line.items) }
     // The same of the failure.
-    ensures refused { IsTrustOf R.File.remaining hashed.old → IsAnswersOf R.File.remaining answers.old
+    ensures refused { IsCheckerOf R.File.remaining words.now.sha1 checker.old → IsAnswersOf R.File.remaining answers.old
         → IfErr result (ShowsRefused R.File.remaining words.now) }
     // What the answers list vouches for stays the same.
     ensures same { ◌≡◌ {A = Asked → Bool} (λ q. is_among answers.new q) (λ q. is_among answers.old q) }
-    // The trust list stays the same.
-    ensures listed { hashed.new ≡ hashed.old }
+    // What the check goes by stays the same.
+    ensures stays { checker.new ≡ checker.old }
 {
     let mut content = files::content_of(rt, words.content)?;
     let mut file = Rereadable {
         file: files::open(rt, words.file)?,
         failed: 0,
     };
-    let policy = Policy { sha1: words.sha1 };
     let verdict = verdict_as_stated(
         rt.alloc(),
         &mut file,
         &mut content,
         words.buffer,
-        &policy,
         answers,
         passing,
-        hashed,
+        checker,
     )?;
     line_of(rt.alloc(), verdict)
 }
@@ -96,25 +94,24 @@ fn verdict_as_stated<F: Read + Seek + Describes, S: Source>(
     file: &mut Rereadable<F>,
     content: &mut Option<S>,
     said: Option<u64>,
-    policy: &Policy,
     answers: &mut Answers,
     passing: &mut Pass,
-    hashed: &mut Hashed,
+    checker: &mut Checker,
 ) -> Result<Result<Accepted, Refused>, AllocError>
     // The verdict is that of one pass with as much room as the limit of this file.
     ensures judged { IfOk result (λ verdict. (limit : ℕ) × IsLimitFor F.says file.old.file said limit
         × OfReading F.stream_position F.remaining (λ octets. ChecksStream
-        (facts_of S.tells S.rest S.failures) (terms_of policy.now hashed.old (λ q. is_among answers.old q)) octets
+        (facts_of S.tells S.rest S.failures) (terms_for checker.old (λ q. is_among answers.old q)) octets
         content.old content.new) file.old.file limit file.old.failed file.new.failed content.old content.new verdict) }
     // What the answers list vouches for stays the same.
     ensures same { ◌≡◌ {A = Asked → Bool} (λ q. is_among answers.new q) (λ q. is_among answers.old q) }
-    // The trust list stays the same.
-    ensures listed { hashed.new ≡ hashed.old }
+    // What the check goes by stays the same.
+    ensures stays { checker.new ≡ checker.old }
 {
     let stated = file.stated();
     let limit = limit_of(said, stated.is_some());
     verdict_within(
-        alloc, file, content, stated, limit, policy, answers, passing, hashed,
+        alloc, file, content, stated, limit, answers, passing, checker,
     )
 }
 
@@ -133,19 +130,18 @@ fn verdict_within<F: Read + Seek, S: Source>(
     content: &mut Option<S>,
     stated: Option<u64>,
     limit: u64,
-    policy: &Policy,
     answers: &mut Answers,
     passing: &mut Pass,
-    hashed: &mut Hashed,
+    checker: &mut Checker,
 ) -> Result<Result<Accepted, Refused>, AllocError>
     // The verdict is that of one pass with as much room as the limit: a pass with less gives the same, unless it is X3.
     ensures judged { IfOk result (λ verdict. OfReading F.stream_position F.remaining (λ octets. ChecksStream
-        (facts_of S.tells S.rest S.failures) (terms_of policy.now hashed.old (λ q. is_among answers.old q)) octets
+        (facts_of S.tells S.rest S.failures) (terms_for checker.old (λ q. is_among answers.old q)) octets
         content.old content.new) file.old.file limit file.old.failed file.new.failed content.old content.new verdict) }
     // What the answers list vouches for stays the same.
     ensures same { ◌≡◌ {A = Asked → Bool} (λ q. is_among answers.new q) (λ q. is_among answers.old q) }
-    // The trust list stays the same.
-    ensures listed { hashed.new ≡ hashed.old }
+    // What the check goes by stays the same.
+    ensures stays { checker.new ≡ checker.old }
 {
     let again = stated.is_some();
     let mut rooms = Rooms::first(stated, limit);
@@ -156,10 +152,9 @@ fn verdict_within<F: Read + Seek, S: Source>(
             again,
             content,
             buffer.as_mut_slice(),
-            policy,
             answers,
             passing,
-            hashed,
+            checker,
         );
         if !is_too_long(&verdict) {
             return Ok(verdict);
@@ -175,10 +170,9 @@ fn verdict_within<F: Read + Seek, S: Source>(
         again,
         content,
         buffer.as_mut_slice(),
-        policy,
         answers,
         passing,
-        hashed,
+        checker,
     ))
 }
 
@@ -200,29 +194,28 @@ fn verdict_of<F: Read + Seek, S: Source>(
     again: bool,
     content: &mut Option<S>,
     buffer: &mut [u8],
-    policy: &Policy,
     answers: &mut Answers,
     passing: &mut Pass,
-    hashed: &mut Hashed,
+    checker: &mut Checker,
 ) -> Result<Accepted, Refused>
     // The verdict is that of one pass over the file, independent of the algorithms that the file names: X1 if that pass
     // failed or could not begin, X3 if it had too little room, otherwise the verdict about the octets that the file had
     // left as it began.
     ensures judged { OfReading F.stream_position F.remaining (λ octets. ChecksStream
-        (facts_of S.tells S.rest S.failures) (terms_of policy.now hashed.old (λ q. is_among answers.old q)) octets
+        (facts_of S.tells S.rest S.failures) (terms_for checker.old (λ q. is_among answers.old q)) octets
         content.old content.new) file.old.file (length buffer.old) file.old.failed file.new.failed
         content.old content.new result }
     // After X3 the content was not read, and no device failed.
     ensures untouched { IsTooLong result → (content.new ≡ content.old) × (file.new.failed ≡ file.old.failed) }
     // What the answers list vouches for stays the same.
     ensures same { ◌≡◌ {A = Asked → Bool} (λ q. is_among answers.new q) (λ q. is_among answers.old q) }
-    // The trust list stays the same.
-    ensures listed { hashed.new ≡ hashed.old }
+    // What the check goes by stays the same.
+    ensures stays { checker.new ≡ checker.old }
 {
     if content.is_none() && again {
-        verdict_by_hint(file, content, buffer, policy, answers, passing, hashed)
+        verdict_by_hint(file, content, buffer, answers, passing, checker)
     } else {
-        check_stream_with(passing, hashed, file, content, buffer, policy, answers)
+        check_stream_with(passing, checker, file, content, buffer, answers)
     }
 }
 
@@ -232,34 +225,33 @@ fn verdict_by_hint<F: Read + Seek, S: Source>(
     file: &mut Rereadable<F>,
     content: &mut Option<S>,
     buffer: &mut [u8],
-    policy: &Policy,
     answers: &mut Answers,
     passing: &mut Pass,
-    hashed: &mut Hashed,
+    checker: &mut Checker,
 ) -> Result<Accepted, Refused>
     ensures judged { OfReading F.stream_position F.remaining (λ octets. ChecksStream
-        (facts_of S.tells S.rest S.failures) (terms_of policy.now hashed.old (λ q. is_among answers.old q)) octets
+        (facts_of S.tells S.rest S.failures) (terms_for checker.old (λ q. is_among answers.old q)) octets
         content.old content.new) file.old.file (length buffer.old) file.old.failed file.new.failed
         content.old content.new result }
     // After X3 the content was not read, and no device failed.
     ensures untouched { IsTooLong result → (content.new ≡ content.old) × (file.new.failed ≡ file.old.failed) }
     // What the answers list vouches for stays the same.
     ensures same { ◌≡◌ {A = Asked → Bool} (λ q. is_among answers.new q) (λ q. is_among answers.old q) }
-    // The trust list stays the same.
-    ensures listed { hashed.new ≡ hashed.old }
+    // What the check goes by stays the same.
+    ensures stays { checker.new ≡ checker.old }
 {
     let Ok(listed) = file.listed(passing) else {
         return Err(Refused::Device(DeviceFault::ReadFailed));
     };
     if let Some(verdict) = check_stream_by(
-        passing, hashed, file, content, buffer, policy, answers, listed,
+        passing, checker, file, content, buffer, answers, listed,
     ) {
         return verdict;
     }
     let Ok(()) = file.rewind() else {
         return Err(Refused::Device(DeviceFault::ReadFailed));
     };
-    check_stream_with(passing, hashed, file, content, buffer, policy, answers)
+    check_stream_with(passing, checker, file, content, buffer, answers)
 }
 
 /// The line of a verdict, if there is memory: writing to a vector fails only if it is refused.

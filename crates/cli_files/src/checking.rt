@@ -10,14 +10,14 @@ use crate::worst::worse;
 use cli_commands::{answers_in, check_by, trust_in};
 use cli_failures::{Failure, Status};
 use cli_tasks::{CheckEach, CheckWords};
-use cmsproof_api::{Hashed, Pass};
+use cmsproof_api::{Checker, Pass, Policy};
 use std::io::Write;
 use std::rt::Files;
 
 /// Prints a line for each of these files, and returns the worst status.
 ///
-/// The lists are opened, read and judged first, once. One window serves for all files, and the digests of certificates
-/// that were hashed for a file serve for the next.
+/// The lists are opened, read and judged first, once. One window serves for all files, and what is kept of the trust list
+/// for a file serves for the next.
 ///
 /// Errors: those of a list; memory that is refused for a line; an output that fails. After them no other file is
 /// opened.
@@ -42,7 +42,7 @@ where
     let trust = trust_in(rt, each.trust)?;
     let mut answers = answers_in(rt, each.answers)?;
     let mut passing = Pass::new();
-    let mut hashed = Hashed::of(&trust);
+    let mut checker = Checker::of(&trust, Policy { sha1: each.sha1 });
     let mut worst = Status::Done;
     for path in paths {
         let words = CheckWords {
@@ -53,7 +53,7 @@ where
             buffer: each.buffer,
             file: path,
         };
-        let said = check_by(rt, &words, &mut answers, &mut passing, &mut hashed);
+        let said = check_by(rt, &words, &mut answers, &mut passing, &mut checker);
         worst = worse(worst, put_said(rt.alloc(), path, &said, out)?);
     }
     Ok(worst)

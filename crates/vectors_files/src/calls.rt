@@ -3,7 +3,7 @@ use crate::found::pass;
 use crate::terms::Terms;
 use cms_stream::listed_algorithms;
 use cmsproof_api::{
-    Alg, Algs, ExpectingVerifier, FusedVerifier, Hashed, Pass, Source, Verifier, check,
+    Alg, Algs, Checker, ExpectingVerifier, FusedVerifier, Pass, Source, Verifier, check,
     check_signer, check_stream, check_stream_by, fits, questions, questions_stream,
 };
 use der_time::generalized_text;
@@ -99,14 +99,13 @@ impl<'r, 'a> Terms<'r, 'a> {
             "stream" => Some(check_stream(file, content, room, trust, policy, verifier)),
             "guess" => {
                 let algs = algorithm(rest)?;
-                let (mut passing, mut hashed) = (Pass::new(), Hashed::of(trust));
+                let (mut passing, mut checker) = (Pass::new(), Checker::of(trust, *policy));
                 check_stream_by(
                     &mut passing,
-                    &mut hashed,
+                    &mut checker,
                     file,
                     content,
                     room,
-                    policy,
                     verifier,
                     algs,
                 )

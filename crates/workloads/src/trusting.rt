@@ -3,7 +3,7 @@
 use crate::bad::{Bad, needed};
 use crate::results::Results;
 use cmsproof_api::{
-    Accepted, FromWrite, Hashed, Pass, Policy, Question, Refused, Slice, Trust, Verifier,
+    Accepted, Checker, FromWrite, Pass, Policy, Question, Refused, Slice, Trust, Verifier,
     check_stream, check_stream_by, listed_algorithms, report,
 };
 use list_answers::AskFault;
@@ -65,11 +65,10 @@ pub(crate) fn stream_verdict<V: Verifier>(
     let mut none: Option<Slice> = None;
     let first = check_stream_by(
         &mut Pass::new(),
-        &mut Hashed::of(trust),
+        &mut Checker::of(trust, POLICY),
         &mut Slice::new(file),
         &mut none,
         buffer,
-        &POLICY,
         verifier,
         listed,
     );

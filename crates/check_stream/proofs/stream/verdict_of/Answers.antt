@@ -1,7 +1,7 @@
 use Rattle.std.proofs.Common.{◌≡◌, [], length}
 use Rattle.digests.specs.Selection.{FedWanted}
 use Rattle.check_verdict.specs.Passing.{Terms}
-use Rattle.check_verdict.specs.TokenVerdicts.{terms_of}
+use Rattle.check_verdict.specs.Checkers.{terms_for}
 use Rattle.check_stream.specs.StreamVerdicts.{ChecksStreamAsking}
 use Rattle.check_stream.proofs.Verdicts.{if_stream, early_or_end}
 use Rattle.check_stream.proofs.Devices.{if_devices}
@@ -10,7 +10,7 @@ use Rattle.check_fit.specs.FileFitting.{facts_of}
 
 pub returns-clause-asked : goal.returns-clause-asked
 returns-clause-asked g c =
-    let u : Terms = terms_of c.args.policy.now c.args.hashed.now (g.V.Verifier.vouches c.args.verifier.now) in
+    let u : Terms = terms_for c.args.checker.now (g.V.Verifier.vouches c.args.verifier.now) in
     if_stream (ChecksStreamAsking (facts_of g.S.Source.tells g.S.Source.rest g.S.Source.failures) u
     (λ test. g.V.Verifier.asked_only test c.args.verifier.now c.judge_pass.new.verifier) (g.F.Source.rest c.args.file.now) c.args.content.now
     c.judge_pass.new.content)

@@ -1,5 +1,9 @@
 use Rattle.std.proofs.Common.{rules, ◌≡◌, ◌∙◌, Bool, List, Some, Ok, Err, refl, sym, subst}
-use Rattle.std.specs.Prelude.{is_some}
+use Rattle.std.specs.Prelude.{is_some, IsTrue, ◌↔◌}
+use Rattle.digests.specs.declared.algorithm.Alg.{Alg}
+use Rattle.digests.specs.Sets.{is_in}
+use Rattle.check_fit.specs.declared.policy.Policy.{Policy}
+use Rattle.check_fit.specs.Fitting.{Wants}
 use Rattle.der_lists.specs.Numbers.{of_number}
 use Rattle.digests.specs.Selection.{set_given}
 use Rattle.cms_types.specs.SignerValue.{SignerValue}
@@ -51,8 +55,9 @@ returns-in-Ok-clause-asked g c =
           (rules_good c.args.number reading.0 (is_some c.args.content.now) v c.in-Some.signer left is)
           c.args.content.now c.hash_content.new.content c.in_ok-digests.digests (Ok c.in-Ok.moment)
           (λ content set are.
-          let given = wants_given c.args.checker.now.policy.now c.in-Some.signer c.wanted_of.result
-          (set_given c.in_ok-digests.digests) set c.wanted_of.ensures in
+          let given = wants_given c.args.checker.now.policy c.in-Some.signer c.wanted_of.result
+          (set_given c.in_ok-digests.digests) set (subst (λ (p : Policy). (alg : Alg) → IsTrue (is_in alg c.wanted_of.result)
+          ↔ Wants p c.in-Some.signer alg) c.policy.ensures c.wanted_of.ensures) in
           asking_of u (λ test. g.V.Verifier.asked_only test c.args.verifier.now c.judge_signer.new.verifier) c.args.number content c.bytes.result.now
           v c.in-Some.signer (Ok c.in-Ok.moment) kind is
           (c.in-Ok.ensures.judged u refl content are given) (c.judge_signer.ensures.only u refl content are given)) c.in_ok-digests.ensures,
@@ -76,8 +81,9 @@ returns-in-Err-clause-asked g c =
           (rules_good c.args.number reading.0 (is_some c.args.content.now) v c.in-Some.signer left is)
           c.args.content.now c.hash_content.new.content c.in_ok-digests.digests (Err (numbered c.args.number c.in-Err.refused))
           (λ content set are.
-          let given = wants_given c.args.checker.now.policy.now c.in-Some.signer c.wanted_of.result
-          (set_given c.in_ok-digests.digests) set c.wanted_of.ensures in
+          let given = wants_given c.args.checker.now.policy c.in-Some.signer c.wanted_of.result
+          (set_given c.in_ok-digests.digests) set (subst (λ (p : Policy). (alg : Alg) → IsTrue (is_in alg c.wanted_of.result)
+          ↔ Wants p c.in-Some.signer alg) c.policy.ensures c.wanted_of.ensures) in
           asking_of u (λ test. g.V.Verifier.asked_only test c.args.verifier.now c.judge_signer.new.verifier) c.args.number content c.bytes.result.now
           v c.in-Some.signer (Err (numbered c.args.number c.in-Err.refused)) kind is
           (alone_bad u content c.bytes.result.now c.args.number c.in-Some.signer c.in-Err.refused (c.in-Err.ensures.judged u refl content are given))
@@ -95,7 +101,8 @@ returns-in-Ok-clause-only g c = λ test asks.
     let h = hashed c.wanted_of.result c.in_ok-digests.digests (facts_of g.S.Source.tells g.S.Source.rest g.S.Source.failures) v
     (placed v v.encapsulated.content (is_some c.args.content.now)) c.args.content.now c.hash_content.new.content
     (placed_from reading.0 (is_some c.args.content.now) v left) c.in_ok-digests.ensures in
-    let given = wants_given c.args.checker.now.policy.now c.in-Some.signer c.wanted_of.result (set_given c.in_ok-digests.digests) h.1 c.wanted_of.ensures in
+    let given = wants_given c.args.checker.now.policy c.in-Some.signer c.wanted_of.result (set_given c.in_ok-digests.digests) h.1 (subst (λ (p : Policy). (alg : Alg) → IsTrue (is_in alg c.wanted_of.result)
+    ↔ Wants p c.in-Some.signer alg) c.policy.ensures c.wanted_of.ensures) in
     let encodes = (opened_by c.args.file.now reading.0 (is_some c.args.content.now) reading.1 v left).0 in
     c.judge_signer.ensures.only u refl h.0 h.2 given test
     (λ q a. asks q (question_of_file u c.args.file.now h.0 c.bytes.result.now v c.in-Some.signer q encodes
@@ -112,7 +119,8 @@ returns-in-Err-clause-only g c = λ test asks.
     let h = hashed c.wanted_of.result c.in_ok-digests.digests (facts_of g.S.Source.tells g.S.Source.rest g.S.Source.failures) v
     (placed v v.encapsulated.content (is_some c.args.content.now)) c.args.content.now c.hash_content.new.content
     (placed_from reading.0 (is_some c.args.content.now) v left) c.in_ok-digests.ensures in
-    let given = wants_given c.args.checker.now.policy.now c.in-Some.signer c.wanted_of.result (set_given c.in_ok-digests.digests) h.1 c.wanted_of.ensures in
+    let given = wants_given c.args.checker.now.policy c.in-Some.signer c.wanted_of.result (set_given c.in_ok-digests.digests) h.1 (subst (λ (p : Policy). (alg : Alg) → IsTrue (is_in alg c.wanted_of.result)
+    ↔ Wants p c.in-Some.signer alg) c.policy.ensures c.wanted_of.ensures) in
     let encodes = (opened_by c.args.file.now reading.0 (is_some c.args.content.now) reading.1 v left).0 in
     c.judge_signer.ensures.only u refl h.0 h.2 given test
     (λ q a. asks q (question_of_file u c.args.file.now h.0 c.bytes.result.now v c.in-Some.signer q encodes

@@ -18,7 +18,7 @@ pub returns-then-ne-clause-stage : goal.returns-then-ne-clause-stage
 returns-then-ne-clause-stage g c = λ t vouches attributes has.
     let stops : c.failed_unasked-failed.result ≡ SignatureFails → ⊥ = search rules in
     signer_stops (LeftAt t c.args.signer.now attributes c.args.moment.now) c.args.entry.now c.failed_unasked-failed.result stops
-    (c.failed_unasked-failed.ensures.stage t c.requires.role c.requires.certificate attributes has)
+    (c.failed_unasked-failed.ensures.stage t c.requires.certificate attributes has)
 
 pub returns-then-ne-clause-only : goal.returns-then-ne-clause-only
 returns-then-ne-clause-only g c = λ test attributes has asks. g.V.Verifier.asked_nothing test _
@@ -36,7 +36,7 @@ pub returns-in_err-ask-clause-only : goal.returns-in_err-ask-clause-only
 returns-in_err-ask-clause-only g c = λ test attributes has asks.
     let asks_now : c.failed_unasked-failed.result ≡ SignatureFails = search rules in
     let p = signer_is_left (LeftAt any_terms c.args.signer.now attributes c.args.moment.now) c.args.entry.now c.failed_unasked-failed.result asks_now
-    (c.failed_unasked-failed.ensures.stage any_terms c.requires.role c.requires.certificate attributes has) in
+    (c.failed_unasked-failed.ensures.stage any_terms c.requires.certificate attributes has) in
     let is : c.in-Some.question ≡ asked c.args.entry.now.certificate c.args.signer.now attributes =
     question_of_some c.args.certificate.now c.args.signer.now attributes c.in-Some.question has (sym c.question_of.ensures ∙ c.in-Some.is)
     ∙ ap (λ (x : CertificateValue). asked x c.args.signer.now attributes) c.requires.certificate in
@@ -46,7 +46,7 @@ pub returns-then-branch-clause-only : goal.returns-then-branch-clause-only
 returns-then-branch-clause-only g c = λ test attributes has asks.
     let asks_now : c.failed_unasked-failed.result ≡ SignatureFails = search rules in
     let p = signer_is_left (LeftAt any_terms c.args.signer.now attributes c.args.moment.now) c.args.entry.now c.failed_unasked-failed.result asks_now
-    (c.failed_unasked-failed.ensures.stage any_terms c.requires.role c.requires.certificate attributes has) in
+    (c.failed_unasked-failed.ensures.stage any_terms c.requires.certificate attributes has) in
     let is : c.in-Some.question ≡ asked c.args.entry.now.certificate c.args.signer.now attributes =
     question_of_some c.args.certificate.now c.args.signer.now attributes c.in-Some.question has (sym c.question_of.ensures ∙ c.in-Some.is)
     ∙ ap (λ (x : CertificateValue). asked x c.args.signer.now attributes) c.requires.certificate in
@@ -56,7 +56,7 @@ pub returns-else-branch-clause-only : goal.returns-else-branch-clause-only
 returns-else-branch-clause-only g c = λ test attributes has asks.
     let asks_now : c.failed_unasked-failed.result ≡ SignatureFails = search rules in
     let p = signer_is_left (LeftAt any_terms c.args.signer.now attributes c.args.moment.now) c.args.entry.now c.failed_unasked-failed.result asks_now
-    (c.failed_unasked-failed.ensures.stage any_terms c.requires.role c.requires.certificate attributes has) in
+    (c.failed_unasked-failed.ensures.stage any_terms c.requires.certificate attributes has) in
     let is : c.in-Some.question ≡ asked c.args.entry.now.certificate c.args.signer.now attributes =
     question_of_some c.args.certificate.now c.args.signer.now attributes c.in-Some.question has (sym c.question_of.ensures ∙ c.in-Some.is)
     ∙ ap (λ (x : CertificateValue). asked x c.args.signer.now attributes) c.requires.certificate in
@@ -66,7 +66,7 @@ pub returns-then-branch-clause-stage : goal.returns-then-branch-clause-stage
 returns-then-branch-clause-stage g c = λ t vouches attributes has.
     let asks_now : c.failed_unasked-failed.result ≡ SignatureFails = search rules in
     let p = signer_is_left (LeftAt t c.args.signer.now attributes c.args.moment.now) c.args.entry.now c.failed_unasked-failed.result asks_now
-    (c.failed_unasked-failed.ensures.stage t c.requires.role c.requires.certificate attributes has) in
+    (c.failed_unasked-failed.ensures.stage t c.requires.certificate attributes has) in
     let is : c.in-Some.question ≡ asked c.args.entry.now.certificate c.args.signer.now attributes =
     question_of_some c.args.certificate.now c.args.signer.now attributes c.in-Some.question has (sym c.question_of.ensures ∙ c.in-Some.is)
     ∙ ap (λ (x : CertificateValue). asked x c.args.signer.now attributes) c.requires.certificate in
@@ -78,7 +78,7 @@ pub returns-else-branch-clause-stage : goal.returns-else-branch-clause-stage
 returns-else-branch-clause-stage g c = λ t vouches attributes has.
     let asks_now : c.failed_unasked-failed.result ≡ SignatureFails = search rules in
     let p = signer_is_left (LeftAt t c.args.signer.now attributes c.args.moment.now) c.args.entry.now c.failed_unasked-failed.result asks_now
-    (c.failed_unasked-failed.ensures.stage t c.requires.role c.requires.certificate attributes has) in
+    (c.failed_unasked-failed.ensures.stage t c.requires.certificate attributes has) in
     let is : c.in-Some.question ≡ asked c.args.entry.now.certificate c.args.signer.now attributes =
     question_of_some c.args.certificate.now c.args.signer.now attributes c.in-Some.question has (sym c.question_of.ensures ∙ c.in-Some.is)
     ∙ ap (λ (x : CertificateValue). asked x c.args.signer.now attributes) c.requires.certificate in

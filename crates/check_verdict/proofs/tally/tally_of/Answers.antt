@@ -1,12 +1,11 @@
 use Rattle.std.proofs.Common.{◌≡◌, ◌∙◌, Bool, List, ℕ, [], ◌∷◌, ◌++◌, refl, sym, subst, ap}
 use Rattle.std.specs.Prelude.{Contains}
 use Rattle.std.proofs.lemmas.List.{append_assoc, append-nil}
-use Rattle.trust_lists.specs.Asking.{Asked}
 use Rattle.check_verdict.specs.SignerStages.{Tallied}
-use Rattle.check_verdict.specs.Checkers.{terms_for}
 use Rattle.check_verdict.specs.Verdicts.{tokens}
 use Rattle.check_verdict.proofs.Asks.{among_all}
 use Rattle.check_verdict.proofs.Tallies.{tallied_none}
+use Rattle.check_verdict.proofs.Going.{still_terms}
 use Rattle.check_verdict.proofs.tally.tally_of.Goals as goal
 
 pub loop-token-init : goal.loop-token-init
@@ -17,15 +16,14 @@ loop-token-init g c = record {
   only = λ t is content econtent_type fits test asks. g.V.Verifier.asked_nothing test _;
   same = refl;
   count = refl;
-  kept = c.requires.kept;
-  listed = c.requires.listed;
+  stays = refl;
 }
 
 pub returns-in_err-tally-clause-only : goal.returns-in_err-tally-clause-only
 returns-in_err-tally-clause-only g c = λ t is content econtent_type fits test asks.
     let h = c.loop-token.invariant in
     g.V.Verifier.asked_further test _ _ _ (h.only t is content econtent_type fits test asks)
-    (c.in_err-tally.ensures.only t (is ∙ ap (λ (v : Asked → Bool). terms_for c.args.checker.now v) (sym h.same)) content econtent_type fits
+    (c.in_err-tally.ensures.only t (still_terms c.loop-token.checker c.args.checker.now h.stays _ _ h.same t is) content econtent_type fits
     (subst (λ (b : List ℕ). Contains (tokens c.args.signer.now) b) (sym c.whole.ensures) (among_all h.before c.in-Some.token c.in-Some.others
     (tokens c.args.signer.now) (ap (λ (xs : List (List ℕ)). h.before ++ xs) (sym c.in-Some.ensures) ∙ h.all))) test asks)
 
@@ -39,16 +37,15 @@ loop-token-preserved g c =
       before = h.before ++ c.in-Some.token ∷ [];
       all = append_assoc h.before (c.in-Some.token ∷ []) c.in-Some.others ∙ ap (λ (xs : List (List ℕ)). h.before ++ xs) (sym c.in-Some.ensures) ∙ h.all;
       so_far = λ t is attributes has. subst (λ (b : List ℕ). Tallied t c.args.signer.now attributes (h.before ++ b ∷ []) c.in_ok-tally.tally) c.whole.ensures
-          (c.in_ok-tally.ensures.tallied t (is ∙ ap (λ (v : Asked → Bool). terms_for c.args.checker.now v) (sym h.same)) attributes has h.before
+          (c.in_ok-tally.ensures.tallied t (still_terms c.loop-token.checker c.args.checker.now h.stays _ _ h.same t is) attributes has h.before
           (h.so_far t is attributes has));
       only = λ t is content econtent_type fits test asks. g.V.Verifier.asked_further test _ _ _ (h.only t is content econtent_type fits test asks)
-          (c.in_ok-tally.ensures.only t (is ∙ ap (λ (v : Asked → Bool). terms_for c.args.checker.now v) (sym h.same)) content econtent_type fits
+          (c.in_ok-tally.ensures.only t (still_terms c.loop-token.checker c.args.checker.now h.stays _ _ h.same t is) content econtent_type fits
           (subst (λ (b : List ℕ). Contains (tokens c.args.signer.now) b) (sym c.whole.ensures) (among_all h.before c.in-Some.token c.in-Some.others
           (tokens c.args.signer.now) (ap (λ (xs : List (List ℕ)). h.before ++ xs) (sym c.in-Some.ensures) ∙ h.all))) test asks);
       same = c.in_ok-tally.ensures.same ∙ h.same;
       count = c.in_ok-tally.ensures.count ∙ h.count;
-      kept = c.in_ok-tally.ensures.kept;
-      listed = c.in_ok-tally.ensures.listed;
+      stays = c.in_ok-tally.ensures.stays ∙ h.stays;
     }
 
 pub returns-clause-tallied : goal.returns-clause-tallied

@@ -10,7 +10,8 @@ use Rattle.check_verdict.specs.Passing.{Terms, Passes}
 use Rattle.check_verdict.specs.TokenRules.{TokenFails}
 use Rattle.check_verdict.specs.SignerStages.{LeftAt, Tallied}
 use Rattle.check_fit.specs.declared.rules.TokenRefused.{TokenRefused}
-use Rattle.check_verdict.specs.Checkers.{terms_for}
+use Rattle.std.specs.Prelude.{Contains}
+use Rattle.check_verdict.specs.Checkers.{CheckerValue, terms_for}
 use Rattle.check_verdict.specs.TokenVerdicts.{IsTokenVerdict}
 use Rattle.check_verdict.specs.declared.tally.Tally.{Tally}
 use Rattle.check_verdict.proofs.Tallies.{tallied_passed, tallied_failed}
@@ -25,7 +26,7 @@ returns-in_ok-best-in-Ok-clause-tallied g c = λ t is attributes has before h.
     (subst (λ (x : Terms). Passes x c.args.token.now c.signature.result.now c.in-Ok.accepted) (sym is) c.in-Ok.ensures.judged)) in
     let best : Best (LeftAt t c.args.signer.now attributes (Some m)) 3 t.trust (passed_for_signer c.in_ok-best-in-Ok.best) =
     subst (λ (es : List EntryValue). Best (LeftAt t c.args.signer.now attributes (Some m)) 3 es (passed_for_signer c.in_ok-best-in-Ok.best))
-    (sym (ap (λ (x : Terms). x.trust) is))
+    (ap (λ (k : CheckerValue). k.trust) c.in-Ok.ensures.stays ∙ sym (ap (λ (x : Terms). x.trust) is))
     (c.in_ok-best-in-Ok.ensures.stage t (ap (λ (x : Terms). x.vouches) is ∙ sym c.in-Ok.ensures.same) attributes has) in
     tallied_passed t c.args.signer.now attributes before c.args.token.now m passes (passed_for_signer c.in_ok-best-in-Ok.best) best c.args.tally
     c.passed.result h c.passed.ensures.stamped c.passed.ensures.best c.passed.ensures.left c.passed.ensures.earlier
@@ -56,7 +57,7 @@ returns-in_ok-best-in-Ok-clause-only g c = λ t is content econtent_type fits_t 
     (c.in-Ok.ensures.only test (λ q a. asks_u q (asked_token u content econtent_type c.args.signer.now fits c.args.token.now among q
     (subst (λ (b : List ℕ). IsAskedOfToken u.policy u.trust b c.args.token.now q) c.signature.ensures a))))
     (c.in_ok-best-in-Ok.ensures.only test fits.attributes fits.present (λ e trusted p named. asks_u
-    _ (asked_at u content econtent_type c.args.signer.now fits e trusted named
+    _ (asked_at u content econtent_type c.args.signer.now fits e (subst (λ (k : CheckerValue). Contains k.trust e) c.in-Ok.ensures.stays trusted) named
     m (stamped_by u c.args.signer.now c.args.token.now m among passes) p)))
 
 pub returns-in_err-best-in-Ok-clause-only : goal.returns-in_err-best-in-Ok-clause-only
@@ -73,7 +74,7 @@ returns-in_err-best-in-Ok-clause-only g c = λ t is content econtent_type fits_t
     (c.in-Ok.ensures.only test (λ q a. asks_u q (asked_token u content econtent_type c.args.signer.now fits c.args.token.now among q
     (subst (λ (b : List ℕ). IsAskedOfToken u.policy u.trust b c.args.token.now q) c.signature.ensures a))))
     (c.in_err-best-in-Ok.ensures.only test fits.attributes fits.present (λ e trusted p named. asks_u
-    _ (asked_at u content econtent_type c.args.signer.now fits e trusted named
+    _ (asked_at u content econtent_type c.args.signer.now fits e (subst (λ (k : CheckerValue). Contains k.trust e) c.in-Ok.ensures.stays trusted) named
     m (stamped_by u c.args.signer.now c.args.token.now m among passes) p)))
 
 pub returns-in-Err-Rule-clause-only : goal.returns-in-Err-Rule-clause-only

@@ -1,7 +1,7 @@
-use Rattle.std.proofs.Common.{List, inl, inr, sym, subst}
+use Rattle.std.proofs.Common.{inl, inr, refl, sym, subst}
 use Rattle.std.proofs.lemmas.Result.{err_from_is_err_and}
-use Rattle.trust_lists.specs.Entries.{EntryValue}
-use Rattle.cli_commands.specs.Lists.{IsTrustOf}
+use Rattle.check_verdict.specs.Checkers.{CheckerValue}
+use Rattle.cli_commands.specs.Lists.{IsCheckerOf}
 use Rattle.cli_commands.proofs.checking.check.Goals as goal
 
 pub returns-in_err-answers-clause-refused : goal.returns-in_err-answers-clause-refused
@@ -10,9 +10,9 @@ returns-in_err-answers-clause-refused g c =
     rw (p.1, p.2) (inr (inl c.in_err-answers.ensures.refused))
 
 pub returns-clause-accepted : goal.returns-clause-accepted
-returns-clause-accepted g c = c.check_by.ensures.accepted (subst (λ (es : List EntryValue). IsTrustOf g.R.File.Read.remaining es) (sym c.of-hashed.ensures)
-    c.in_ok-trust.ensures.found) c.in_ok-answers.ensures.found
+returns-clause-accepted g c = c.check_by.ensures.accepted (subst (λ (k : CheckerValue). IsCheckerOf g.R.File.Read.remaining c.args.words.now.sha1 k)
+    (sym c.of-checker.ensures) (c.in_ok-trust.ensures.found, refl)) c.in_ok-answers.ensures.found
 
 pub returns-clause-refused : goal.returns-clause-refused
-returns-clause-refused g c = c.check_by.ensures.refused (subst (λ (es : List EntryValue). IsTrustOf g.R.File.Read.remaining es) (sym c.of-hashed.ensures)
-    c.in_ok-trust.ensures.found) c.in_ok-answers.ensures.found
+returns-clause-refused g c = c.check_by.ensures.refused (subst (λ (k : CheckerValue). IsCheckerOf g.R.File.Read.remaining c.args.words.now.sha1 k)
+    (sym c.of-checker.ensures) (c.in_ok-trust.ensures.found, refl)) c.in_ok-answers.ensures.found

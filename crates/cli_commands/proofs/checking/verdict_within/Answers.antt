@@ -2,8 +2,7 @@ use Rattle.std.proofs.Common.{◌≡◌, ◌∙◌, ℕ, Bool, List, length, ap,
 use Rattle.devices.specs.Device.{raised}
 use Rattle.check_fit.specs.FileFitting.{facts_of}
 use Rattle.trust_lists.specs.Asking.{Asked, is_among}
-use Rattle.trust_lists.specs.Entries.{EntryValue}
-use Rattle.check_verdict.specs.TokenVerdicts.{terms_of}
+use Rattle.check_verdict.specs.Checkers.{CheckerValue, terms_for}
 use Rattle.check_verdict.specs.Checking.{ChecksStream}
 use Rattle.cli_commands.specs.Rereading.{OfReading}
 use Rattle.cli_commands.proofs.Growing.{read_on, read_within}
@@ -16,7 +15,7 @@ returns-then-not-is_too_long-clause-judged g c =
     read_on g.F.Seek.stream_position g.F.Read.remaining c.args.file.now.file c.loop-rooms.file.file
     c.verdict_of-verdict.new.file.failed c.verdict_of-verdict.new.content
     (λ (asked : Asked → Bool) before octets. ChecksStream (facts_of g.S.Source.tells g.S.Source.rest g.S.Source.failures)
-    (terms_of c.args.policy.now c.args.hashed.now asked) octets before c.verdict_of-verdict.new.content)
+    (terms_for c.args.checker.now asked) octets before c.verdict_of-verdict.new.content)
     c.args.limit
     (record { asked = λ q. is_among c.args.answers.now q; content = c.args.content.now; failures = c.args.file.now.failed })
     (record { asked = λ q. is_among c.loop-rooms.answers q; content = c.loop-rooms.content; failures = c.loop-rooms.file.failed })
@@ -25,13 +24,13 @@ returns-then-not-is_too_long-clause-judged g c =
     (read_within (length c.as_mut_slice.result.now) c.args.limit c.loop-rooms.file.failed c.verdict_of-verdict.new.file.failed
     c.loop-rooms.content c.verdict_of-verdict.new.content g.F.Seek.stream_position g.F.Read.remaining c.loop-rooms.file.file
     (λ octets. ChecksStream (facts_of g.S.Source.tells g.S.Source.rest g.S.Source.failures)
-    (terms_of c.args.policy.now c.args.hashed.now (λ q. is_among c.loop-rooms.answers q)) octets c.loop-rooms.content c.verdict_of-verdict.new.content)
+    (terms_for c.args.checker.now (λ q. is_among c.loop-rooms.answers q)) octets c.loop-rooms.content c.verdict_of-verdict.new.content)
     c.verdict_of-verdict.result c.if-not-is_too_long.ensures
-    (subst (λ (es : List EntryValue). OfReading g.F.Seek.stream_position g.F.Read.remaining
+    (subst (λ (k : CheckerValue). OfReading g.F.Seek.stream_position g.F.Read.remaining
     (λ octets. ChecksStream (facts_of g.S.Source.tells g.S.Source.rest g.S.Source.failures)
-    (terms_of c.args.policy.now es (λ q. is_among c.loop-rooms.answers q)) octets c.loop-rooms.content c.verdict_of-verdict.new.content)
+    (terms_for k (λ q. is_among c.loop-rooms.answers q)) octets c.loop-rooms.content c.verdict_of-verdict.new.content)
     c.loop-rooms.file.file (length c.as_mut_slice.result.now) c.loop-rooms.file.failed c.verdict_of-verdict.new.file.failed
-    c.loop-rooms.content c.verdict_of-verdict.new.content c.verdict_of-verdict.result) h.listed c.verdict_of-verdict.ensures.judged))
+    c.loop-rooms.content c.verdict_of-verdict.new.content c.verdict_of-verdict.result) h.stays c.verdict_of-verdict.ensures.judged))
 
 pub returns-in-Err-clause-judged : goal.returns-in-Err-clause-judged
 returns-in-Err-clause-judged g c =
@@ -40,7 +39,7 @@ returns-in-Err-clause-judged g c =
     not_again g.F.Seek.stream_position g.F.Read.remaining c.args.file.now.file c.args.file.now.file c.args.limit c.args.file.now.failed
     c.rewind.new.self.failed c.verdict_of-verdict.new.content
     (λ octets. ChecksStream (facts_of g.S.Source.tells g.S.Source.rest g.S.Source.failures)
-    (terms_of c.args.policy.now c.args.hashed.now (λ q. is_among c.args.answers.now q)) octets c.args.content.now c.verdict_of-verdict.new.content)
+    (terms_for c.args.checker.now (λ q. is_among c.args.answers.now q)) octets c.args.content.now c.verdict_of-verdict.new.content)
     c.args.content.now (c.in-Err.ensures.count ∙ ap raised (failed ∙ h.failed)) (content ∙ h.content)
 
 pub loop-rooms-preserved : goal.loop-rooms-preserved
@@ -52,7 +51,7 @@ loop-rooms-preserved g c =
       within = c.next-rooms.ensures.within;
       failed = c.in-Ok.ensures.count ∙ (failed ∙ h.failed);
       content = content ∙ h.content;
-      listed = c.verdict_of-verdict.ensures.listed ∙ h.listed;
+      stays = c.verdict_of-verdict.ensures.stays ∙ h.stays;
       vouched = c.verdict_of-verdict.ensures.same ∙ h.vouched;
     }
 
@@ -63,7 +62,7 @@ returns-clause-judged g c =
     read_on g.F.Seek.stream_position g.F.Read.remaining c.args.file.now.file c.loop-rooms.file.file
     c.verdict_of.new.file.failed c.verdict_of.new.content
     (λ (asked : Asked → Bool) before octets. ChecksStream (facts_of g.S.Source.tells g.S.Source.rest g.S.Source.failures)
-    (terms_of c.args.policy.now c.args.hashed.now asked) octets before c.verdict_of.new.content)
+    (terms_for c.args.checker.now asked) octets before c.verdict_of.new.content)
     c.args.limit
     (record { asked = λ q. is_among c.args.answers.now q; content = c.args.content.now; failures = c.args.file.now.failed })
     (record { asked = λ q. is_among c.loop-rooms.answers q; content = c.loop-rooms.content; failures = c.loop-rooms.file.failed })
@@ -71,13 +70,13 @@ returns-clause-judged g c =
     (λ i. record { asked = h.vouched i; content = h.content i; failures = h.failed i })
     (subst (λ (n : ℕ). OfReading g.F.Seek.stream_position g.F.Read.remaining
     (λ octets. ChecksStream (facts_of g.S.Source.tells g.S.Source.rest g.S.Source.failures)
-    (terms_of c.args.policy.now c.args.hashed.now (λ q. is_among c.loop-rooms.answers q)) octets c.loop-rooms.content c.verdict_of.new.content)
+    (terms_for c.args.checker.now (λ q. is_among c.loop-rooms.answers q)) octets c.loop-rooms.content c.verdict_of.new.content)
     c.loop-rooms.file.file n c.loop-rooms.file.failed c.verdict_of.new.file.failed c.loop-rooms.content c.verdict_of.new.content c.verdict_of.result)
-    room (subst (λ (es : List EntryValue). OfReading g.F.Seek.stream_position g.F.Read.remaining
+    room (subst (λ (k : CheckerValue). OfReading g.F.Seek.stream_position g.F.Read.remaining
     (λ octets. ChecksStream (facts_of g.S.Source.tells g.S.Source.rest g.S.Source.failures)
-    (terms_of c.args.policy.now es (λ q. is_among c.loop-rooms.answers q)) octets c.loop-rooms.content c.verdict_of.new.content)
+    (terms_for k (λ q. is_among c.loop-rooms.answers q)) octets c.loop-rooms.content c.verdict_of.new.content)
     c.loop-rooms.file.file (length c.as_mut_slice-2.result.now) c.loop-rooms.file.failed c.verdict_of.new.file.failed
-    c.loop-rooms.content c.verdict_of.new.content c.verdict_of.result) h.listed c.verdict_of.ensures.judged))
+    c.loop-rooms.content c.verdict_of.new.content c.verdict_of.result) h.stays c.verdict_of.ensures.judged))
 
 pub returns-then-not-is_too_long-clause-same : goal.returns-then-not-is_too_long-clause-same
 returns-then-not-is_too_long-clause-same g c = c.verdict_of-verdict.ensures.same ∙ c.loop-rooms.invariant.vouched
@@ -88,11 +87,11 @@ returns-in-Err-clause-same g c = c.verdict_of-verdict.ensures.same ∙ c.loop-ro
 pub returns-clause-same : goal.returns-clause-same
 returns-clause-same g c = c.verdict_of.ensures.same ∙ c.loop-rooms.invariant.vouched
 
-pub returns-then-not-is_too_long-clause-listed : goal.returns-then-not-is_too_long-clause-listed
-returns-then-not-is_too_long-clause-listed g c = c.verdict_of-verdict.ensures.listed ∙ c.loop-rooms.invariant.listed
+pub returns-then-not-is_too_long-clause-stays : goal.returns-then-not-is_too_long-clause-stays
+returns-then-not-is_too_long-clause-stays g c = c.verdict_of-verdict.ensures.stays ∙ c.loop-rooms.invariant.stays
 
-pub returns-in-Err-clause-listed : goal.returns-in-Err-clause-listed
-returns-in-Err-clause-listed g c = c.verdict_of-verdict.ensures.listed ∙ c.loop-rooms.invariant.listed
+pub returns-in-Err-clause-stays : goal.returns-in-Err-clause-stays
+returns-in-Err-clause-stays g c = c.verdict_of-verdict.ensures.stays ∙ c.loop-rooms.invariant.stays
 
-pub returns-clause-listed : goal.returns-clause-listed
-returns-clause-listed g c = c.verdict_of.ensures.listed ∙ c.loop-rooms.invariant.listed
+pub returns-clause-stays : goal.returns-clause-stays
+returns-clause-stays g c = c.verdict_of.ensures.stays ∙ c.loop-rooms.invariant.stays

@@ -10,7 +10,7 @@ invariant-loop-rooms g l = record {
   failed : l.file.failed ≡ l.fn.file.failed;
   within : l.rooms.step ≤ l.limit;
   content : l.content ≡ l.fn.content;
-  listed : l.hashed ≡ l.fn.hashed;
+  stays : l.checker ≡ l.fn.checker;
   vouched : ◌≡◌ {A = Asked → Bool} (λ q. is_among l.answers q) (λ q. is_among l.fn.answers q);
 }
 

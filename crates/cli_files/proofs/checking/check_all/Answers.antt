@@ -1,8 +1,8 @@
 use Rattle.std.proofs.Common.{◌+◌, ℕ, List, [], get_or, refl, sym, subst, inl, inr, arith}
 use Rattle.std.specs.Borrow.{Bor}
 use Rattle.std.proofs.lemmas.Result.{err_from_is_err_and}
-use Rattle.trust_lists.specs.Entries.{EntryValue}
-use Rattle.cli_commands.specs.Lists.{IsTrustOf}
+use Rattle.check_verdict.specs.Checkers.{CheckerValue}
+use Rattle.cli_commands.specs.Lists.{IsCheckerOf}
 use Rattle.cli_files.specs.Lines.{IsLine, none, check_of}
 use Rattle.cli_files.specs.Names.{line_of}
 use Rattle.cli_files.proofs.Taking.{appends_none}
@@ -17,7 +17,8 @@ returns-in_err-answers-clause-refused g c =
 pub loop-path-init : goal.loop-path-init
 loop-path-init g c = record {
   told = ([], none, appends_none (g.O.Write.contents c.args.out.now));
-  trusted = subst (λ (es : List EntryValue). IsTrustOf g.R.File.Read.remaining es) (sym c.of-hashed.ensures) c.in_ok-trust.ensures.found;
+  goes_by = subst (λ (k : CheckerValue). IsCheckerOf g.R.File.Read.remaining c.args.each.now.sha1 k) (sym c.of-checker.ensures)
+      (c.in_ok-trust.ensures.found, refl);
   answers = c.in_ok-answers.ensures.found;
 }
 
@@ -37,14 +38,14 @@ loop-path-preserved g c =
               text,
               said_by (λ (v : _). v.items) g.R.File.Read.remaining (check_of c.args.each.now path) c.check_by-said.result text
                   c.in_ok-put_said.field-0 said
-                  (c.check_by-said.ensures.accepted h.trusted h.answers)
-                  (c.check_by-said.ensures.refused h.trusted h.answers),
+                  (c.check_by-said.ensures.accepted h.goes_by h.answers)
+                  (c.check_by-said.ensures.refused h.goes_by h.answers),
               refl,
             );
             takes = took;
             worse = c.worse-worst.ensures;
           });
-      trusted = subst (λ (es : List EntryValue). IsTrustOf g.R.File.Read.remaining es) (sym c.check_by-said.ensures.listed) h.trusted;
+      goes_by = subst (λ (k : CheckerValue). IsCheckerOf g.R.File.Read.remaining c.args.each.now.sha1 k) (sym c.check_by-said.ensures.stays) h.goes_by;
       answers = still_answers g.R.File.Read.remaining _ _ c.check_by-said.ensures.same h.answers;
     }
 
@@ -61,8 +62,8 @@ returns-in_err-put_said-clause-refused g c =
           (g.O.Write.contents c.put_said.new.out) c.loop-path.worst ends (line_of path.now text) c.loop-path-test.true h.told (
             text,
             said_by (λ (v : _). v.items) g.R.File.Read.remaining (check_of c.args.each.now path) c.check_by-said.result text ends said
-                (c.check_by-said.ensures.accepted h.trusted h.answers)
-                (c.check_by-said.ensures.refused h.trusted h.answers),
+                (c.check_by-said.ensures.accepted h.goes_by h.answers)
+                (c.check_by-said.ensures.refused h.goes_by h.answers),
             refl,
           ) begun,
     ))

@@ -1,6 +1,6 @@
 use Rattle.std.proofs.Common.{ℕ, List, take}
 use Rattle.std.specs.Io.KnownBytes.{Appends}
-use Rattle.cli_commands.specs.Lists.{IsAnswersOf, IsTrustOf}
+use Rattle.cli_commands.specs.Lists.{IsAnswersOf, IsCheckerOf}
 use Rattle.cli_files.specs.Lines.{AreTold, IsLine, check_of}
 use Rattle.cli_files.proofs.checking.check_all.Given as goal
 
@@ -9,6 +9,6 @@ abbrev pub invariant-loop-path : goal.invariant-loop-path
 invariant-loop-path g l = record {
   told : (text : List ℕ) × AreTold (IsLine g.R.File.Read.remaining (check_of l.each)) (take l.path-index l.paths) text l.worst
       × Appends (g.O.Write.contents l.fn.out) (g.O.Write.contents l.out) text;
-  trusted : IsTrustOf g.R.File.Read.remaining l.hashed;
+  goes_by : IsCheckerOf g.R.File.Read.remaining l.each.sha1 l.checker;
   answers : IsAnswersOf g.R.File.Read.remaining l.answers;
 }

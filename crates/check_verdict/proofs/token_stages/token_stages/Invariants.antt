@@ -7,7 +7,7 @@ use Rattle.check_verdict.specs.Filters.{Best}
 use Rattle.check_verdict.specs.Stages.{passed_for_token}
 use Rattle.check_verdict.specs.Passing.{Terms}
 use Rattle.check_verdict.specs.TokenRules.{LeftForToken, IsInPeriod}
-use Rattle.check_verdict.proofs.authorities.token_stages.Given as goal
+use Rattle.check_verdict.proofs.token_stages.token_stages.Given as goal
 
 -- the best of the entries so far stops there, and the verifier answered each question
 abbrev pub invariant-loop-at : goal.invariant-loop-at
@@ -15,12 +15,11 @@ invariant-loop-at g l = record {
   within : l.from ≤ length l.trust;
   so_far : (t : Terms) → t.vouches ≡ g.V.Verifier.vouches l.initial.verifier
       → Best (LeftForToken t l.claim) 5 (take l.from l.trust) (passed_for_token l.best);
-  only : (test : Asked → Bool) → ((e : EntryValue) → Contains l.trust e → IsInPeriod l.claim e
+  only : (test : Asked → Bool) → ((e : EntryValue) → Contains l.initial.checker.trust e → IsInPeriod l.claim e
       → test (asked e.certificate l.claim.signer l.claim.attributes) ≡ true) → g.V.Verifier.asked_only test l.initial.verifier l.verifier;
   same : g.V.Verifier.vouches l.verifier ≡ g.V.Verifier.vouches l.initial.verifier;
   count : g.V.Verifier.failures l.verifier ≡ g.V.Verifier.failures l.initial.verifier;
-  kept : l.recent ≡ l.initial.recent;
-  listed : l.hashed ≡ l.initial.hashed;
+  stays : l.checker ≡ l.initial.checker;
 }
 
 abbrev pub decreases-loop-at : goal.decreases-loop-at

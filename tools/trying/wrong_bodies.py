@@ -37,10 +37,10 @@ CALLS = {
     "types: signing_certificate": "ess_types",
     "types: stamp": "tsp_types",
     "rules: names": "check_names cert_types cms_types",
-    "rules: answers": "tsp_responses tsp_types",
+    "rules: answers": "tsp_requester tsp_types",
     "rules: signer": "check_fit cms_types",
     "rules: compare": "cms_compare",
-    "rules: attach": "tsp_attaching",
+    "rules: attach": "tsp_requester",
     "rules: trust vouches rewritten": "trust_lists der_time",
     "rules: token": "check_verdict trust_lists der_time",
     "rules: questions": "check_questions trust_lists",
@@ -74,26 +74,28 @@ check_fit/sha1_without_the_policy              rules/signers               signe
 trust_lists/roles_exchanged                    rules/lists                 trust
 
 cms_compare/tails_by_length                    rules/compared              compare
-check_names/issuer_serial_without_its_serial   rules/names                 names
-tsp_attaching/content_in_place_of_the_signature rules/attached             attach
+tsp_requester/content_in_place_of_the_signature rules/attached             attach
 list_answers/answers_match_four_fields         rules/lists                 vouches
 lines_shown/signers_counted_from_0             der/shown                   signed
 
-tsp_responses/token_without_the_nonce_accepted rules/answers               answers
+tsp_requester/token_without_the_nonce_accepted rules/answers               answers
 check_verdict/token_imprint_not_compared       rules/tokens                token
 cms_compare/second_told_as_first               rules/compared              compare
 lines_shown/subject_for_issuer                 der/shown                   certificate
-tsp_attaching/unsigned_attributes_dropped      rules/attached              attach
 
 cms_stream/opened_drops_the_first_signer       files/passes                found
-tsp_responses/imprint_by_its_octets_alone      rules/answers               answers
+tsp_requester/imprint_by_its_octets_alone      rules/answers               answers
 cms_compare/attributes_before_content          rules/compared              compare
 lines_shown/digest_for_signature               der/shown                   signed
-tsp_attaching/name_of_another_rule             rules/attached              attach
 
 check_questions/token_questions_left_out       rules/questions             questions
 lines_report/token_and_signer_exchanged        rules/refusals              report
 cms_compare/same_by_length                     rules/compared              compare
+tsp_requester/unsigned_attributes_dropped      rules/attached              attach
+
+check_names/issuer_serial_without_its_serial   rules/names                 names
+
+tsp_requester/name_of_another_rule             rules/attached              attach
 
 check_stream/half_of_each_piece_hashed         files/check                 check
 

@@ -4,9 +4,9 @@ use Rattle.std.specs.Prelude.{OnOk}
 use Rattle.cli_tasks.specs.declared.task.AttachWords.{AttachWords}
 use Rattle.cli_failures.specs.declared.failure.Failure.{Failure}
 use Rattle.cli_failures.specs.Files.{IsHeld}
-use Rattle.tsp_attaching.specs.Attaching.{IsAnswer}
-use Rattle.tsp_attaching.specs.declared.fault.AttachFault.{AttachFault}
-use Rattle.tsp_attaching.specs.declared.fault.AttachFault.TheVariants as rule
+use Rattle.tsp_requester.specs.Attaching.{IsAnswer}
+use Rattle.tsp_requester.specs.declared.fault.AttachFault.{AttachFault}
+use Rattle.tsp_requester.specs.declared.fault.AttachFault.TheVariants as rule
 use Rattle.cli_commands.specs.Attaching.{AttachesNot, IsAttached, IsNewFile, TellsNotAttached, LacksMemoryToAttach, failure_of_attaching}
 use Rattle.cli_commands.specs.Matching.{IsWritten}
 

@@ -2,9 +2,9 @@
 use Rattle.std.specs.Prelude.{◌≡◌, ◌⊎◌, ℕ, List, Option, codes}
 use Rattle.cms_types.specs.declared.fault.CmsFault.TheVariants as cms
 use Rattle.cms_types.specs.SignedDataValue.{SignedDataValue, SignedContent, encoding}
-use Rattle.tsp_attaching.specs.Attaching.{Attaches, Refuses}
-use Rattle.tsp_attaching.specs.declared.fault.AttachFault.{AttachFault}
-use Rattle.tsp_attaching.specs.declared.fault.AttachFault.TheVariants as rule
+use Rattle.tsp_requester.specs.Attaching.{Attaches, Refuses}
+use Rattle.tsp_requester.specs.declared.fault.AttachFault.{AttachFault}
+use Rattle.tsp_requester.specs.declared.fault.AttachFault.TheVariants as rule
 use Rattle.cli_failures.specs.declared.failure.Failure.{Failure}
 use Rattle.cli_failures.specs.declared.failure.Failure.TheVariants as failure
 use Rattle.cli_tasks.specs.declared.task.AttachWords.{AttachWords}

@@ -6,10 +6,10 @@ use Rattle.trust_lists.specs.declared.trust_fault.TrustFault.{TrustFault}
 use Rattle.list_answers.specs.declared.answers_fault.AnswersFault.{AnswersFault}
 use Rattle.list_answers.specs.FaultTexts.{answers_fault_text}
 use Rattle.trust_lists.specs.FaultTexts.{trust_fault_text}
-use Rattle.tsp_responses.specs.MatchFaultTexts.{match_fault_text}
-use Rattle.tsp_responses.specs.declared.rules.MatchFault.{MatchFault}
-use Rattle.tsp_attaching.specs.declared.fault.AttachFault.{AttachFault}
-use Rattle.tsp_attaching.specs.FaultTexts.{attach_fault_text}
+use Rattle.tsp_requester.specs.MatchFaultTexts.{match_fault_text}
+use Rattle.tsp_requester.specs.declared.rules.MatchFault.{MatchFault}
+use Rattle.tsp_requester.specs.declared.fault.AttachFault.{AttachFault}
+use Rattle.tsp_requester.specs.AttachFaultTexts.{attach_fault_text}
 use Rattle.cms_compare.specs.declared.fault.CompareFault.{CompareFault}
 use Rattle.cms_compare.specs.FaultTexts.{compare_fault_text}
 use Rattle.cli_failures.specs.declared.failure.Message.{Message}

@@ -7,7 +7,7 @@ use Rattle.cms_types.specs.declared.fault.CmsFault.{CmsFault}
 use Rattle.cms_types.specs.declared.fault.CmsFault.TheVariants as cms
 use Rattle.der_core.specs.declared.fault.Fault.{Fault}
 use Rattle.der_core.specs.FaultTexts.{fault_text}
-use Rattle.tsp_responses.specs.MatchFaultTexts.{match_fault_text}
+use Rattle.tsp_requester.specs.MatchFaultTexts.{match_fault_text}
 use Rattle.trust_lists.specs.declared.trust_fault.TrustFault.{TrustFault}
 use Rattle.trust_lists.specs.declared.trust_fault.TrustRule.{TrustRule}
 use Rattle.trust_lists.specs.declared.trust_fault.TrustRule.TheVariants as trust
@@ -23,7 +23,7 @@ use Rattle.check_fit.specs.declared.rules.FileRule.TheVariants as file
 use Rattle.check_fit.specs.declared.rules.Refused.{Refused}
 use Rattle.check_fit.specs.declared.rules.Refused.TheVariants as refused
 use Rattle.check_fit.specs.RuleTexts.{refused_text}
-use Rattle.tsp_attaching.specs.FaultTexts.{attach_fault_text}
+use Rattle.tsp_requester.specs.AttachFaultTexts.{attach_fault_text}
 use Rattle.cms_compare.specs.declared.fault.CompareRule.{CompareRule}
 use Rattle.cms_compare.specs.declared.fault.CompareRule.TheVariants as compare
 use Rattle.cms_compare.specs.FaultTexts.{compare_fault_text}

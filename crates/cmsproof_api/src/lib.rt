@@ -37,6 +37,5 @@ pub use list_answers::{
     Verifier,
 };
 pub use trust_lists::{Entry, Role, Trust, TrustFault, TrustRule};
-pub use tsp_attaching::{AttachFault, attach};
-pub use tsp_responses::{MatchFault, answers};
+pub use tsp_requester::{AttachFault, MatchFault, answers, attach};
 pub use tsp_types::{MakeFault, Request, Response, TstInfo};

@@ -1,5 +1,5 @@
 ghost use Rattle.cms_types.specs.SignedDataValue.{SignedDataValue, SignedContent, encoding};
-ghost use Rattle.tsp_attaching.specs.Attaching.{Attaches};
+ghost use Rattle.tsp_requester.specs.Attaching.{Attaches};
 ghost use Rattle.library_calls.specs.Requests.{IsGiven, IsHashed, IsRequested, IsSignatureRequested};
 ghost use Rattle.library_calls.specs.Matching.{IsTokenOf};
 ghost use Rattle.library_calls.specs.Attaching.{IsAttaching, IsMadeIfMemory};

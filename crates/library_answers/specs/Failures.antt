@@ -7,10 +7,10 @@ use Rattle.cms_compare.specs.declared.fault.CompareRule.{CompareRule}
 use Rattle.cms_compare.specs.declared.fault.CompareRule.TheVariants as compare
 use Rattle.cms_compare.specs.declared.fault.Which.{Which}
 use Rattle.cms_compare.specs.declared.fault.Which.TheVariants as which
-use Rattle.tsp_responses.specs.declared.rules.MatchFault.{MatchFault}
-use Rattle.tsp_responses.specs.declared.rules.MatchFault.TheVariants as match
-use Rattle.tsp_attaching.specs.declared.fault.AttachFault.{AttachFault}
-use Rattle.tsp_attaching.specs.declared.fault.AttachFault.TheVariants as attach
+use Rattle.tsp_requester.specs.declared.rules.MatchFault.{MatchFault}
+use Rattle.tsp_requester.specs.declared.rules.MatchFault.TheVariants as match
+use Rattle.tsp_requester.specs.declared.fault.AttachFault.{AttachFault}
+use Rattle.tsp_requester.specs.declared.fault.AttachFault.TheVariants as attach
 use Rattle.cli_failures.specs.declared.failure.Failure.{Failure}
 use Rattle.cli_failures.specs.declared.failure.Failure.TheVariants as failure
 use Rattle.cli_failures.specs.declared.failure.Message.{Message}

@@ -16,8 +16,7 @@ use cms_compare::{CompareFault, CompareRule, Which};
 use cms_types::CmsFault;
 use der_core::Fault;
 use std::alloc::Global;
-use tsp_attaching::AttachFault;
-use tsp_responses::MatchFault;
+use tsp_requester::{AttachFault, MatchFault};
 
 /// Signers sign different octets.
 const DIFFERENT: u32 = 8;

@@ -1,8 +1,8 @@
 -- What is told of octets, a line or a failure is told of what they are.
 use Rattle.std.proofs.Common.{◌≡◌, ℕ, List, Result, Err, refl, subst}
-use Rattle.tsp_attaching.specs.Attaching.{Puts}
-use Rattle.tsp_attaching.specs.declared.fault.AttachFault.{AttachFault}
-use Rattle.tsp_attaching.specs.declared.fault.AttachFault.TheVariants as attach
+use Rattle.tsp_requester.specs.Attaching.{Puts}
+use Rattle.tsp_requester.specs.declared.fault.AttachFault.{AttachFault}
+use Rattle.tsp_requester.specs.declared.fault.AttachFault.TheVariants as attach
 use Rattle.cli_failures.specs.declared.failure.Failure.{Failure}
 use Rattle.library_answers.specs.declared.answer.Answer.{Answer}
 use Rattle.library_answers.specs.Failures.{IsLine, IsMade, IsUnmade}

@@ -5,7 +5,7 @@ use Rattle.der_core.specs.Grammar as grammar
 use Rattle.der_grammar.specs.Table as table
 use Rattle.tsp_types.specs.RequestValue.{RequestValue, EncodesRequest}
 use Rattle.tsp_types.specs.ResponseValue.{ResponseValue, EncodesResponse}
-use Rattle.tsp_responses.specs.Answering.{Answering, MatchFails}
+use Rattle.tsp_requester.specs.Answering.{Answering, MatchFails}
 use Rattle.cli_failures.specs.declared.failure.Failure.{Failure}
 use Rattle.cli_failures.specs.declared.failure.Failure.TheVariants as failure
 use Rattle.cli_failures.specs.declared.failure.Message.TheVariants as message

@@ -12,7 +12,7 @@ use Rattle.digests.specs.Messages.{digest_of}
 use Rattle.cms_types.specs.declared.fault.CmsFault.TheVariants as cms
 use Rattle.cms_types.specs.SignerValue.{SignerValue}
 use Rattle.cms_types.specs.SignedDataValue.{SignedDataValue, EncodesSignedData, EncodesAnotherType}
-use Rattle.tsp_attaching.specs.declared.fault.AttachFault.TheVariants as rule
+use Rattle.tsp_requester.specs.declared.fault.AttachFault.TheVariants as rule
 use Rattle.cli_failures.specs.declared.failure.Failure.{Failure}
 use Rattle.cli_failures.specs.declared.failure.Failure.TheVariants as failure
 

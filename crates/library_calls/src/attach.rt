@@ -1,6 +1,6 @@
 ghost use Rattle.std.specs.Prelude.{◌≡◌, IfOk, IfErr, MatchResult};
 ghost use Rattle.cms_types.specs.SignedDataValue.{SignedDataValue, SignedContent, encoding};
-ghost use Rattle.tsp_attaching.specs.Attaching.{Attaches};
+ghost use Rattle.tsp_requester.specs.Attaching.{Attaches};
 ghost use Rattle.library_calls.specs.Attaching.{failure_of_attach, IsUnattached, IsAttaching, IsMadeIfMemory};
 
 use cli_failures::Failure;
@@ -8,7 +8,7 @@ use cms_types::CmsFault;
 use devices::FromWrite;
 use library_answers::{Answer, tell_made, tell_unmade};
 use std::alloc::Global;
-use tsp_attaching::{AttachFault, attach};
+use tsp_requester::{AttachFault, attach};
 
 /// The octets of a file with a token attached to its signer of this number. Writing to a vector fails only if memory is
 /// refused.

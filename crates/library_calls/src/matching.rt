@@ -6,7 +6,7 @@ use cli_failures::{Failure, Message};
 use der_core::ReadFault;
 use library_answers::{Answer, DONE, tell_failure, tell_line, tell_made, tell_unmade};
 use std::alloc::Global;
-use tsp_responses::answers;
+use tsp_requester::answers;
 use tsp_types::{Request, Response};
 
 /// A response answers a request.

@@ -4,7 +4,7 @@ ghost use Rattle.library_calls.specs.Signatures.{HasNoSigner, IsSignatureDigest}
 use cli_failures::Failure;
 use cms_types::{CmsFault, SignedData};
 use digests::{Alg, Digest, digest};
-use tsp_attaching::AttachFault;
+use tsp_requester::AttachFault;
 
 /// The digest of the signature of the signer of this number, from 1, in the SignedData that the octets of a file
 /// encode.

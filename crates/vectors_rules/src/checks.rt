@@ -10,7 +10,7 @@ use cms_types::SignedData;
 use der_time::generalized_text;
 use devices::{Failing, FromRead, Pieces, Slice, Source};
 use trust_lists::FusedVerifier;
-use tsp_responses::answers;
+use tsp_requester::answers;
 use tsp_types::{Request, Response};
 use vectors::{Bad, Row, needed};
 

@@ -5,7 +5,7 @@ use crate::refusals::refused_of;
 use check_questions::questions;
 use devices::{FromWrite, Limited, Sink};
 use lines_report::report;
-use tsp_attaching::attach;
+use tsp_requester::attach;
 use vectors::{Bad, Row};
 
 /// Does the call of a row, and gives the line of its fault, empty if there is none.

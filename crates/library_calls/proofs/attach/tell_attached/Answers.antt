@@ -1,6 +1,6 @@
 use Rattle.std.proofs.Common.{inl, inr, ap, ◌∙◌}
 use Rattle.cli_failures.specs.declared.failure.Failure.{Failure}
-use Rattle.tsp_attaching.specs.declared.fault.AttachFault.{AttachFault}
+use Rattle.tsp_requester.specs.declared.fault.AttachFault.{AttachFault}
 use Rattle.library_calls.specs.Attaching.{failure_of_attach}
 use Rattle.library_answers.specs.Failures.{failure_status}
 use Rattle.library_calls.proofs.Told.{made_as, unmade_as}

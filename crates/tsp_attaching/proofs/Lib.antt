@@ -1,9 +1,0 @@
-mod Puts
-mod Openings
-mod Cutting
-mod New
-mod Imprint
-mod Answered
-mod OneRule
-mod Rows
-mod ReadBack

@@ -1,0 +1,11 @@
+pub mod Answering
+pub mod AnsweringRows
+pub mod AnsweringLaws
+pub mod MatchFaultTexts
+pub mod TokenParts
+pub mod Attached
+pub mod Attaching
+pub mod Pieces
+pub mod AttachFaultTexts
+pub mod AttachingLaws
+pub mod AttachingRows

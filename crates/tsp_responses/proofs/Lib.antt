@@ -1,3 +1,0 @@
-pub mod AnsweringLaw
-pub mod Deciding
-pub mod Rows

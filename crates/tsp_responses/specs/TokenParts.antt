@@ -1,6 +1,0 @@
--- The parts of a token as values.
-use Rattle.tsp_responses.specs.declared.time_stamp.TimeStamp.{TimeStamp}
-use Rattle.tsp_responses.specs.Answering.{TokenValue}
-
-abbrev pub token_value : TimeStamp → TokenValue
-token_value t = record { signed = t.signed; signer = t.signer; stamp = t.stamp }

@@ -83,9 +83,8 @@ certificate_named_v2 = hex "3026 3024 3022 0420 b5bda2dd 49f9ac5c 960f22fe 79a6c
 -- the signed attributes of the token: content type, digest of the time-stamp, and the identifier of the certificate
 -- (28, 49 and 57)
 abbrev pub token_attributes : List ℕ
-token_attributes = hex "301a 0609 2a864886f70d010903 310d 060b 2a864886f70d0109100104"
-    ++ hex "302f 0609 2a864886f70d010904 3122 0420"
-    ++ hex "cc57e49e 272c28d8 f16dfb76 5790c571 0f2a0ff1 8d9eb348 f750caff 6e690cd3"
+token_attributes = hex "301a 0609 2a864886f70d010903 310d 060b 2a864886f70d0109100104" ++
+    hex "302f 0609 2a864886f70d010904 3122 0420 cc57e49e 272c28d8 f16dfb76 5790c571 0f2a0ff1 8d9eb348 f750caff 6e690cd3"
     ++ hex "3037 060b 2a864886f70d010910022f 3128" ++ certificate_named_v2
 
 -- the token: a SignedData over the time-stamp, signed by the authority (331)

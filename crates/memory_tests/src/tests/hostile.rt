@@ -1,5 +1,5 @@
-//! Calls that allocate, or write into memory that grows. `rt try --test --fail-alloc N` refuses the Nth request for memory:
-//! then the call reports it, and the next call gives the whole answer.
+//! Calls that allocate, or write into memory that grows. `rt try --test --fail-alloc N` refuses the Nth request for
+//! memory: then the call reports it, and the next call gives the whole answer.
 mod files;
 
 use cmsproof_api::{
@@ -41,7 +41,8 @@ fn asked(alloc: Global, file: &[u8], trust: &Trust) -> Result<Vec<u8>, StreamQue
     Ok(sink.into_inner())
 }
 
-/// Whether the lists are read, the stamped file is accepted by them at 2024-01-15 10:00:00, and its questions are those answered.
+/// Whether the lists are read, the stamped file is accepted by them at 2024-01-15 10:00:00, and its questions are those
+/// answered.
 fn lists_are_read(alloc: Global) -> bool {
     let trust = given!(
         Trust::read(alloc, TRUST.as_bytes()).map_err(|fault| fault.rule),

@@ -1,4 +1,4 @@
-use Rattle.std.proofs.Common.{◌≡◌, ◌*◌, ◌/◌, ◌%◌, ◌^◌, [], length, length-take, arith}
+use Rattle.std.proofs.Common.{◌≡◌, ◌%◌, [], length, length-take, arith}
 use Rattle.sha2.specs.Sha512.{hash_after}
 use Rattle.sha2_blocks.proofs.LongPieces.{each_after, finished, held_octets, held_total, kept_after, kept_then}
 use Rattle.sha2_blocks.proofs.long_hashers.LongHasher.finish.Goals as goal

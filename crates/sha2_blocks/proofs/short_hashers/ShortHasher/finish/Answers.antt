@@ -1,4 +1,4 @@
-use Rattle.std.proofs.Common.{◌≡◌, ◌*◌, ◌/◌, ◌%◌, ◌^◌, [], length, length-take, arith}
+use Rattle.std.proofs.Common.{◌≡◌, ◌%◌, [], length, length-take, arith}
 use Rattle.sha2.specs.Sha256.{hash_after}
 use Rattle.sha2_blocks.proofs.ShortPieces.{each_after, finished, held_octets, held_total, kept_after, kept_then}
 use Rattle.sha2_blocks.proofs.short_hashers.ShortHasher.finish.Goals as goal

@@ -98,6 +98,9 @@ signer_octets s h =
       each_token = token_octets s.unsigned_attributes (optional_values 0xa1 s.unsigned_attributes p6);
     }
 
+pub signers_octets : (ss : List SignerValue) → IsBytes (signers_parts ss) → AllByRecursion SignerOctets ss
+signers_octets ss h = all_map (λ s. IsBytes (signer_element s)) SignerOctets ss signer_octets (each signer_element ss h)
+
 -- and a SignedData's content and certificates
 pub record SignedOctets (v : SignedDataValue) : Type 0 where
   pub content : IfSome v.encapsulated.content IsBytes
@@ -131,8 +134,7 @@ signed_octets bytes v encodes h =
       content = content_octets v.encapsulated.content
           (back (el 0x06 v.encapsulated.content_type) (content_part v.encapsulated.content) encapsulated);
       certificates = choices_octets 0xa0 v.certificates (front (optional_choices 0xa0 v.certificates) _ p3);
-      signers = all_map (λ s. IsBytes (signer_element s)) SignerOctets v.signers signer_octets
-          (each signer_element v.signers (body 0x31 (signers_parts v.signers) p5));
+      signers = signers_octets v.signers (body 0x31 (signers_parts v.signers) p5);
     }
 
 -- ---- the one value of an attribute

@@ -5,7 +5,7 @@ use Rattle.std.specs.List.{AllByRecursion}
 use Rattle.der_core.specs.Element.{IsBytes}
 use Rattle.cms_types.specs.AttributeValue.{AttributeValue}
 use Rattle.cms_types.specs.SignerValue.{SignerValue}
-use Rattle.cms_types.specs.SignedDataValue.{SignedDataValue}
+use Rattle.cms_types.specs.SignedDataValue.{SignedDataValue, signers_parts}
 use Rattle.cms_types.specs.declared.fault.CmsFault.{CmsFault}
 use Rattle.der_core.specs.Lists.{only}
 use Rattle.check_fit.specs.FileFitting.{IsReading}
@@ -18,7 +18,7 @@ use Rattle.check_verdict.specs.Trusted.{asked}
 use Rattle.check_verdict.specs.Verdicts.{tokens}
 use Rattle.check_names.proofs.Deciding.{Decided}
 use Rattle.check_verdict.proofs.Deciding.{signing, stamping, matches}
-use Rattle.check_fit.proofs.Octets.{SignerOctets, signed_octets}
+use Rattle.check_fit.proofs.Octets.{SignerOctets, signed_octets, signers_octets}
 use Rattle.check_fit.proofs.Readings.{one_value}
 use Rattle.check_fit.proofs.Readings.{reading_of}
 use Rattle.check_questions.specs.FileQuestions.{Joined, InOrder, IsUnder, OfEntry, OfEntries, OfToken, OfSigner, AreQuestions}
@@ -118,6 +118,11 @@ some_of_signer trust s octets = go s.signed_attributes
         let own = some_of_entries Signer s trust in
         let stamps = some_list IsBytes (OfToken trust) (some_of_token trust) (tokens s) octets.each_token in
         (_, record { first = own.0; is_first = own.1; others = stamps.0; are_others = stamps.1; is = refl })
+
+-- signers that were read have a list, whatever file they are of
+pub some_of_signers : (trust : List EntryValue) (ss : List SignerValue) → IsBytes (signers_parts ss)
+    → (qs : List Asked) × AreQuestions trust ss qs
+some_of_signers trust ss octets = some_list SignerOctets (OfSigner trust) (some_of_signer trust) ss (signers_octets ss octets)
 
 pub some_of_file : FilesHaveQuestions
 some_of_file trust file v octets encodes =

@@ -3,3 +3,4 @@ pub mod Verdicts
 pub mod StreamLaw
 pub mod Devices
 pub mod Promises
+pub mod Passes

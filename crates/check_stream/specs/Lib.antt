@@ -4,3 +4,6 @@ pub mod KeptRules
 pub mod JudgedKept
 pub mod DeviceVerdicts
 pub mod Promises
+pub mod StreamQuestions
+pub mod PassSteps
+pub mod FaultTexts

@@ -69,9 +69,9 @@ fn verdict_of<F: Source, S: Source, V: Verifier>(
     judge_pass(pass, hashers, content, checker, verifier)
 }
 
-/// The verdict of `check_stream`, with what serves for one file after another: the window, and what a check goes by. What
-/// they keep of earlier files changes no verdict: the window is empty at the front of each file, and what a `Checker`
-/// keeps is of its own list.
+/// The verdict of `check_stream`, with what serves for one file after another: the window, and what a check goes by.
+/// What they keep of earlier files changes no verdict: the window is empty at the front of each file, and what a
+/// `Checker` keeps is of its own list.
 ///
 /// A content in the file is hashed by these algorithms only. `None` only if a signer needs its digest by another
 /// algorithm: then nothing was judged, and a caller that can read the file again may do so with more algorithms. So the

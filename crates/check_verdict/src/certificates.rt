@@ -41,8 +41,8 @@ impl Known for Authorities {
     ghost known = { IsStampingOnly };
 }
 
-/// The last certificates that were kept of a role, at most four, each by the number of its entry in a trust list: that of
-/// an entry for many signers is read once. What is kept changes no answer.
+/// The last certificates that were kept of a role, at most four, each by the number of its entry in a trust list: that
+/// of an entry for many signers is read once. What is kept changes no answer.
 ///
 /// Contracts see the entries of the list, in its order.
 #[derive(Debug, Drop)]

@@ -19,8 +19,8 @@ struct KeptDigest {
     digest: Digest,
 }
 
-/// A trust list, and the digests of certificates of its entries that were computed last, at most eight, each kept by the
-/// number of its entry: a certificate that is named again and again is hashed once. What is kept changes no answer.
+/// A trust list, and the digests of certificates of its entries that were computed last, at most eight, each kept by
+/// the number of its entry: a certificate that is named again and again is hashed once. What is kept changes no answer.
 ///
 /// Contracts see the entries of the list, in its order.
 #[derive(Debug, Drop)]

@@ -23,8 +23,8 @@ pub(crate) fn judge_token<V: Verifier>(
         IsTokenVerdict terms token.now stamped.now result }
     ensures complete { let terms = terms_for checker.old (V.vouches verifier.old) in
         (m : ℕ) → Passes terms token.now stamped.now m → PassesOrDevice m result }
-    ensures only { (test : Asked → Bool) → ((q : Asked) → IsAskedOfToken checker.old.policy checker.old.trust stamped.now
-        token.now q → test q ≡ true) → V.asked_only test verifier.old verifier.new }
+    ensures only { (test : Asked → Bool) → ((q : Asked) → IsAskedOfToken checker.old.policy checker.old.trust
+        stamped.now token.now q → test q ≡ true) → V.asked_only test verifier.old verifier.new }
     ensures same { V.vouches verifier.new ≡ V.vouches verifier.old }
     ensures count { CountsAsks result (V.failures verifier.old) (V.failures verifier.new) }
     ensures stays { checker.new ≡ checker.old }

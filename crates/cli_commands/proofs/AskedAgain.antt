@@ -4,8 +4,8 @@ use Rattle.std.specs.Io.KnownBytes.{Appends, Keeps}
 use Rattle.std.proofs.KnownBytes.{Keeps-trans}
 use Rattle.trust_lists.specs.Entries.{EntryValue}
 use Rattle.check_questions.specs.declared.fault.QuestionsFault.TheVariants as fault
-use Rattle.check_questions_stream.specs.declared.fault.StreamQuestionsFault.TheVariants as stream
-use Rattle.check_questions_stream.specs.StreamQuestions.{CountsReads}
+use Rattle.check_stream.specs.declared.fault.StreamQuestionsFault.TheVariants as stream
+use Rattle.check_stream.specs.StreamQuestions.{CountsReads}
 use Rattle.cli_commands.specs.Asking.{Attempt, IsTextFor, Takes, AsksPass}
 use Rattle.cli_commands.specs.Checking.{IfKnown}
 

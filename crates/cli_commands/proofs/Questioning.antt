@@ -2,7 +2,7 @@
 use Rattle.std.proofs.Common.{◌≡◌, ◌≢◌, ◌⊎◌, ◌∙◌, ℕ, List, Option, sym, inl, inr, ap}
 use Rattle.std.specs.Io.KnownBytes.{Appends}
 use Rattle.check_questions.specs.declared.fault.QuestionsFault.TheVariants as questions
-use Rattle.check_questions_stream.specs.declared.fault.StreamQuestionsFault.TheVariants as stream
+use Rattle.check_stream.specs.declared.fault.StreamQuestionsFault.TheVariants as stream
 use Rattle.cli_failures.specs.declared.failure.Failure.{Failure}
 use Rattle.cli_failures.specs.declared.status.Status.{Status}
 use Rattle.cli_failures.specs.declared.status.Status.TheVariants as status

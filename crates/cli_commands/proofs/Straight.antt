@@ -14,8 +14,8 @@ use Rattle.trust_lists.specs.Entries.{EntryValue}
 use Rattle.check_questions.specs.QuestionsText.{questions_text}
 use Rattle.check_questions.specs.Written.{IsUntouched, EncodesNothing}
 use Rattle.check_questions.specs.declared.fault.QuestionsFault.TheVariants as fault
-use Rattle.check_questions_stream.specs.StreamQuestions.{IsWrittenOf, IsBeforeText, IsTextOrBefore}
-use Rattle.check_questions_stream.specs.declared.fault.StreamQuestionsFault.TheVariants as stream
+use Rattle.check_stream.specs.StreamQuestions.{IsWrittenOf, IsBeforeText, IsTextOrBefore}
+use Rattle.check_stream.specs.declared.fault.StreamQuestionsFault.TheVariants as stream
 use Rattle.cli_commands.specs.Asking.{Attempt, IsTextOf, IsTextFor, Takes, IsUnasked, AsksPass}
 use Rattle.cli_commands.specs.Checking.{IfKnown}
 use Rattle.cli_commands.specs.Rereading.{IsKnown}

@@ -5,8 +5,8 @@ use Rattle.std.specs.Io.KnownBytes.{Appends}
 use Rattle.der_grammar.specs.TooLarge.{IsTooLarge}
 use Rattle.trust_lists.specs.Entries.{EntryValue}
 use Rattle.check_questions.specs.declared.fault.QuestionsFault.TheVariants as fault
-use Rattle.check_questions_stream.specs.declared.fault.StreamQuestionsFault.{StreamQuestionsFault}
-use Rattle.check_questions_stream.specs.declared.fault.StreamQuestionsFault.TheVariants as stream
+use Rattle.check_stream.specs.declared.fault.StreamQuestionsFault.{StreamQuestionsFault}
+use Rattle.check_stream.specs.declared.fault.StreamQuestionsFault.TheVariants as stream
 use Rattle.cli_failures.specs.declared.failure.Failure.{Failure}
 use Rattle.cli_tasks.specs.declared.task.QuestionsWords.{QuestionsWords}
 use Rattle.cli_commands.specs.Asking.{IsTooLong, IsUnasked, AsksPass, ShowsQuestions, AsksNot, KeepsUnlessFailed, failure_of}

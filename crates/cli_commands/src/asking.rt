@@ -1,6 +1,6 @@
 ghost use Rattle.std.specs.Prelude.{◌≡◌, ℕ, List, Err, IfErr, IfOk, OnErr, OnOk, MatchBool};
 ghost use Rattle.std.specs.Io.KnownBytes.{Appends, Keeps};
-ghost use Rattle.check_questions_stream.specs.StreamQuestions.{CountsReads};
+ghost use Rattle.check_stream.specs.StreamQuestions.{CountsReads};
 ghost use Rattle.cli_commands.specs.Asking.{AsksReading, ShowsQuestions, AsksNot, KeepsUnlessFailed, failure_of};
 ghost use Rattle.cli_commands.specs.Lists.{IsTrustOf};
 ghost use Rattle.cli_commands.specs.Rereading.{IsLimitFor};

@@ -44,8 +44,8 @@ pub fn check<'a, R: Files + AllocGlobal>(
     check_by(rt, words, &mut answers, &mut passing, &mut checker)
 }
 
-/// The same by what was read of the lists, with a window and a checker that serve for another file afterwards, too. What
-/// they hold of earlier files changes nothing of what is said of this one.
+/// The same by what was read of the lists, with a window and a checker that serve for another file afterwards, too.
+/// What they hold of earlier files changes nothing of what is said of this one.
 ///
 /// Errors: those of `check` after its lists were read: a file cannot be opened or read, memory is refused, or the file
 /// is refused.
@@ -57,12 +57,12 @@ pub fn check_by<'a, R: Files + AllocGlobal>(
     checker: &mut Checker,
 ) -> Result<Vec<u8>, Failure<'a>>
     // If it goes by the lists of files and by the words, the line and the failure are those of `check`.
-    ensures accepted { IsCheckerOf R.File.remaining words.now.sha1 checker.old → IsAnswersOf R.File.remaining answers.old
-        → IfOk result (λ line. (file : R.File) × ShowsAccepted R.File.remaining words.now
-        (R.File.remaining file) line.items) }
+    ensures accepted { IsCheckerOf R.File.remaining words.now.sha1 checker.old
+        → IsAnswersOf R.File.remaining answers.old → IfOk result (λ line. (file : R.File)
+        × ShowsAccepted R.File.remaining words.now (R.File.remaining file) line.items) }
     // The same of the failure.
-    ensures refused { IsCheckerOf R.File.remaining words.now.sha1 checker.old → IsAnswersOf R.File.remaining answers.old
-        → IfErr result (ShowsRefused R.File.remaining words.now) }
+    ensures refused { IsCheckerOf R.File.remaining words.now.sha1 checker.old
+        → IsAnswersOf R.File.remaining answers.old → IfErr result (ShowsRefused R.File.remaining words.now) }
     // What the answers list vouches for stays the same.
     ensures same { ◌≡◌ {A = Asked → Bool} (λ q. is_among answers.new q) (λ q. is_among answers.old q) }
     // What the check goes by stays the same.

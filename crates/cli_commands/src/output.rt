@@ -1,5 +1,5 @@
 ghost use Rattle.std.specs.Prelude.{◌∷◌, [], IsSome, length, unwrap_or};
-ghost use Rattle.check_questions_stream.specs.StreamQuestions.{CountsReads};
+ghost use Rattle.check_stream.specs.StreamQuestions.{CountsReads};
 ghost use Rattle.cli_commands.specs.Asking.{AsksPass};
 
 use crate::rereading::Rereadable;

@@ -5,8 +5,8 @@ use Rattle.std.specs.Borrow.{Bor}
 use Rattle.std.specs.Io.KnownBytes.{Appends}
 use Rattle.check_questions.specs.declared.fault.QuestionsFault.{QuestionsFault}
 use Rattle.check_questions.specs.declared.fault.QuestionsFault.TheVariants as questions
-use Rattle.check_questions_stream.specs.declared.fault.StreamQuestionsFault.{StreamQuestionsFault}
-use Rattle.check_questions_stream.specs.declared.fault.StreamQuestionsFault.TheVariants as stream
+use Rattle.check_stream.specs.declared.fault.StreamQuestionsFault.{StreamQuestionsFault}
+use Rattle.check_stream.specs.declared.fault.StreamQuestionsFault.TheVariants as stream
 use Rattle.check_fit.specs.declared.rules.FileRule.TheVariants as file
 use Rattle.check_fit.specs.declared.rules.Refused.{Refused}
 use Rattle.check_fit.specs.declared.rules.Refused.TheVariants as refused

@@ -16,8 +16,8 @@ use std::rt::Files;
 
 /// Prints a line for each of these files, and returns the worst status.
 ///
-/// The lists are opened, read and judged first, once. One window serves for all files, and what is kept of the trust list
-/// for a file serves for the next.
+/// The lists are opened, read and judged first, once. One window serves for all files, and what is kept of the trust
+/// list for a file serves for the next.
 ///
 /// Errors: those of a list; memory that is refused for a line; an output that fails. After them no other file is
 /// opened.

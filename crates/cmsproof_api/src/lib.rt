@@ -8,8 +8,8 @@
 //! of another sign the same.
 //!
 //! For many files, `check_stream_with` and `check_stream_by` take what serves for one file after another: a `Pass`, the
-//! window through which the files pass, as `questions_stream` does, and a `Checker`, the trust list and the policy with what
-//! is kept of the list.
+//! window through which the files pass, as `questions_stream` does, and a `Checker`, the trust list and the policy with
+//! what is kept of the list.
 //!
 //! A content and a file come from a `Source`, which `Slice` makes of octets and `FromRead` of a reader; what is written
 //! goes to a `Sink`, which `FromWrite` makes of a writer.
@@ -19,8 +19,9 @@ pub use check_fit::{
     DeviceFault, FileRule, Policy, Refused, SignerRule, TokenRefused, TokenRule, fits, signer_fits,
 };
 pub use check_questions::{QuestionsFault, questions};
-pub use check_questions_stream::{StreamQuestionsFault, questions_stream};
-pub use check_stream::{check_stream, check_stream_by, check_stream_with};
+pub use check_stream::{
+    StreamQuestionsFault, check_stream, check_stream_by, check_stream_with, questions_stream,
+};
 pub use check_verdict::{Accepted, Checker, check, check_signer, check_token};
 pub use cms_compare::{CompareFault, CompareRule, Compared, Which, compare};
 pub use cms_stream::{Pass, listed_algorithms};

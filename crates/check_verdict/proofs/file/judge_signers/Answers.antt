@@ -4,7 +4,6 @@ use Rattle.digests.specs.Sets.{is_in}
 use Rattle.digests.specs.Selection.{set_given}
 use Rattle.cms_types.specs.SignerValue.{SignerValue}
 use Rattle.check_fit.specs.Fitting.{WantedBy}
-use Rattle.trust_lists.specs.Asking.{Asked}
 use Rattle.check_verdict.proofs.Asks.{among_all}
 use Rattle.check_verdict.proofs.Acceptance.{Passed, passed_none, passed_more, passed_all, judged_bad, wanted_among, wanted_last, numbered_of}
 use Rattle.check_verdict.proofs.Going.{still_terms, wanted_before, wanted_now}

@@ -1,5 +1,4 @@
 use Rattle.std.proofs.Common.{◌≡◌, ◌∙◌, true, List, get_or, sym, ap, subst, arith}
-use Rattle.std.specs.Prelude.{Contains}
 use Rattle.cms_types.specs.Fields.{sid_value}
 use Rattle.trust_lists.specs.Entries.{EntryValue}
 use Rattle.trust_lists.specs.declared.role.Role.TheVariants.{Signer}
@@ -35,7 +34,7 @@ loop-at-preserved g c =
       only = λ test attributes has asks. g.V.Verifier.asked_further test _ _ _ (h.only test attributes has asks)
           (c.in_ok-failed.ensures.only test attributes has
           (λ p named. (asks_of c.args.checker.now.trust c.trust-trust.result.now (sym c.trust-trust.ensures) (λ e. IsSignersAt c.args.signer.now c.args.moment.now e
-    → NamesIfAny attributes e.certificate → test (asked e.certificate c.args.signer.now attributes) ≡ true) asks) _ (entry_among c.trust-trust.result.now c.in-Some.at _ found.1 among) p named));
+          → NamesIfAny attributes e.certificate → test (asked e.certificate c.args.signer.now attributes) ≡ true) asks) _ (entry_among c.trust-trust.result.now c.in-Some.at _ found.1 among) p named));
       same = c.in_ok-failed.ensures.same ∙ h.same;
       count = c.in_ok-failed.ensures.count ∙ h.count;
       stays = c.in_ok-failed.ensures.stays ∙ h.stays;

@@ -1,7 +1,6 @@
-use Rattle.std.proofs.Common.{◌≡◌, ◌∙◌, true, [], refl, sym, ap, subst}
+use Rattle.std.proofs.Common.{true, [], refl, sym, subst}
 use Rattle.cert_types.specs.CertificateValue.{CertificateValue}
 use Rattle.cert_types.specs.Purposes.{IsStampingOnly}
-use Rattle.trust_lists.specs.Entries.{EntryValue}
 use Rattle.check_verdict.specs.Passing.{Terms}
 use Rattle.check_verdict.specs.Stages.{passed_for_token}
 use Rattle.check_verdict.proofs.Tokens.{past_purpose}

@@ -1,5 +1,4 @@
 use Rattle.std.proofs.Common.{◌≡◌, ◌∙◌, true, List, get_or, sym, ap, subst, arith}
-use Rattle.std.specs.Prelude.{Contains}
 use Rattle.cms_types.specs.Fields.{sid_value}
 use Rattle.trust_lists.specs.Entries.{EntryValue}
 use Rattle.trust_lists.specs.declared.role.Role.TheVariants.{Tsa}
@@ -24,7 +23,7 @@ loop-at-preserved g c =
           found.0 found.1 found.2 among (h.so_far t vouches) (c.in_ok-failed.ensures.stage t (vouches ∙ sym h.same)));
       only = λ test asks. g.V.Verifier.asked_further test _ _ _ (h.only test asks) (c.in_ok-failed.ensures.only test
           (λ p. (asks_of c.args.checker.now.trust c.trust-trust.result.now (sym c.trust-trust.ensures) (λ e. IsInPeriod c.args.claim.now e
-    → test (asked e.certificate c.args.claim.now.signer c.args.claim.now.attributes) ≡ true) asks) _ (entry_among c.trust-trust.result.now c.in-Some.at _ found.1 among) p));
+          → test (asked e.certificate c.args.claim.now.signer c.args.claim.now.attributes) ≡ true) asks) _ (entry_among c.trust-trust.result.now c.in-Some.at _ found.1 among) p));
       same = c.in_ok-failed.ensures.same ∙ h.same;
       count = c.in_ok-failed.ensures.count ∙ h.count;
       stays = c.in_ok-failed.ensures.stays ∙ h.stays;

@@ -1,6 +1,6 @@
 use Rattle.std.proofs.Common.{◌≡◌, ◌∙◌, ℕ, length, refl, ap, inl, inr, subst, arith, rules}
 use Rattle.devices.specs.Device.{raised}
-use Rattle.check_questions_stream.specs.StreamQuestions.{CountsReads}
+use Rattle.check_stream.specs.StreamQuestions.{CountsReads}
 use Rattle.cli_commands.specs.Asking.{AsksPass}
 use Rattle.cli_commands.proofs.AskedAgain.{asks_after, asks_within, kept_still, not_again, unfailed}
 use Rattle.cli_commands.proofs.asking.asked_within.Goals as goal

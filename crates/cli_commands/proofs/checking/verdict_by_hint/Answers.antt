@@ -1,4 +1,4 @@
-use Rattle.std.proofs.Common.{List, refl, ap, ◌∙◌, length}
+use Rattle.std.proofs.Common.{refl, ap, ◌∙◌, length}
 use Rattle.devices.specs.Device.{raised}
 use Rattle.trust_lists.specs.Asking.{is_among}
 use Rattle.check_verdict.specs.Checkers.{CheckerValue, terms_for}

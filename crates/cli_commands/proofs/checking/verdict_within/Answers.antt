@@ -1,4 +1,4 @@
-use Rattle.std.proofs.Common.{◌≡◌, ◌∙◌, ℕ, Bool, List, length, ap, inr, subst, arith, rules}
+use Rattle.std.proofs.Common.{◌≡◌, ◌∙◌, ℕ, Bool, length, ap, inr, subst, arith, rules}
 use Rattle.devices.specs.Device.{raised}
 use Rattle.check_fit.specs.FileFitting.{facts_of}
 use Rattle.trust_lists.specs.Asking.{Asked, is_among}

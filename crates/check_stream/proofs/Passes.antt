@@ -17,10 +17,10 @@ use Rattle.check_questions.specs.QuestionsText.{questions_text}
 use Rattle.check_questions.specs.Written.{IsUntouched, EncodesNothing}
 use Rattle.check_questions.proofs.Files.{some_of_file}
 use Rattle.check_questions.proofs.Returned.{never_both}
-use Rattle.check_questions_stream.specs.declared.fault.StreamQuestionsFault.TheVariants.{Questions, ReadFailed, TooLong}
-use Rattle.check_questions_stream.specs.StreamQuestions.{Returned, IsWrittenOf, IsWrittenAs, IsCutShort}
-use Rattle.check_questions_stream.specs.StreamQuestions.{IsMalformed, IsEarly, IsBeforeText, IsTextOrBefore, CountsReads}
-use Rattle.check_questions_stream.specs.PassSteps.{HasQuestions, PutsPass}
+use Rattle.check_stream.specs.declared.fault.StreamQuestionsFault.TheVariants.{Questions, ReadFailed, TooLong}
+use Rattle.check_stream.specs.StreamQuestions.{Returned, IsWrittenOf, IsWrittenAs, IsCutShort}
+use Rattle.check_stream.specs.StreamQuestions.{IsMalformed, IsEarly, IsBeforeText, IsTextOrBefore, CountsReads}
+use Rattle.check_stream.specs.PassSteps.{HasQuestions, PutsPass}
 
 -- what is stated of the octets of a file that is known
 module _ (gains : List ℕ → Type 0) (trust : List EntryValue) (octets : List ℕ) (room : ℕ) (tells : Type 0) (t t' : List ℕ) (c c' : ℕ) where

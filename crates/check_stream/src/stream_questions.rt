@@ -5,9 +5,9 @@ ghost use Rattle.check_questions.specs.FileQuestions.{AreQuestions, AreQuestions
 ghost use Rattle.check_questions.specs.QuestionsText.{questions_text};
 ghost use Rattle.check_questions.specs.Written.{EncodesNothing, IsUntouched};
 ghost use Rattle.check_questions.specs.declared.fault.QuestionsFault.{QuestionsFault};
-ghost use Rattle.check_questions_stream.specs.StreamQuestions.{IsWrittenOf, IsWrittenAs, IsCutShort, IsMalformed};
-ghost use Rattle.check_questions_stream.specs.StreamQuestions.{IsBeforeText, IsTextOrBefore, CountsReads, IsEarly};
-ghost use Rattle.check_questions_stream.specs.PassSteps.{HasQuestions, PutsPass};
+ghost use Rattle.check_stream.specs.StreamQuestions.{IsWrittenOf, IsWrittenAs, IsCutShort, IsMalformed};
+ghost use Rattle.check_stream.specs.StreamQuestions.{IsBeforeText, IsTextOrBefore, CountsReads, IsEarly};
+ghost use Rattle.check_stream.specs.PassSteps.{HasQuestions, PutsPass};
 
 use crate::fault::StreamQuestionsFault;
 use crate::unkept::Unkept;

@@ -16,7 +16,7 @@ pub enum StreamQuestionsFault {
 
 impl fmt::Display for StreamQuestionsFault {
     ghost use Rattle.std.specs.Prelude.{Some};
-    ghost use Rattle.check_questions_stream.specs.FaultTexts.{stream_questions_fault_text};
+    ghost use Rattle.check_stream.specs.FaultTexts.{stream_questions_fault_text};
 
     ghost output = { λ f. Some (stream_questions_fault_text f) };
 

@@ -18,8 +18,8 @@ use Rattle.check_questions.specs.declared.fault.QuestionsFault.TheVariants.{Malf
 use Rattle.check_questions.specs.FileQuestions.{AreQuestions, AreQuestionsOf}
 use Rattle.check_questions.specs.QuestionsText.{questions_text}
 use Rattle.check_questions.specs.Written.{IsWrittenWith, IsUntouched, WritesQuestions, EncodesNothing}
-use Rattle.check_questions_stream.specs.declared.fault.StreamQuestionsFault.{StreamQuestionsFault}
-use Rattle.check_questions_stream.specs.declared.fault.StreamQuestionsFault.TheVariants.{Questions, ReadFailed, TooLong}
+use Rattle.check_stream.specs.declared.fault.StreamQuestionsFault.{StreamQuestionsFault}
+use Rattle.check_stream.specs.declared.fault.StreamQuestionsFault.TheVariants.{Questions, ReadFailed, TooLong}
 
 -- what is returned
 abbrev pub Returned : Type 0

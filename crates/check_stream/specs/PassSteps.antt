@@ -9,8 +9,8 @@ use Rattle.check_questions.specs.FileQuestions.{AreQuestions}
 use Rattle.check_questions.specs.QuestionsText.{questions_text}
 use Rattle.check_questions.specs.declared.fault.QuestionsFault.TheVariants.{Malformed, NotSignedData}
 use Rattle.check_questions.specs.Written.{IsUntouched}
-use Rattle.check_questions_stream.specs.declared.fault.StreamQuestionsFault.TheVariants.{Questions, ReadFailed, TooLong}
-use Rattle.check_questions_stream.specs.StreamQuestions.{Returned, IsWrittenAs, IsBeforeText}
+use Rattle.check_stream.specs.declared.fault.StreamQuestionsFault.TheVariants.{Questions, ReadFailed, TooLong}
+use Rattle.check_stream.specs.StreamQuestions.{Returned, IsWrittenAs, IsBeforeText}
 
 -- the text of the signers' questions was put, or a beginning of it
 abbrev pub PutsSigners : (trust : List EntryValue) → OpenedValue → Returned → (tells : Type 0)

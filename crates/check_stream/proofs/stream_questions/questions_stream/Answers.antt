@@ -1,9 +1,9 @@
 use Rattle.std.proofs.Common.{length}
 use Rattle.std.specs.Prelude.{⊤}
 use Rattle.cms_stream.specs.Passing.{Gains}
-use Rattle.check_questions_stream.proofs.Passes.{written, written_as, text_or_before, malformed_told}
-use Rattle.check_questions_stream.proofs.Passes.{another_told, untouched_before, reads_counted, read_to_end}
-use Rattle.check_questions_stream.proofs.stream_questions.questions_stream.Goals as goal
+use Rattle.check_stream.proofs.Passes.{written, written_as, text_or_before, malformed_told}
+use Rattle.check_stream.proofs.Passes.{another_told, untouched_before, reads_counted, read_to_end}
+use Rattle.check_stream.proofs.stream_questions.questions_stream.Goals as goal
 
 pub returns-clause-written : goal.returns-clause-written
 returns-clause-written g c = λ told. written (Gains (λ _. ⊤) (λ _. ⊤)) c.args.trust.now (g.F.Source.rest c.args.file.now)

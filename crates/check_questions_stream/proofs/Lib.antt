@@ -1,3 +1,0 @@
-mod Octets
-mod Some
-mod Passes

@@ -1,3 +1,0 @@
-pub mod StreamQuestions
-pub mod PassSteps
-pub mod FaultTexts

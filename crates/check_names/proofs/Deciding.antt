@@ -1,5 +1,6 @@
 -- What the rules of naming ask of attributes and a certificate can be decided.
-use Rattle.std.proofs.Common.{◌≡◌, ◌≢◌, ℕ, Bool, true, false, List, [], ◌∷◌, Option, Some, None, Result, Ok, Err, refl, sym, ap, subst, ◌∙◌, inl, inr, ◌⊎◌}
+use Rattle.std.proofs.Common.{◌≡◌, ◌≢◌, ℕ, Bool, true, false, List, [], ◌∷◌, Option, Some, None, Result, Ok, Err, refl}
+use Rattle.std.proofs.Common.{sym, ap, subst, ◌∙◌, inl, inr, ◌⊎◌}
 use Rattle.std.specs.Prelude.{IfSome}
 use Rattle.der_core.specs.declared.fault.Fault.{Fault}
 use Rattle.der_core.specs.Element.{el, IsBytes}
@@ -13,10 +14,12 @@ use Rattle.digests.specs.declared.algorithm.Alg.TheVariants.{Sha1, Sha256}
 use Rattle.cms_types.specs.AttributeValue.{AttributeValue}
 use Rattle.check_fit.specs.Attributes.{single_value, occurrences}
 use Rattle.digests.specs.Named.{alg_named}
-use Rattle.ess_types.specs.SigningCertificateValue.{IssuerSerialValue, CertIdValue, SigningCertificateValue, EncodesSigningCertificate}
+use Rattle.ess_types.specs.SigningCertificateValue.{IssuerSerialValue, CertIdValue, SigningCertificateValue}
+use Rattle.ess_types.specs.SigningCertificateValue.{EncodesSigningCertificate}
 use Rattle.ess_types.specs.SigningCertificateValue.{EncodesSigningCertificateV2}
 use Rattle.ess_types.specs.SigningCertificateReading.{signing_certificate_at, signing_certificate_v2_at}
-use Rattle.check_names.specs.Naming.{id_signing_certificate, id_signing_certificate_v2, IsIssuerOf, NamesBy, HashedBy, FirstId, NamesInV1, NamesInV2, Occurs}
+use Rattle.check_names.specs.Naming.{id_signing_certificate, id_signing_certificate_v2, IsIssuerOf, NamesBy, HashedBy}
+use Rattle.check_names.specs.Naming.{FirstId, NamesInV1, NamesInV2, Occurs}
 use Rattle.check_names.specs.Naming.{NamesIfAny, MustName}
 use Rattle.digests.proofs.Named.{named_is, named_says}
 use Rattle.der_core.proofs.SameOctets.{is_then_same}
@@ -92,13 +95,16 @@ one_alg a b o e h = let z = sym e ∙ h in cc
 no_alg : (alg : Alg) (o : Option Alg) → o ≡ None → o ≡ Some alg → ⊥
 no_alg alg o e h = let z = sym e ∙ h in cc
 
-hashed_by_name : (i : CertIdValue) (c : CertificateValue) (a : AlgorithmValue) (o : Option Alg) → alg_named a ≡ o → Decided (Hashed i c (Some a))
+hashed_by_name : (i : CertIdValue) (c : CertificateValue) (a : AlgorithmValue) (o : Option Alg) → alg_named a ≡ o
+    → Decided (Hashed i c (Some a))
 hashed_by_name i c a None e = inr (λ h. no_alg h.0 (alg_named a) e (named_is a h.0 h.1))
 hashed_by_name i c a (Some alg) e = in_words (λ n. (alg, named_says a alg e, n))
-    (λ h. subst (λ (x : Alg). NamesBy x i c) (one_alg h.0 alg (alg_named a) (named_is a h.0 h.1) e) h.2) (names_by alg i c)
+    (λ h. subst (λ (x : Alg). NamesBy x i c) (one_alg h.0 alg (alg_named a) (named_is a h.0 h.1) e) h.2)
+    (names_by alg i c)
 
 hashed : (i : CertIdValue) (c : CertificateValue) (o : Option AlgorithmValue) → Decided (Hashed i c o)
-hashed i c None = in_words (λ n. (Sha256, refl, n)) (λ h. subst (λ (x : Alg). NamesBy x i c) h.1 h.2) (names_by Sha256 i c)
+hashed i c None =
+    in_words (λ n. (Sha256, refl, n)) (λ h. subst (λ (x : Alg). NamesBy x i c) h.1 h.2) (names_by Sha256 i c)
 hashed i c (Some a) = hashed_by_name i c a (alg_named a) refl
 
 names_hashed : (i : CertIdValue) (c : CertificateValue) → Decided (NamesHashed i c)
@@ -114,57 +120,79 @@ abbrev cert : SigningCertificateValue → Result SigningCertificateValue Fault
 cert v = Ok v
 
 -- what octets of a signing certificate of either version read as
-record IsReadBy (Encodes : List ℕ → SigningCertificateValue → Type 0) (at : List ℕ → Result SigningCertificateValue Fault) : Type 0 where
+record IsReadBy (Encodes : List ℕ → SigningCertificateValue → Type 0)
+    (at : List ℕ → Result SigningCertificateValue Fault) : Type 0 where
   pub takes : (bytes : List ℕ) (v : SigningCertificateValue) → IsBytes bytes → at bytes ≡ Ok v → Encodes bytes v
   pub again : (bytes : List ℕ) (v : SigningCertificateValue) → Encodes bytes v → at bytes ≡ Ok v
 
 -- the first identifier that an attribute states, and what is asked of it
-abbrev FirstSo : (attributes : List AttributeValue) (id : List ℕ) (Encodes : List ℕ → SigningCertificateValue → Type 0) (Asks : CertIdValue → Type 0) → Type 0
+abbrev FirstSo : (attributes : List AttributeValue) (id : List ℕ) (Encodes : List ℕ → SigningCertificateValue → Type 0)
+    (Asks : CertIdValue → Type 0) → Type 0
 FirstSo attributes id Encodes Asks = (i : CertIdValue) × FirstId attributes id Encodes i × Asks i
 
 module _ (attributes : List AttributeValue) (id : List ℕ) (Encodes : List ℕ → SigningCertificateValue → Type 0)
     (at : List ℕ → Result SigningCertificateValue Fault) (is_read : IsReadBy Encodes at) where
   -- what the attribute states is what its one value reads as
-  stated_is : (value : List ℕ) (i : CertIdValue) → single_value attributes id ≡ Some value → (f : FirstId attributes id Encodes i) → at value ≡ Ok f.certificate
+  stated_is : (value : List ℕ) (i : CertIdValue) → single_value attributes id ≡ Some value
+      → (f : FirstId attributes id Encodes i) → at value ≡ Ok f.certificate
   stated_is value i once f = is_read.again value f.certificate (subst (λ (b : List ℕ). Encodes b f.certificate)
       (some_value f.value value (single_value attributes id) f.once once) f.encodes)
 
   same_read : (v w : SigningCertificateValue) (value : List ℕ) → at value ≡ Ok v → at value ≡ Ok w → v ≡ w
   same_read v w value e h = let z = sym e ∙ h in cc
 
-  first_so : (Asks : CertIdValue → Type 0) → ValuesAreOctets attributes → ((i : CertIdValue) → Decided (Asks i)) → Decided (FirstSo attributes id Encodes Asks)
+  first_so : (Asks : CertIdValue → Type 0) → ValuesAreOctets attributes → ((i : CertIdValue) → Decided (Asks i))
+      → Decided (FirstSo attributes id Encodes Asks)
   first_so Asks octets decide = by_value (single_value attributes id) refl
     where
-      by_ids : (value : List ℕ) → single_value attributes id ≡ Some value → (v : SigningCertificateValue) → at value ≡ Ok v → Encodes value v
+      by_ids : (value : List ℕ) → single_value attributes id ≡ Some value → (v : SigningCertificateValue)
+          → at value ≡ Ok v → Encodes value v
           → (ids : List CertIdValue) → v.ids ≡ ids → Decided (FirstSo attributes id Encodes Asks)
       by_ids value once v e encodes [] is = inr (λ n.
           let c : n.1.certificate ≡ v = same_read n.1.certificate v value (stated_is value n.0 once n.1) e in
           let z = sym n.1.is_first ∙ ap (λ (x : SigningCertificateValue). x.ids) c ∙ is in cc)
       by_ids value once v e encodes (i ∷ others) is =
-          in_words (λ a. (i, record { value = value; once = once; certificate = v; encodes = encodes; others = others; is_first = is }, a)) (λ n.
+          in_words (λ a. (
+            i,
+            record {
+              value = value;
+              once = once;
+              certificate = v;
+              encodes = encodes;
+              others = others;
+              is_first = is;
+            },
+            a,
+          )) (λ n.
           let c : n.1.certificate ≡ v = same_read n.1.certificate v value (stated_is value n.0 once n.1) e in
-          let f : n.0 ≡ i = same_ids n.0 i n.1.others others n.1.certificate.ids n.1.is_first (ap (λ (x : SigningCertificateValue). x.ids) c ∙ is) in
+          let f : n.0 ≡ i = same_ids n.0 i n.1.others others n.1.certificate.ids n.1.is_first
+          (ap (λ (x : SigningCertificateValue). x.ids) c ∙ is) in
           subst Asks f n.2) (decide i)
 
-      by_reading : (value : List ℕ) → single_value attributes id ≡ Some value → (r : Result SigningCertificateValue Fault)
+      by_reading : (value : List ℕ) → single_value attributes id ≡ Some value
+          → (r : Result SigningCertificateValue Fault)
           → at value ≡ r → Decided (FirstSo attributes id Encodes Asks)
       by_reading value once (Err f) e = inr (λ n.
           let z : cert n.1.certificate ≡ Err f = sym (stated_is value n.0 once n.1) ∙ e in
           absurd cc)
-      by_reading value once (Ok v) e = by_ids value once v e (is_read.takes value v (one_octets attributes id value octets once) e) v.ids refl
+      by_reading value once (Ok v) e =
+          by_ids value once v e (is_read.takes value v (one_octets attributes id value octets once) e) v.ids refl
 
       by_value : (o : Option (List ℕ)) → single_value attributes id ≡ o → Decided (FirstSo attributes id Encodes Asks)
       by_value None e = inr (λ n. let z = sym e ∙ n.1.once in cc)
       by_value (Some value) e = by_reading value e (at value) refl
 
-names_in_v1 : (attributes : List AttributeValue) (c : CertificateValue) → ValuesAreOctets attributes → Decided (NamesInV1 attributes c)
+names_in_v1 : (attributes : List AttributeValue) (c : CertificateValue) → ValuesAreOctets attributes
+    → Decided (NamesInV1 attributes c)
 names_in_v1 attributes c octets = in_words
     (λ n. record { id = n.0; first = n.1; names = n.2 })
     (λ n. (n.id, n.first, n.names))
-    (first_so attributes id_signing_certificate EncodesSigningCertificate signing_certificate_at (record { takes = plain_takes; again = plain_again })
+    (first_so attributes id_signing_certificate EncodesSigningCertificate signing_certificate_at
+    (record { takes = plain_takes; again = plain_again })
     (λ i. NamesBy Sha1 i c) octets (λ i. names_by Sha1 i c))
 
-names_in_v2 : (attributes : List AttributeValue) (c : CertificateValue) → ValuesAreOctets attributes → Decided (NamesInV2 attributes c)
+names_in_v2 : (attributes : List AttributeValue) (c : CertificateValue) → ValuesAreOctets attributes
+    → Decided (NamesInV2 attributes c)
 names_in_v2 attributes c octets = in_words
     (λ n. record { id = n.0; first = n.1; alg = n.2.0; hashed = n.2.1; names = n.2.2 })
     (λ n. (n.id, n.first, (n.alg, n.hashed, n.names)))
@@ -178,11 +206,14 @@ occurs attributes id = go (occurrences attributes id)
     go [] = inr (λ nay. nay refl)
     go (x ∷ xs) = inl (λ e. absurd cc)
 
-pub names_if_any : (attributes : List AttributeValue) (c : CertificateValue) → ValuesAreOctets attributes → Decided (NamesIfAny attributes c)
+pub names_if_any : (attributes : List AttributeValue) (c : CertificateValue) → ValuesAreOctets attributes
+    → Decided (NamesIfAny attributes c)
 names_if_any attributes c octets = in_words (λ p. record { v1 = p.0; v2 = p.1 }) (λ n. (n.v1, n.v2))
     (both (implies (occurs attributes id_signing_certificate) (names_in_v1 attributes c octets))
     (implies (occurs attributes id_signing_certificate_v2) (names_in_v2 attributes c octets)))
 
-pub must_name : (attributes : List AttributeValue) (c : CertificateValue) → ValuesAreOctets attributes → Decided (MustName attributes c)
+pub must_name : (attributes : List AttributeValue) (c : CertificateValue) → ValuesAreOctets attributes
+    → Decided (MustName attributes c)
 must_name attributes c octets = in_words (λ p. record { names = p.0; some = p.1 }) (λ n. (n.names, n.some))
-    (both (names_if_any attributes c octets) (either (occurs attributes id_signing_certificate) (occurs attributes id_signing_certificate_v2)))
+    (both (names_if_any attributes c octets)
+    (either (occurs attributes id_signing_certificate) (occurs attributes id_signing_certificate_v2)))

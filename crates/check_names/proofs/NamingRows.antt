@@ -1,5 +1,6 @@
 -- The worked rows of naming, by computing.
-use Rattle.std.proofs.Common.{◌≡◌, ℕ, List, [], ◌∷◌, get_or, Option, Some, None, refl, sym, ap, subst, ◌∙◌, arith, lit<, inl, inr}
+use Rattle.std.proofs.Common.{◌≡◌, ℕ, List, [], ◌∷◌, get_or, Option, Some, None, refl, sym, ap, subst, ◌∙◌, arith, lit<}
+use Rattle.std.proofs.Common.{inl, inr}
 use Rattle.der_core.specs.Element.{len, el}
 use Rattle.der_core.specs.Hex.{hex}
 use Rattle.der_grammar.specs.Vectors.{digest_of_abc, certificate_named}
@@ -13,8 +14,10 @@ use Rattle.cms_types.specs.AttributeValue.{AttributeValue}
 use Rattle.check_fit.specs.Attributes.{single_value}
 use Rattle.ess_types.specs.SigningCertificateValue.{CertIdValue, SigningCertificateValue, EncodesSigningCertificateV2}
 use Rattle.ess_types.proofs.SigningCertificateReaders.{signing_unique}
-use Rattle.check_names.specs.Naming.{id_signing_certificate, id_signing_certificate_v2, HashedBy, NamesInV1, NamesInV2, MustName}
-use Rattle.check_names.specs.NamingRows.{of_authority, digest_of_certificate, named_by, named_in_v1, NamingRows, IssuerRows, MatchingRows}
+use Rattle.check_names.specs.Naming.{id_signing_certificate, id_signing_certificate_v2, HashedBy, NamesInV1, NamesInV2}
+use Rattle.check_names.specs.Naming.{MustName}
+use Rattle.check_names.specs.NamingRows.{of_authority, digest_of_certificate, named_by, named_in_v1, NamingRows}
+use Rattle.check_names.specs.NamingRows.{IssuerRows, MatchingRows}
 
 abbrev id_of : List ℕ → CertIdValue
 id_of hash = record { algorithm = None; hash = hash; issuer_serial = None }
@@ -41,15 +44,30 @@ unfolding len
 all_encoded = record {
   authority = (
     refl,
-    record { ids = (record { algorithm = tt; hash = lit< tt; issuer_serial = tt; size = lit< tt }, tt); list = lit< tt; policies = tt; size = lit< tt },
+    record {
+      ids = (record { algorithm = tt; hash = lit< tt; issuer_serial = tt; size = lit< tt }, tt);
+      list = lit< tt;
+      policies = tt;
+      size = lit< tt;
+    },
   );
   v1 = (
     refl,
-    record { ids = (record { algorithm = tt; hash = lit< tt; issuer_serial = tt; size = lit< tt }, tt); list = lit< tt; policies = tt; size = lit< tt },
+    record {
+      ids = (record { algorithm = tt; hash = lit< tt; issuer_serial = tt; size = lit< tt }, tt);
+      list = lit< tt;
+      policies = tt;
+      size = lit< tt;
+    },
   );
   abc = (
     refl,
-    record { ids = (record { algorithm = tt; hash = lit< tt; issuer_serial = tt; size = lit< tt }, tt); list = lit< tt; policies = tt; size = lit< tt },
+    record {
+      ids = (record { algorithm = tt; hash = lit< tt; issuer_serial = tt; size = lit< tt }, tt);
+      list = lit< tt;
+      policies = tt;
+      size = lit< tt;
+    },
   );
 }
 
@@ -58,14 +76,17 @@ unfolding len
 spelled_v1 = refl
 
 digest_v2 : digest_of Sha256 (encoding of_authority) ≡ digest_of_certificate
-unfolding len digest_of sha256.sha256 sha256.digest_bytes sha256.hash_after sha256.compress sha256.rounds sha256.schedule sha256.first_words
+unfolding len digest_of sha256.sha256 sha256.digest_bytes sha256.hash_after sha256.compress sha256.rounds
+    sha256.schedule sha256.first_words
 digest_v2 = refl
 
 digest_v1 : digest_of Sha1 (encoding of_authority) ≡ by_sha1
-unfolding len digest_of sha1.sha1 sha1.digest_bytes sha1.hash_after sha1.compress sha1.rounds sha1.schedule sha1.first_words
+unfolding len digest_of sha1.sha1 sha1.digest_bytes sha1.hash_after sha1.compress sha1.rounds sha1.schedule
+    sha1.first_words
 digest_v1 = refl
 
-names_v2 : (attributes : List AttributeValue) → single_value attributes id_signing_certificate_v2 ≡ Some (octets_of digest_of_certificate)
+names_v2 : (attributes : List AttributeValue)
+    → single_value attributes id_signing_certificate_v2 ≡ Some (octets_of digest_of_certificate)
     → NamesInV2 attributes of_authority
 names_v2 attributes once = record {
   id = id_of digest_of_certificate;
@@ -82,7 +103,8 @@ names_v2 attributes once = record {
   names = record { hash = sym digest_v2; issuer = tt };
 }
 
-names_v1 : (attributes : List AttributeValue) → single_value attributes id_signing_certificate ≡ Some certificate_named → NamesInV1 attributes of_authority
+names_v1 : (attributes : List AttributeValue) → single_value attributes id_signing_certificate ≡ Some certificate_named
+    → NamesInV1 attributes of_authority
 names_v1 attributes once = record {
   id = id_of by_sha1;
   first = record {
@@ -105,16 +127,19 @@ some_value a b o e h = let z = sym e ∙ h in cc
 no_value : (a : List ℕ) (o : Option (List ℕ)) → o ≡ None → o ≡ Some a → ⊥
 no_value a o e h = let z = sym e ∙ h in cc
 
-one_id : (i j : CertIdValue) (others : List CertIdValue) (ids : List CertIdValue) → ids ≡ i ∷ others → ids ≡ j ∷ [] → i ≡ j
+one_id : (i j : CertIdValue) (others : List CertIdValue) (ids : List CertIdValue) → ids ≡ i ∷ others → ids ≡ j ∷ []
+    → i ≡ j
 one_id i j others ids e h = let z = sym e ∙ h in cc
 
 -- an attribute of version 2 with another hash doesn't name the certificate
-other_hash : (attributes : List AttributeValue) (hash : List ℕ) → single_value attributes id_signing_certificate_v2 ≡ Some (octets_of hash)
+other_hash : (attributes : List AttributeValue) (hash : List ℕ)
+    → single_value attributes id_signing_certificate_v2 ≡ Some (octets_of hash)
     → Encoded hash → (hash ≡ digest_of Sha256 (encoding of_authority) → ⊥) → NamesInV2 attributes of_authority → ⊥
 other_hash attributes hash once encodes differs n =
     let value : n.first.value ≡ octets_of hash = some_value n.first.value (octets_of hash)
     (single_value attributes id_signing_certificate_v2) n.first.once once in
-    let same : n.first.certificate ≡ certificate_of hash = signing_unique (octets_of hash) n.first.certificate (certificate_of hash)
+    let same : n.first.certificate ≡ certificate_of hash =
+    signing_unique (octets_of hash) n.first.certificate (certificate_of hash)
     (subst (λ (b : List ℕ). EncodesSigningCertificateV2 b n.first.certificate) value n.first.encodes) encodes in
     let first : n.id ≡ id_of hash = one_id n.id (id_of hash) n.first.others n.first.certificate.ids n.first.is_first
     (ap (λ (v : SigningCertificateValue). v.ids) same) in
@@ -139,7 +164,10 @@ naming_rows = record {
     some = inl (λ e. not_empty _ _ e);
   };
   version_2_alone = record {
-    names = record { v1 = λ occurs. absurd (occurs refl); v2 = λ occurs. names_v2 (named_by digest_of_certificate ∷ []) refl };
+    names = record {
+      v1 = λ occurs. absurd (occurs refl);
+      v2 = λ occurs. names_v2 (named_by digest_of_certificate ∷ []) refl;
+    };
     some = inr (λ e. not_empty _ _ e);
   };
   in_both = record {
@@ -151,7 +179,8 @@ naming_rows = record {
   };
   in_neither = record { v1 = λ occurs. absurd (occurs refl); v2 = λ occurs. absurd (occurs refl) };
   neither = neither_named;
-  other_differs = λ n. other_hash (named_in_v1 ∷ named_by digest_of_abc ∷ []) digest_of_abc refl all_encoded.abc abc_differs (n.v2 (λ e. not_empty _ _ e));
+  other_differs = λ n. other_hash (named_in_v1 ∷ named_by digest_of_abc ∷ []) digest_of_abc refl all_encoded.abc
+      abc_differs (n.v2 (λ e. not_empty _ _ e));
   twice = λ n. (let f = n.v1 (λ e. not_empty _ _ e) in
       no_value f.first.value (single_value (named_in_v1 ∷ named_in_v1 ∷ []) id_signing_certificate) refl f.first.once);
 }

@@ -1,6 +1,7 @@
 -- What an AlgorithmIdentifier names; the object identifier of each algorithm is well formed, short, and that of no
 -- other algorithm.
-use Rattle.std.proofs.Common.{◌≡◌, ◌≢◌, ℕ, ◌≤◌, Bool, true, false, cond, List, [], ◌∷◌, length, Option, Some, None, refl, sym, ap, subst, ◌∙◌, lit≤}
+use Rattle.std.proofs.Common.{◌≡◌, ◌≢◌, ℕ, ◌≤◌, Bool, true, false, cond, List, [], ◌∷◌, length, Option, Some, None}
+use Rattle.std.proofs.Common.{refl, sym, ap, subst, ◌∙◌, lit≤}
 use Rattle.std.specs.Prelude.{◌↔◌, IsTrue, IfSome}
 use Rattle.der_core.specs.Contents.{is_oid}
 use Rattle.der_core.specs.Lists.{is_same}
@@ -9,7 +10,8 @@ use Rattle.der_core.proofs.Encoded.{same}
 use Rattle.digests.specs.Algorithms.{contents_of, IsPlain, Names}
 use Rattle.digests.specs.Named.{is_plain, alg_identified, alg_named, is_alg}
 use Rattle.digests.specs.declared.algorithm.Alg.{Alg}
-use Rattle.digests.specs.declared.algorithm.Alg.TheVariants.{Sha1, Sha224, Sha256, Sha384, Sha512, Sha512_224, Sha512_256}
+use Rattle.digests.specs.declared.algorithm.Alg.TheVariants.{Sha1, Sha224, Sha256, Sha384, Sha512, Sha512_224}
+use Rattle.digests.specs.declared.algorithm.Alg.TheVariants.{Sha512_256}
 use Rattle.der_core.proofs.SameOctets.{same_again, is_then_same}
 
 abbrev some : Alg → Option Alg
@@ -39,8 +41,10 @@ step id a alg rest next false e h = next h
 -- the algorithm that is found has this object identifier
 pub identified_says : (id : List ℕ) (alg : Alg) → alg_identified id ≡ Some alg → id ≡ contents_of alg
 identified_says id alg e =
-    step id Sha1 alg _ (step id Sha224 alg _ (step id Sha256 alg _ (step id Sha384 alg _ (step id Sha512 alg _ (step id Sha512_224 alg
-    _ (step id Sha512_256 alg None (λ h. absurd (let z : None ≡ some alg = h in cc)) _ refl) _ refl) _ refl) _ refl) _ refl) _ refl) _ refl e
+    step id Sha1 alg _
+    (step id Sha224 alg _ (step id Sha256 alg _ (step id Sha384 alg _ (step id Sha512 alg _ (step id Sha512_224 alg
+    _ (step id Sha512_256 alg None (λ h. absurd (let z : None ≡ some alg = h in cc)) _ refl) _ refl) _ refl) _ refl) _
+    refl) _ refl) _ refl e
 
 -- an algorithm is found by its object identifier
 pub identified_is : (alg : Alg) → alg_identified (contents_of alg) ≡ Some alg
@@ -81,7 +85,8 @@ contents_distinct a b e = one_alg a b (sym (identified_is a) ∙ ap alg_identifi
 pub named_says : (a : AlgorithmValue) (alg : Alg) → alg_named a ≡ Some alg → Names a.oid a.parameters alg
 named_says a alg e = go (is_plain a.parameters) refl e
   where
-    go : (b : Bool) → is_plain a.parameters ≡ b → cond b (alg_identified a.oid) None ≡ Some alg → Names a.oid a.parameters alg
+    go : (b : Bool) → is_plain a.parameters ≡ b → cond b (alg_identified a.oid) None ≡ Some alg
+        → Names a.oid a.parameters alg
     go true p h = record { contents = identified_says a.oid alg h; plain = plain_says a.parameters p }
     go false p h = absurd (let z : None ≡ some alg = h in cc)
 
@@ -92,7 +97,8 @@ named_is a alg n = rw (plain_is a.parameters n.plain) (ap alg_identified n.conte
 -- an object identifier with absent or NULL parameters names its algorithm
 pub named_again : (alg : Alg) (parameters : Option (List ℕ)) → IsPlain parameters
     → alg_named (record { oid = contents_of alg; parameters = parameters }) ≡ Some alg
-named_again alg parameters plain = named_is (record { oid = contents_of alg; parameters = parameters }) alg (record { contents = refl; plain = plain })
+named_again alg parameters plain =
+    named_is (record { oid = contents_of alg; parameters = parameters }) alg (record { contents = refl; plain = plain })
 
 -- an algorithm that is found and is the only one is the one that is named
 pub named_only : (a : AlgorithmValue) (named : Option Alg) → IfSome named (Names a.oid a.parameters)
@@ -105,17 +111,21 @@ named_only a None found only = go (alg_named a) refl
     go (Some alg) e = only alg (named_says a alg e)
 
 -- the algorithm that is named is found, and is the only one
-pub named_found : (a : AlgorithmValue) (named : Option Alg) → named ≡ alg_named a → IfSome named (Names a.oid a.parameters)
+pub named_found : (a : AlgorithmValue) (named : Option Alg) → named ≡ alg_named a
+    → IfSome named (Names a.oid a.parameters)
 named_found a None e = tt
 named_found a (Some alg) e = named_says a alg (sym e)
 
 -- with absent or NULL parameters it is the algorithm of the object identifier
-pub plain_named : (octets oid : List ℕ) (parameters : Option (List ℕ)) (named : Option Alg) {b : Bool} → octets ≡ oid → IsTrue b ↔ IsPlain parameters → IsTrue b
+pub plain_named : (octets oid : List ℕ) (parameters : Option (List ℕ)) (named : Option Alg) {b : Bool} → octets ≡ oid
+    → IsTrue b ↔ IsPlain parameters → IsTrue b
     → IfSome named (λ alg. octets ≡ contents_of alg) → ((alg : Alg) → octets ≡ contents_of alg → named ≡ Some alg)
     → named ≡ alg_named (record { oid = oid; parameters = parameters })
-plain_named octets oid parameters named e plain is found only = rw (plain_is parameters (plain.0 is)) (go named found only)
+plain_named octets oid parameters named e plain is found only =
+    rw (plain_is parameters (plain.0 is)) (go named found only)
   where
-    go : (o : Option Alg) → IfSome o (λ alg. octets ≡ contents_of alg) → ((alg : Alg) → octets ≡ contents_of alg → o ≡ Some alg) → o ≡ alg_identified oid
+    go : (o : Option Alg) → IfSome o (λ alg. octets ≡ contents_of alg)
+        → ((alg : Alg) → octets ≡ contents_of alg → o ≡ Some alg) → o ≡ alg_identified oid
     go (Some alg) f t = sym (ap alg_identified (sym e ∙ f) ∙ identified_is alg)
     go None f t = last (alg_identified oid) refl
       where

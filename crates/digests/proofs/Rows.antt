@@ -7,19 +7,52 @@ use Rattle.digests.specs.Messages.{digest_of}
 use Rattle.digests.specs.DigestRows.{NoOctetRows, AbcRows, TwoBlockRows}
 
 pub no_octet_rows : NoOctetRows
-unfolding digest_of sha1.sha1 sha1.digest_bytes sha1.hash_after sha1.compress sha1.rounds sha1.schedule sha1.first_words sha256.sha224
-    sha256.sha256 sha256.digest_bytes sha256.hash_after sha256.compress sha256.rounds sha256.schedule sha256.first_words sha512.sha384 sha512.sha512
-    sha512.sha512_224 sha512.sha512_256 sha512.digest_bytes sha512.hash_after sha512.compress sha512.rounds sha512.schedule sha512.first_words
-no_octet_rows = record { sha1 = refl; sha224 = refl; sha256 = refl; sha384 = refl; sha512 = refl; sha512_224 = refl; sha512_256 = refl }
+unfolding digest_of sha1.sha1 sha1.digest_bytes sha1.hash_after sha1.compress sha1.rounds sha1.schedule sha1.first_words
+    sha256.sha224
+    sha256.sha256 sha256.digest_bytes sha256.hash_after sha256.compress sha256.rounds sha256.schedule sha256.first_words
+    sha512.sha384 sha512.sha512
+    sha512.sha512_224 sha512.sha512_256 sha512.digest_bytes sha512.hash_after sha512.compress sha512.rounds
+    sha512.schedule sha512.first_words
+no_octet_rows = record {
+  sha1 = refl;
+  sha224 = refl;
+  sha256 = refl;
+  sha384 = refl;
+  sha512 = refl;
+  sha512_224 = refl;
+  sha512_256 = refl;
+}
 
 pub abc_rows : AbcRows
-unfolding digest_of sha1.sha1 sha1.digest_bytes sha1.hash_after sha1.compress sha1.rounds sha1.schedule sha1.first_words sha256.sha224
-    sha256.sha256 sha256.digest_bytes sha256.hash_after sha256.compress sha256.rounds sha256.schedule sha256.first_words sha512.sha384 sha512.sha512
-    sha512.sha512_224 sha512.sha512_256 sha512.digest_bytes sha512.hash_after sha512.compress sha512.rounds sha512.schedule sha512.first_words
-abc_rows = record { sha1 = refl; sha224 = refl; sha256 = refl; sha384 = refl; sha512 = refl; sha512_224 = refl; sha512_256 = refl }
+unfolding digest_of sha1.sha1 sha1.digest_bytes sha1.hash_after sha1.compress sha1.rounds sha1.schedule sha1.first_words
+    sha256.sha224
+    sha256.sha256 sha256.digest_bytes sha256.hash_after sha256.compress sha256.rounds sha256.schedule sha256.first_words
+    sha512.sha384 sha512.sha512
+    sha512.sha512_224 sha512.sha512_256 sha512.digest_bytes sha512.hash_after sha512.compress sha512.rounds
+    sha512.schedule sha512.first_words
+abc_rows = record {
+  sha1 = refl;
+  sha224 = refl;
+  sha256 = refl;
+  sha384 = refl;
+  sha512 = refl;
+  sha512_224 = refl;
+  sha512_256 = refl;
+}
 
 pub two_block_rows : TwoBlockRows
-unfolding digest_of sha1.sha1 sha1.digest_bytes sha1.hash_after sha1.compress sha1.rounds sha1.schedule sha1.first_words sha256.sha224
-    sha256.sha256 sha256.digest_bytes sha256.hash_after sha256.compress sha256.rounds sha256.schedule sha256.first_words sha512.sha384 sha512.sha512
-    sha512.sha512_224 sha512.sha512_256 sha512.digest_bytes sha512.hash_after sha512.compress sha512.rounds sha512.schedule sha512.first_words
-two_block_rows = record { sha1 = refl; sha224 = refl; sha256 = refl; sha384 = refl; sha512 = refl; sha512_224 = refl; sha512_256 = refl }
+unfolding digest_of sha1.sha1 sha1.digest_bytes sha1.hash_after sha1.compress sha1.rounds sha1.schedule sha1.first_words
+    sha256.sha224
+    sha256.sha256 sha256.digest_bytes sha256.hash_after sha256.compress sha256.rounds sha256.schedule sha256.first_words
+    sha512.sha384 sha512.sha512
+    sha512.sha512_224 sha512.sha512_256 sha512.digest_bytes sha512.hash_after sha512.compress sha512.rounds
+    sha512.schedule sha512.first_words
+two_block_rows = record {
+  sha1 = refl;
+  sha224 = refl;
+  sha256 = refl;
+  sha384 = refl;
+  sha512 = refl;
+  sha512_224 = refl;
+  sha512_256 = refl;
+}

@@ -22,9 +22,11 @@ pub choose_lanes : (x y z : List ℕ) → length x ≡ 2 → length y ≡ 2 → 
     → Each1 (Fits w64) x → Each1 (Fits w64) y → Each1 (Fits w64) z
     → zip2 bit_xor z (zip2 bit_and x (zip2 bit_xor y z)) ≡ two_lanes long.ch x y z
 choose_lanes x y z hx hy hz fx fy fz =
-    let lane : (j : ℕ) → j < 2 → bit_xor (slice_index z j) (bit_and (slice_index x j) (bit_xor (slice_index y j) (slice_index z j)))
+    let lane : (j : ℕ) → j < 2
+    → bit_xor (slice_index z j) (bit_and (slice_index x j) (bit_xor (slice_index y j) (slice_index z j)))
     ≡ long.ch (slice_index x j) (slice_index y j) (slice_index z j) = λ j below.
-    choose_is w64 (slice_index x j) (slice_index y j) (slice_index z j) (lane_lt x j hx below fx) (lane_lt y j hy below fy) (lane_lt z j hz below fz) in
+    choose_is w64 (slice_index x j) (slice_index y j) (slice_index z j) (lane_lt x j hx below fx)
+    (lane_lt y j hy below fy) (lane_lt z j hz below fz) in
     (λ i. zip2 bit_xor (two_is z hz i) (zip2 bit_and (two_is x hx i) (zip2 bit_xor (two_is y hy i) (two_is z hz i))))
     ∙ (λ i. lane 0 (omega arith) i ∷ lane 1 (omega arith) i ∷ [])
 
@@ -51,16 +53,23 @@ choose_lane x y z =
 
 majority_lane : (x y z : ℕ) → low (bit_xor y (bit_and (bit_xor x y) (bit_xor y z))) ≡ short.maj (low x) (low y) (low z)
 majority_lane x y z =
-    rw (xor_mod y (bit_and (bit_xor x y) (bit_xor y z)) 32, and_mod (bit_xor x y) (bit_xor y z) 32, xor_mod x y 32, xor_mod y z 32)
+    rw (
+      xor_mod y (bit_and (bit_xor x y) (bit_xor y z)) 32,
+      and_mod (bit_xor x y) (bit_xor y z) 32,
+      xor_mod x y 32,
+      xor_mod y z 32,
+    )
     (majority_is (low x) (low y) (low z))
 
 abbrev Choose : List ℕ → List ℕ → List ℕ → Type 0
-Choose x y z = low_words (zip2 bit_xor z (zip2 bit_and x (zip2 bit_xor y z))) ≡ two_lanes short.ch (low_words x) (low_words y) (low_words z)
+Choose x y z = low_words (zip2 bit_xor z (zip2 bit_and x (zip2 bit_xor y z)))
+    ≡ two_lanes short.ch (low_words x) (low_words y) (low_words z)
 
 pub low_choose_lanes : (x y z : List ℕ) → length x ≡ 2 → length y ≡ 2 → length z ≡ 2 → Choose x y z
 low_choose_lanes x y z hx hy hz =
     of_two (λ u. Choose u y z) (λ a b. of_two (λ v. Choose (a ∷ b ∷ []) v z)
-    (λ c d. of_two (λ w. Choose (a ∷ b ∷ []) (c ∷ d ∷ []) w) (λ e f. (λ i. choose_lane a c e i ∷ choose_lane b d f i ∷ [])) z hz) y hy) x hx
+    (λ c d. of_two (λ w. Choose (a ∷ b ∷ []) (c ∷ d ∷ []) w)
+    (λ e f. (λ i. choose_lane a c e i ∷ choose_lane b d f i ∷ [])) z hz) y hy) x hx
 
 abbrev Majority : List ℕ → List ℕ → List ℕ → Type 0
 Majority x y z = low_words (zip2 bit_xor y (zip2 bit_and (zip2 bit_xor x y) (zip2 bit_xor y z)))
@@ -69,4 +78,5 @@ Majority x y z = low_words (zip2 bit_xor y (zip2 bit_and (zip2 bit_xor x y) (zip
 pub low_majority_lanes : (x y z : List ℕ) → length x ≡ 2 → length y ≡ 2 → length z ≡ 2 → Majority x y z
 low_majority_lanes x y z hx hy hz =
     of_two (λ u. Majority u y z) (λ a b. of_two (λ v. Majority (a ∷ b ∷ []) v z)
-    (λ c d. of_two (λ w. Majority (a ∷ b ∷ []) (c ∷ d ∷ []) w) (λ e f. (λ i. majority_lane a c e i ∷ majority_lane b d f i ∷ [])) z hz) y hy) x hx
+    (λ c d. of_two (λ w. Majority (a ∷ b ∷ []) (c ∷ d ∷ []) w)
+    (λ e f. (λ i. majority_lane a c e i ∷ majority_lane b d f i ∷ [])) z hz) y hy) x hx

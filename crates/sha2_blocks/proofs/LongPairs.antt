@@ -26,9 +26,11 @@ sigma1_lanes (a ∷ b ∷ c ∷ x) h = absurd (omega arith)
 -- ---- the rounds of both
 
 -- a round of both, with its sum
-pub both_next : (g h ws : List ℕ) (v next : Pair) (t sum : ℕ) → sum ≡ add64 (slice_index round_constants t) (slice_index ws t)
+pub both_next : (g h ws : List ℕ) (v next : Pair) (t sum : ℕ)
+    → sum ≡ add64 (slice_index round_constants t) (slice_index ws t)
     → AreBoth HoldOnce v (rounds g ws t) (rounds h ws t)
-    → ((x y : List ℕ) (k w : ℕ) → sum ≡ add64 k w → AreBoth HoldOnce v x y → AreBoth HoldOnce next (round x k w) (round y k w))
+    → ((x y : List ℕ) (k w : ℕ) → sum ≡ add64 k w → AreBoth HoldOnce v x y
+    → AreBoth HoldOnce next (round x k w) (round y k w))
     → AreBoth HoldOnce next (rounds g ws (t + 1)) (rounds h ws (t + 1))
 both_next g h ws v next t sum held both is =
     rw (rounds_next g ws t, rounds_next h ws t)
@@ -39,6 +41,7 @@ pub both_after : (v : Pair) (g h ws : List ℕ) (n k : ℕ) → n ≡ k → AreB
 both_after v g h ws n k e held = rw (← e) held
 
 -- before the first round
-pub both_none : (v : Pair) (g h ws : List ℕ) → AreBoth HoldOnce v g h → AreBoth HoldOnce v (rounds g ws 0) (rounds h ws 0)
+pub both_none : (v : Pair) (g h ws : List ℕ) → AreBoth HoldOnce v g h
+    → AreBoth HoldOnce v (rounds g ws 0) (rounds h ws 0)
 unfolding rounds
 both_none v g h ws held = held

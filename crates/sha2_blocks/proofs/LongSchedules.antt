@@ -1,10 +1,12 @@
 -- The words of a block of SHA-384, SHA-512, SHA-512/224 or SHA-512/256, two at a time, and their sums with the round
 -- constants.
-use Rattle.std.proofs.Common.{◌≡◌, ℕ, zero, suc, ◌+◌, ◌-◌, ◌*◌, ◌/◌, ◌%◌, ◌^◌, ◌<◌, ◌≤◌, List, [], ◌∷◌, ◌++◌, length, map, slice_index, bit_or}
+use Rattle.std.proofs.Common.{◌≡◌, ℕ, zero, suc, ◌+◌, ◌-◌, ◌*◌, ◌/◌, ◌%◌, ◌^◌, ◌<◌, ◌≤◌, List, [], ◌∷◌, ◌++◌, length}
+use Rattle.std.proofs.Common.{map, slice_index, bit_or}
 use Rattle.std.proofs.Common.{Fits, w64, bit_xor, refl, sym, ap, ◌∙◌, arith}
 use Rattle.std.proofs.lemmas.Simd.{Each1-get_or, get_or-chunk, length-chunk}
 use Rattle.std.specs.Simd.Lanes.{Each1, chunk, pick_l, zip2}
-use Rattle.sha2.specs.Sha512.{add64, next_word, round, round_constants, rounds, schedule, small_sigma0, small_sigma1, word_at}
+use Rattle.sha2.specs.Sha512.{add64, next_word, round, round_constants, rounds, schedule, small_sigma0, small_sigma1}
+use Rattle.sha2.specs.Sha512.{word_at}
 use Rattle.sha2.proofs.Schedule512.{rounds_next, slice_index-schedule_first, slice_index-schedule_next}
 use Rattle.sha2_blocks.proofs.Bits.{turned, twice_is}
 use Rattle.sha2_blocks.specs.LongSteps.{AreSixteen, HaveCome, two_sums, two_words}
@@ -28,10 +30,12 @@ lane_lt x j h below fits = (Each1-get_or (Fits w64) x j 0 (omega arith) fits).fi
 
 -- of two rotations the one by fewer places is done outside the sum
 pub sigma0_is : (x : ℕ) → x < 2 ^ 64 → bit_xor (turned 64 (bit_xor x (turned 64 x 7)) 1) (x / 2 ^ 7) ≡ small_sigma0 x
-sigma0_is x fits = ap (λ (y : ℕ). bit_xor y (x / 2 ^ 7)) (twice_is 64 x 1 7 (omega arith) (omega arith) (omega arith) fits)
+sigma0_is x fits =
+    ap (λ (y : ℕ). bit_xor y (x / 2 ^ 7)) (twice_is 64 x 1 7 (omega arith) (omega arith) (omega arith) fits)
 
 pub sigma1_is : (x : ℕ) → x < 2 ^ 64 → bit_xor (turned 64 (bit_xor x (turned 64 x 42)) 19) (x / 2 ^ 6) ≡ small_sigma1 x
-sigma1_is x fits = ap (λ (y : ℕ). bit_xor y (x / 2 ^ 6)) (twice_is 64 x 19 42 (omega arith) (omega arith) (omega arith) fits)
+sigma1_is x fits =
+    ap (λ (y : ℕ). bit_xor y (x / 2 ^ 6)) (twice_is 64 x 19 42 (omega arith) (omega arith) (omega arith) fits)
 
 pub sigma0_lanes : (x : List ℕ) → length x ≡ 2 → Each1 (Fits w64) x
     → zip2 bit_xor (turned_lanes (zip2 bit_xor x (turned_lanes x 7)) 1) (right_lanes x 7) ≡ map small_sigma0 x
@@ -53,7 +57,8 @@ sigma1_lanes (a ∷ b ∷ c ∷ x) h fits = absurd (omega arith)
 
 -- a word from those before it, added in the order of the code
 word_next : (b : List ℕ) (n i j k l : ℕ) → i + 16 ≡ n → j + 15 ≡ n → k + 7 ≡ n → l + 2 ≡ n → n < 80
-    → add64 (add64 (add64 (slice_index (schedule b 64) i) (slice_index (schedule b 64) k)) (small_sigma0 (slice_index (schedule b 64) j)))
+    → add64 (add64 (add64 (slice_index (schedule b 64) i) (slice_index (schedule b 64) k))
+    (small_sigma0 (slice_index (schedule b 64) j)))
     (small_sigma1 (slice_index (schedule b 64) l)) ≡ slice_index (schedule b 64) n
 word_next b n i j k l ei ej ek el below =
     let ws : List ℕ = schedule b 64 in
@@ -62,9 +67,12 @@ word_next b n i j k l ei ej ek el below =
     let nk : n - 7 ≡ k = omega arith in
     let nl : n - 2 ≡ l = omega arith in
     let next : slice_index ws n ≡ next_word ws n = slice_index-schedule_next b 64 n (omega arith) (omega arith) in
-    let order : add64 (add64 (add64 (slice_index ws i) (slice_index ws k)) (small_sigma0 (slice_index ws j))) (small_sigma1 (slice_index ws l))
-    ≡ add64 (add64 (add64 (small_sigma1 (slice_index ws l)) (slice_index ws k)) (small_sigma0 (slice_index ws j))) (slice_index ws i) =
-    reordered (slice_index ws i) (slice_index ws k) (small_sigma0 (slice_index ws j)) (small_sigma1 (slice_index ws l)) in
+    let order : add64 (add64 (add64 (slice_index ws i) (slice_index ws k)) (small_sigma0 (slice_index ws j)))
+    (small_sigma1 (slice_index ws l))
+    ≡ add64 (add64 (add64 (small_sigma1 (slice_index ws l)) (slice_index ws k)) (small_sigma0 (slice_index ws j)))
+    (slice_index ws i) =
+    reordered (slice_index ws i) (slice_index ws k) (small_sigma0 (slice_index ws j))
+    (small_sigma1 (slice_index ws l)) in
     order ∙ sym (rw (ni, nj, nk, nl) at next)
   where
     reordered : (x y z u : ℕ) → add64 (add64 (add64 x y) z) u ≡ add64 (add64 (add64 u y) z) x
@@ -79,12 +87,15 @@ pub two_next : (b : List ℕ) (t : ℕ) (w0 w1 w4 w5 w7 : List ℕ) → t + 18 �
     → w5 ≡ two_words (schedule b 64) (t + 10) → w7 ≡ two_words (schedule b 64) (t + 14)
     → words_after w0 w1 w4 w5 w7 ≡ two_words (schedule b 64) (t + 16)
 two_next b t w0 w1 w4 w5 w7 fits e0 e1 e4 e5 e7 =
-    let n0 = word_next b (t + 16) t (t + 1) (t + 8 + 1) (t + 14) (omega arith) (omega arith) (omega arith) (omega arith) (omega arith) in
-    let n1 = word_next b (t + 16 + 1) (t + 1) (t + 2) (t + 10) (t + 14 + 1) (omega arith) (omega arith) (omega arith) (omega arith) (omega arith) in
+    let n0 = word_next b (t + 16) t (t + 1) (t + 8 + 1) (t + 14) (omega arith) (omega arith) (omega arith) (omega arith)
+    (omega arith) in
+    let n1 = word_next b (t + 16 + 1) (t + 1) (t + 2) (t + 10) (t + 14 + 1) (omega arith) (omega arith) (omega arith)
+    (omega arith) (omega arith) in
     rw (e0, e1, e4, e5, e7) (λ i. n0 i ∷ n1 i ∷ [])
 
 -- the first sixteen words are the block's
-pub two_first : (b w : List ℕ) (t : ℕ) → t + 2 ≤ 16 → w ≡ word_at b (8 * t) ∷ word_at b (8 * t + 8) ∷ [] → w ≡ two_words (schedule b 64) t
+pub two_first : (b w : List ℕ) (t : ℕ) → t + 2 ≤ 16 → w ≡ word_at b (8 * t) ∷ word_at b (8 * t + 8) ∷ []
+    → w ≡ two_words (schedule b 64) t
 two_first b w t fits e =
     let p1 : 8 * (t + 1) ≡ 8 * t + 8 = omega arith in
     e ∙ sym (λ i. slice_index-schedule_first b 64 t (omega arith) i
@@ -104,7 +115,8 @@ two_is (a ∷ []) h = absurd (omega arith)
 two_is (a ∷ b ∷ c ∷ x) h = absurd (omega arith)
 
 -- the constants from place t on, with the words from t on
-pub sums_are : (words constants ws : List ℕ) (t : ℕ) → t + 2 ≤ 80 → constants ≡ chunk t 2 round_constants → words ≡ two_words ws t
+pub sums_are : (words constants ws : List ℕ) (t : ℕ) → t + 2 ≤ 80 → constants ≡ chunk t 2 round_constants
+    → words ≡ two_words ws t
     → zip2 add64 constants words ≡ two_sums ws t
 sums_are words constants ws t fits ec two =
     let none : t + 0 ≡ t = omega arith in
@@ -115,7 +127,8 @@ sums_are words constants ws t fits ec two =
     ∷ add64 (k1 i) (slice_index ws (t + 1)) ∷ [])
 
 -- a round, with its sum
-pub round_by : (h ws v next : List ℕ) (t sum : ℕ) → sum ≡ add64 (slice_index round_constants t) (slice_index ws t) → v ≡ rounds h ws t
+pub round_by : (h ws v next : List ℕ) (t sum : ℕ) → sum ≡ add64 (slice_index round_constants t) (slice_index ws t)
+    → v ≡ rounds h ws t
     → ((k w : ℕ) → sum ≡ add64 k w → next ≡ round v k w) → next ≡ rounds h ws (t + 1)
 round_by h ws v next t sum held ev is =
     is (slice_index round_constants t) (slice_index ws t) held

@@ -1,5 +1,6 @@
 -- Lists of octets that are cut and put together.
-use Rattle.std.proofs.Common.{◌≡◌, ℕ, ◌+◌, ◌-◌, ◌≤◌, List, ◌++◌, length, take, drop, sym, ap, ◌∙◌, arith, length-append, length-take}
+use Rattle.std.proofs.Common.{◌≡◌, ℕ, ◌+◌, ◌-◌, ◌≤◌, List, ◌++◌, length, take, drop, sym, ap, ◌∙◌, arith, length-append}
+use Rattle.std.proofs.Common.{length-take}
 use Rattle.std.proofs.lemmas.List.{drop-take, take-append-drop, take-take}
 use Rattle.std.proofs.lemmas.Slice.{take-put_mid}
 use Rattle.std.proofs.Math.Seq.{take-append_seam}
@@ -10,7 +11,8 @@ pub joined : (d : List ℕ) (a e : ℕ) → a ≤ e → take e d ≡ take a d ++
 joined d a e le =
     let n : ℕ = e - a in
     let at : e ≡ a + n = omega arith in
-    let whole : take a (take (a + n) d) ++ drop a (take (a + n) d) ≡ take (a + n) d = take-append-drop a (take (a + n) d) in
+    let whole : take a (take (a + n) d) ++ drop a (take (a + n) d) ≡ take (a + n) d =
+    take-append-drop a (take (a + n) d) in
     ap (λ (k : ℕ). take k d) at ∙ sym (rw (take-take a (a + n) d (omega arith), drop-take a n d) at whole)
 
 -- three lists, put into room one after the other

@@ -22,7 +22,8 @@ low_twice x fits = omega arith
 doubled_lane : (x : ℕ) → bit_or (bit_and x 0xffffffff) (x * 2 ^ 32 % 2 ^ 64) ≡ twice (low x)
 doubled_lane x =
     let front : x * 2 ^ 32 % 2 ^ 64 ≡ low x * 2 ^ 32 = omega arith in
-    (λ i. bit_or (and_mask x 32 i) (front i)) ∙ or_comm (low x) (low x * 2 ^ 32) ∙ or_shifted (low x) 32 (low x) (low_lt x)
+    (λ i. bit_or (and_mask x 32 i) (front i)) ∙ or_comm (low x) (low x * 2 ^ 32)
+    ∙ or_shifted (low x) 32 (low x) (low_lt x)
 
 -- the low half of a shift is the word rotated
 by2 : (x : ℕ) → x < 2 ^ 32 → low (twice x / 2 ^ 2) ≡ turned 32 x 2
@@ -47,7 +48,8 @@ by25 x fits = rw (turned_is 32 x 7 25 (omega arith) fits) (omega arith)
 abbrev three : ℕ → ℕ → ℕ → ℕ → ℕ
 three x j k l = bit_xor (bit_xor (x / 2 ^ j) (x / 2 ^ k)) (x / 2 ^ l)
 
-low_three : (x j k l : ℕ) → low (three x j k l) ≡ bit_xor (bit_xor (low (x / 2 ^ j)) (low (x / 2 ^ k))) (low (x / 2 ^ l))
+low_three : (x j k l : ℕ)
+    → low (three x j k l) ≡ bit_xor (bit_xor (low (x / 2 ^ j)) (low (x / 2 ^ k))) (low (x / 2 ^ l))
 low_three x j k l =
     xor_mod (bit_xor (x / 2 ^ j) (x / 2 ^ k)) (x / 2 ^ l) 32
     ∙ (λ i. bit_xor (xor_mod (x / 2 ^ j) (x / 2 ^ k) 32 i) (low (x / 2 ^ l)))
@@ -76,11 +78,13 @@ abbrev three_lanes : List ℕ → ℕ → ℕ → ℕ → List ℕ
 three_lanes x j k l = zip2 bit_xor (zip2 bit_xor (right_lanes x j) (right_lanes x k)) (right_lanes x l)
 
 abbrev doubled : List ℕ → List ℕ
-doubled x = zip2 bit_or (zip2 bit_and x (0xffffffff ∷ 0xffffffff ∷ [])) (zip2 (λ (y k : ℕ). y * 2 ^ k % 2 ^ 64) x (32 ∷ 32 ∷ []))
+doubled x = zip2 bit_or (zip2 bit_and x (0xffffffff ∷ 0xffffffff ∷ []))
+    (zip2 (λ (y k : ℕ). y * 2 ^ k % 2 ^ 64) x (32 ∷ 32 ∷ []))
 
 pub doubled_lanes : (x : List ℕ) → length x ≡ 2 → HoldTwice (doubled x) (low_words x)
 doubled_lanes x h = of_two (λ y. HoldTwice (doubled y) (low_words y)) (λ a b. record {
-  low = λ i. (ap low (doubled_lane a) ∙ low_twice (low a) (low_lt a)) i ∷ (ap low (doubled_lane b) ∙ low_twice (low b) (low_lt b)) i ∷ [];
+  low = λ i. (ap low (doubled_lane a) ∙ low_twice (low a) (low_lt a)) i
+      ∷ (ap low (doubled_lane b) ∙ low_twice (low b) (low_lt b)) i ∷ [];
   halves = λ i. doubled_lane a i ∷ doubled_lane b i ∷ [];
 }) x h
 
@@ -93,13 +97,17 @@ twice_second : (a b : ℕ) (words : List ℕ) → HoldTwice (a ∷ b ∷ []) wor
 twice_second a b words held =
     ap (λ (x : List ℕ). slice_index x 1) held.halves ∙ ap (λ (x : List ℕ). slice_index (map twice x) 1) (sym held.low)
 
-pub sigma0_lanes : (x words : List ℕ) → length x ≡ 2 → HoldTwice x words → low_words (three_lanes x 2 13 22) ≡ map big_sigma0 words
-sigma0_lanes x words h = of_two (λ y. HoldTwice y words → low_words (three_lanes y 2 13 22) ≡ map big_sigma0 words) (λ a b held.
+pub sigma0_lanes : (x words : List ℕ) → length x ≡ 2 → HoldTwice x words
+    → low_words (three_lanes x 2 13 22) ≡ map big_sigma0 words
+sigma0_lanes x words h =
+    of_two (λ y. HoldTwice y words → low_words (three_lanes y 2 13 22) ≡ map big_sigma0 words) (λ a b held.
     (λ i. sigma0_lane a (twice_first a b words held) i ∷ sigma0_lane b (twice_second a b words held) i ∷ [])
     ∙ ap (map big_sigma0) held.low) x h
 
-pub sigma1_lanes : (x words : List ℕ) → length x ≡ 2 → HoldTwice x words → low_words (three_lanes x 6 11 25) ≡ map big_sigma1 words
-sigma1_lanes x words h = of_two (λ y. HoldTwice y words → low_words (three_lanes y 6 11 25) ≡ map big_sigma1 words) (λ a b held.
+pub sigma1_lanes : (x words : List ℕ) → length x ≡ 2 → HoldTwice x words
+    → low_words (three_lanes x 6 11 25) ≡ map big_sigma1 words
+sigma1_lanes x words h =
+    of_two (λ y. HoldTwice y words → low_words (three_lanes y 6 11 25) ≡ map big_sigma1 words) (λ a b held.
     (λ i. sigma1_lane a (twice_first a b words held) i ∷ sigma1_lane b (twice_second a b words held) i ∷ [])
     ∙ ap (map big_sigma1) held.low) x h
 
@@ -115,14 +123,17 @@ both a b = a ∷ b ∷ []
 
 -- T 1 of both, with the sum of a constant and a word
 pub temp1_is : (x y h sigma choice : List ℕ) (s k w : ℕ) → s ≡ add32 k w → low_words h ≡ both_at x y 7
-    → low_words sigma ≡ map big_sigma1 (both_at x y 4) → low_words choice ≡ two_lanes ch (both_at x y 4) (both_at x y 5) (both_at x y 6)
+    → low_words sigma ≡ map big_sigma1 (both_at x y 4)
+    → low_words choice ≡ two_lanes ch (both_at x y 4) (both_at x y 5) (both_at x y 6)
     → low_words (zip2 add64 (zip2 add64 (zip2 add64 h sigma) choice) (both s s)) ≡ both (temp1 x k w) (temp1 y k w)
 temp1_is x y h sigma choice s k w sum eh es ec =
     low_sum (zip2 add64 (zip2 add64 h sigma) choice) (both s s)
     ∙ (λ i. zip2 add32 ((low_sum (zip2 add64 h sigma) choice
     ∙ (λ j. zip2 add32 ((low_sum h sigma ∙ (λ l. zip2 add32 (eh l) (es l))) j) (ec j))) i) (both (low s) (low s)))
-    ∙ (λ i. lane (add32 (add32 (slice_index x 7) (big_sigma1 (slice_index x 4))) (ch (slice_index x 4) (slice_index x 5) (slice_index x 6))) i
-    ∷ lane (add32 (add32 (slice_index y 7) (big_sigma1 (slice_index y 4))) (ch (slice_index y 4) (slice_index y 5) (slice_index y 6))) i ∷ [])
+    ∙ (λ i. lane (add32 (add32 (slice_index x 7) (big_sigma1 (slice_index x 4)))
+    (ch (slice_index x 4) (slice_index x 5) (slice_index x 6))) i
+    ∷ lane (add32 (add32 (slice_index y 7) (big_sigma1 (slice_index y 4)))
+    (ch (slice_index y 4) (slice_index y 5) (slice_index y 6))) i ∷ [])
   where
     lane : (n : ℕ) → add32 n (low s) ≡ add32 (add32 n k) w
     lane n = omega (arith, sum)
@@ -140,9 +151,11 @@ sum_is u v a b c d eu ev = low_sum u v ∙ (λ i. zip2 add32 (eu i) (ev i))
 -- ---- the rounds of both
 
 -- a round of both, with its sum
-pub both_next : (g h ws : List ℕ) (v next : Pair) (t sum : ℕ) → sum ≡ add32 (slice_index round_constants t) (slice_index ws t)
+pub both_next : (g h ws : List ℕ) (v next : Pair) (t sum : ℕ)
+    → sum ≡ add32 (slice_index round_constants t) (slice_index ws t)
     → AreBoth HoldTwice v (rounds g ws t) (rounds h ws t)
-    → ((x y : List ℕ) (k w : ℕ) → sum ≡ add32 k w → AreBoth HoldTwice v x y → AreBoth HoldTwice next (round x k w) (round y k w))
+    → ((x y : List ℕ) (k w : ℕ) → sum ≡ add32 k w → AreBoth HoldTwice v x y
+    → AreBoth HoldTwice next (round x k w) (round y k w))
     → AreBoth HoldTwice next (rounds g ws (t + 1)) (rounds h ws (t + 1))
 both_next g h ws v next t sum held both is =
     rw (rounds_next g ws t, rounds_next h ws t)
@@ -153,6 +166,7 @@ pub both_after : (v : Pair) (g h ws : List ℕ) (n k : ℕ) → n ≡ k → AreB
 both_after v g h ws n k e held = rw (← e) held
 
 -- before the first round
-pub both_none : (v : Pair) (g h ws : List ℕ) → AreBoth HoldTwice v g h → AreBoth HoldTwice v (rounds g ws 0) (rounds h ws 0)
+pub both_none : (v : Pair) (g h ws : List ℕ) → AreBoth HoldTwice v g h
+    → AreBoth HoldTwice v (rounds g ws 0) (rounds h ws 0)
 unfolding rounds
 both_none v g h ws held = held

@@ -1,10 +1,12 @@
 -- How the hash values and the octets after their blocks follow a message as it grows.
-use Rattle.std.proofs.Common.{◌≡◌, ℕ, zero, suc, ◌+◌, ◌-◌, ◌*◌, ◌/◌, ◌%◌, ◌^◌, ◌<◌, ◌≤◌, List, [], ◌++◌, length, take, drop, refl, sym, ap, ◌∙◌}
+use Rattle.std.proofs.Common.{◌≡◌, ℕ, zero, suc, ◌+◌, ◌-◌, ◌*◌, ◌/◌, ◌%◌, ◌^◌, ◌<◌, ◌≤◌, List, [], ◌++◌, length, take}
+use Rattle.std.proofs.Common.{drop, refl, sym, ap, ◌∙◌}
 use Rattle.std.proofs.Common.{append_assoc, arith, length-append, length-drop}
 use Rattle.std.proofs.lemmas.List.{append-nil, drop_all, length-take-le, take_all, take-append-drop}
 use Rattle.std.proofs.lemmas.Slice.{take-put_mid}
 use Rattle.sha2.specs.Sha256.{IsAbsorbed, compress, final_hash, hash_after, padded_message, padding}
-use Rattle.sha2.proofs.Absorbing256.{IsAbsorbed_block, IsAbsorbed_fill, IsAbsorbed_short, IsAbsorbed_tail, hash_after-append, hash_after_next}
+use Rattle.sha2.proofs.Absorbing256.{IsAbsorbed_block, IsAbsorbed_fill, IsAbsorbed_short, IsAbsorbed_tail}
+use Rattle.sha2.proofs.Absorbing256.{hash_after-append, hash_after_next}
 use Rattle.sha2_blocks.specs.declared.short_hashers.ShortHasher.{ShortHasher}
 use Rattle.sha2_blocks.specs.declared.short_hashers.ShortHashes.{ShortHashes}
 use Rattle.sha2_blocks.specs.ShortHashers.{EachShort, HoldsShort, KeptShort, short_after}
@@ -14,7 +16,8 @@ use borrow.Rule.Slice.PartMut.{post_of, put_mid}
 
 -- ---- what holds of each hash value
 
-pub each_then : (hs : ShortHashes) (P Q : List ℕ → List ℕ → Type 0) → EachShort hs P → ((i h : List ℕ) → P i h → Q i h) → EachShort hs Q
+pub each_then : (hs : ShortHashes) (P Q : List ℕ → List ℕ → Type 0) → EachShort hs P → ((i h : List ℕ) → P i h → Q i h)
+    → EachShort hs Q
 each_then hs P Q held next = record {
   sha224 = if_then hs.sha224 _ _ held.sha224 (next _);
   sha256 = if_then hs.sha256 _ _ held.sha256 (next _);
@@ -42,7 +45,8 @@ kept_then x y z first second = record { sha224 = second.sha224 ∙ first.sha224;
 -- ---- whole blocks
 
 -- the next block of these octets
-pub next_block : (h d x : List ℕ) (n a : ℕ) → a ≡ 64 * n → x ≡ take (a + 64 - a) (drop a d) → compress (hash_after h d n) x ≡ hash_after h d (n + 1)
+pub next_block : (h d x : List ℕ) (n a : ℕ) → a ≡ 64 * n → x ≡ take (a + 64 - a) (drop a d)
+    → compress (hash_after h d n) x ≡ hash_after h d (n + 1)
 next_block h d x n a ea ex =
     let at : a ≡ n * 64 = omega arith in
     let width : a + 64 - a ≡ 64 = omega arith in
@@ -60,7 +64,8 @@ unfolding hash_after
 absorbed_upto i h b m x zero held edge fits = rw (append-nil m) held
 absorbed_upto i h b m x (suc n) held edge fits =
     let next : suc n * 64 ≡ n * 64 + 64 = omega arith in
-    rw next (IsAbsorbed_block i (hash_after h x n) b m x _ (n * 64) (absorbed_upto i h b m x n held edge (omega arith)) (omega arith) (omega arith) refl)
+    rw next (IsAbsorbed_block i (hash_after h x n) b m x _ (n * 64) (absorbed_upto i h b m x n held edge (omega arith))
+    (omega arith) (omega arith) refl)
 
 pub absorbed_blocks : (i h b m x : List ℕ) → IsAbsorbed i h b m → length m % 64 ≡ 0 → length x % 64 ≡ 0
     → IsAbsorbed i (hash_after h x (length x / 64)) b (m ++ x)
@@ -78,24 +83,29 @@ pub held_octets : (h : ShortHasher) (m : List ℕ) → HoldsShort h m → EachSh
 unfolding HoldsShort
 held_octets h m held = held.1
 
-pub holds : (h : ShortHasher) (m : List ℕ) → h.total ≡ length m % 2 ^ 64 → EachShort h.hashes (λ i x. IsAbsorbed i x h.rest m) → HoldsShort h m
+pub holds : (h : ShortHasher) (m : List ℕ) → h.total ≡ length m % 2 ^ 64
+    → EachShort h.hashes (λ i x. IsAbsorbed i x h.rest m) → HoldsShort h m
 unfolding HoldsShort
 holds h m total octets = (total, octets)
 
 -- no block was begun
-pub none_begun : (i hash rest after m piece : List ℕ) (start : ℕ) → length m % 64 ≡ 0 → start ≡ 0 → IsAbsorbed i hash rest m
+pub none_begun : (i hash rest after m piece : List ℕ) (start : ℕ) → length m % 64 ≡ 0 → start ≡ 0
+    → IsAbsorbed i hash rest m
     → IsAbsorbed i (hash_after hash [] 0) after (m ++ take start piece)
 unfolding hash_after
 none_begun i hash rest after m piece start at es held = rw (es, append-nil m) (held.0, rw at (rw at at held.1))
 
 -- a block that a piece completes
 pub completed : (i hash rest after m piece ys : List ℕ) (used k start : ℕ) → length m % 64 ≡ used → 0 < used → used < 64
-    → start ≡ 64 - used → start ≤ length piece → length rest ≡ 64 → k ≡ start → ys ≡ take start piece → IsAbsorbed i hash rest m
-    → IsAbsorbed i (hash_after hash (take 64 (put_mid used k rest ys)) (length (take 64 (put_mid used k rest ys)) / 64)) after (m ++ take start piece)
+    → start ≡ 64 - used → start ≤ length piece → length rest ≡ 64 → k ≡ start → ys ≡ take start piece
+    → IsAbsorbed i hash rest m
+    → IsAbsorbed i (hash_after hash (take 64 (put_mid used k rest ys)) (length (take 64 (put_mid used k rest ys)) / 64))
+    after (m ++ take start piece)
 completed i hash rest after m piece ys used k start at some small er fits whole ek ey held =
     let size : length (take start piece) ≡ start = length-take-le start piece fits in
     let none : post_of used k rest ≡ [] = drop_all k (drop used rest) (omega (arith, length-drop used rest)) in
-    let block : put_mid used k rest ys ≡ take (length m % 64) rest ++ take start piece = rw (none, append-nil, ey, at) refl in
+    let block : put_mid used k rest ys ≡ take (length m % 64) rest ++ take start piece =
+    rw (none, append-nil, ey, at) refl in
     let front : length (take (length m % 64) rest) ≡ used = length-take-le (length m % 64) rest (omega arith) ∙ at in
     let count : length (put_mid used k rest ys) ≡ 64 =
     omega (arith, ap length block, length-append (take (length m % 64) rest) (take start piece)) in
@@ -103,23 +113,28 @@ completed i hash rest after m piece ys used k start at some small er fits whole 
     (IsAbsorbed_fill i hash rest after m (take start piece) (put_mid used k rest ys) held (omega arith) block)
 
 -- the whole blocks after it, and the octets after these
-pub taken : (i begun done rest after m d ys : List ℕ) (start end k : ℕ) → start ≤ end → end ≤ length d → length d - end < 64
+pub taken : (i begun done rest after m d ys : List ℕ) (start end k : ℕ) → start ≤ end → end ≤ length d
+    → length d - end < 64
     → (length m + start) % 64 ≡ 0 → (length m + end) % 64 ≡ 0
     → done ≡ hash_after begun (take (end - start) (drop start d)) (length (take (end - start) (drop start d)) / 64)
-    → after ≡ ys ++ post_of 0 k rest → ys ≡ drop end d → IsAbsorbed i begun rest (m ++ take start d) → IsAbsorbed i done after (m ++ d)
+    → after ≡ ys ++ post_of 0 k rest → ys ≡ drop end d → IsAbsorbed i begun rest (m ++ take start d)
+    → IsAbsorbed i done after (m ++ d)
 taken i begun done rest after m d ys start end k order fits short first last ed ea ey held =
     let blocks : List ℕ = take (end - start) (drop start d) in
-    let count : length blocks ≡ end - start = length-take-le (end - start) (drop start d) (omega (arith, length-drop start d)) in
+    let count : length blocks ≡ end - start =
+    length-take-le (end - start) (drop start d) (omega (arith, length-drop start d)) in
     let size : length (m ++ take start d) ≡ length m + start =
     length-append m (take start d) ∙ ap (λ (n : ℕ). length m + n) (length-take-le start d (omega arith)) in
     let whole : (m ++ take start d) ++ blocks ≡ m ++ take end d =
     append_assoc m (take start d) blocks ∙ ap (λ (x : List ℕ). m ++ x) (sym (joined d start end order)) in
-    let absorbed = rw whole at (absorbed_blocks i begun rest (m ++ take start d) blocks held (omega arith) (omega arith)) in
+    let absorbed =
+    rw whole at (absorbed_blocks i begun rest (m ++ take start d) blocks held (omega arith) (omega arith)) in
     IsAbsorbed_tail i after done rest m d ys end k (rw ed absorbed) last fits short ea ey
 
 -- a piece that leaves the block open
 pub shorter : (h n : ShortHasher) (m piece ys : List ℕ) (used k : ℕ) → HoldsShort h m → length h.rest ≡ 64
-    → used ≡ h.total % 64 → used + length piece < 64 → ys ≡ piece → n.total ≡ (h.total + length piece) % 2 ^ 64 → n.hashes ≡ h.hashes
+    → used ≡ h.total % 64 → used + length piece < 64 → ys ≡ piece → n.total ≡ (h.total + length piece) % 2 ^ 64
+    → n.hashes ≡ h.hashes
     → n.rest ≡ put_mid used k h.rest ys → HoldsShort n (m ++ piece)
 shorter h n m piece ys used k held whole at short same total hashes rest =
     let before : h.total ≡ length m % 2 ^ 64 = held_total h m held in
@@ -133,7 +148,8 @@ shorter h n m piece ys used k held whole at short same total hashes rest =
 -- a piece that ends a block
 pub longer : (h n : ShortHasher) (m piece : List ℕ) (used : ℕ) → HoldsShort h m → used ≡ h.total % 64
     → n.total ≡ (h.total + length piece) % 2 ^ 64
-    → ((x : List ℕ) → length x % 64 ≡ used → EachShort h.hashes (λ i y. IsAbsorbed i y h.rest x) → EachShort n.hashes (λ i y. IsAbsorbed i y n.rest (x ++ piece)))
+    → ((x : List ℕ) → length x % 64 ≡ used → EachShort h.hashes (λ i y. IsAbsorbed i y h.rest x)
+    → EachShort n.hashes (λ i y. IsAbsorbed i y n.rest (x ++ piece)))
     → HoldsShort n (m ++ piece)
 longer h n m piece used held at total taken =
     let before : h.total ≡ length m % 2 ^ 64 = held_total h m held in
@@ -149,7 +165,8 @@ message_end m rest last total end er el et =
     let at : total % 64 ≡ length m % 64 = omega arith in
     let bits : total * 8 % 2 ^ 64 ≡ length m * 8 % 2 ^ 64 = omega arith in
     let same : padding total ≡ padding (length m) = rw (at, bits) refl in
-    ap (λ (x : List ℕ). take end m ++ x) (el ∙ (λ i. er i ++ same i)) ∙ sym (append_assoc (take end m) (drop end m) (padding (length m)))
+    ap (λ (x : List ℕ). take end m ++ x) (el ∙ (λ i. er i ++ same i))
+    ∙ sym (append_assoc (take end m) (drop end m) (padding (length m)))
     ∙ ap (λ (x : List ℕ). x ++ padding (length m)) (take-append-drop end m)
 
 -- the hash value of its whole blocks is that of a message that ends there
@@ -165,13 +182,18 @@ front_absorbed i h b m held =
     (rw count (held.0 ∙ same), rw (none, count) (sym (drop_all (q * 64) f (omega arith))))
 
 -- the hash value of a padded message, after the blocks that come last
-pub ended : (i hash b f last m : List ℕ) → IsAbsorbed i hash b f → length f % 64 ≡ 0 → length last % 64 ≡ 0 → f ++ last ≡ padded_message m
+pub ended : (i hash b f last m : List ℕ) → IsAbsorbed i hash b f → length f % 64 ≡ 0 → length last % 64 ≡ 0
+    → f ++ last ≡ padded_message m
     → hash_after hash last (length last / 64) ≡ final_hash i m
 ended i hash b f last m held whole edge e = (rw e at (absorbed_blocks i hash b f last held whole edge)).0
 
 -- the same, from what a hasher has
-pub finished : (i hash b m rest last : List ℕ) (total : ℕ) → IsAbsorbed i hash b m → rest ≡ drop (length m / 64 * 64) m → last ≡ rest ++ padding total
-    → total % 2 ^ 64 ≡ length m % 2 ^ 64 → length last % 64 ≡ 0 → hash_after hash last (length last / 64) ≡ final_hash i m
+pub finished : (i hash b m rest last : List ℕ) (total : ℕ) → IsAbsorbed i hash b m → rest ≡ drop (length m / 64 * 64) m
+    → last ≡ rest ++ padding total
+    → total % 2 ^ 64 ≡ length m % 2 ^ 64 → length last % 64 ≡ 0
+    → hash_after hash last (length last / 64) ≡ final_hash i m
 finished i hash b m rest last total held er el et edge =
-    let size : length (take (length m / 64 * 64) m) ≡ length m / 64 * 64 = length-take-le (length m / 64 * 64) m (omega arith) in
-    ended i hash b _ last m (front_absorbed i hash b m held) (omega arith) edge (message_end m rest last total _ er el et)
+    let size : length (take (length m / 64 * 64) m) ≡ length m / 64 * 64 =
+    length-take-le (length m / 64 * 64) m (omega arith) in
+    ended i hash b _ last m (front_absorbed i hash b m held) (omega arith) edge
+    (message_end m rest last total _ er el et)

@@ -1,8 +1,10 @@
 -- The words of a block's schedule, four at a time, and their sums with the round constants.
-use Rattle.std.proofs.Common.{◌≡◌, ℕ, zero, suc, ◌+◌, ◌-◌, ◌*◌, ◌/◌, ◌%◌, ◌^◌, ◌<◌, ◌≤◌, List, [], ◌∷◌, ◌++◌, length, map, slice_index, bit_or}
+use Rattle.std.proofs.Common.{◌≡◌, ℕ, zero, suc, ◌+◌, ◌-◌, ◌*◌, ◌/◌, ◌%◌, ◌^◌, ◌<◌, ◌≤◌, List, [], ◌∷◌, ◌++◌, length}
+use Rattle.std.proofs.Common.{map, slice_index, bit_or}
 use Rattle.std.proofs.Common.{bit_xor, refl, sym, ap, ◌∙◌, arith}
 use Rattle.std.specs.Simd.Lanes.{pick_l, zip2}
-use Rattle.sha2.specs.Sha256.{add32, next_word, round, round_constants, rounds, schedule, small_sigma0, small_sigma1, word_at}
+use Rattle.sha2.specs.Sha256.{add32, next_word, round, round_constants, rounds, schedule, small_sigma0, small_sigma1}
+use Rattle.sha2.specs.Sha256.{word_at}
 use Rattle.sha2.proofs.Schedule256.{rounds_next, slice_index-schedule_first, slice_index-schedule_next}
 use Rattle.sha2_blocks.specs.ShortSteps.{AreSixteen, four_words}
 use Rattle.sha2_blocks.specs.declared.short_words.Sixteen.{Sixteen}
@@ -41,7 +43,8 @@ sigma1_lanes (a ∷ b ∷ c ∷ d ∷ e ∷ x) h = absurd (omega arith)
 
 -- a word from those before it, added in the order of the code
 word_next : (b : List ℕ) (n i j k l : ℕ) → i + 16 ≡ n → j + 15 ≡ n → k + 7 ≡ n → l + 2 ≡ n → n < 64
-    → add32 (add32 (add32 (slice_index (schedule b 48) i) (slice_index (schedule b 48) k)) (small_sigma0 (slice_index (schedule b 48) j)))
+    → add32 (add32 (add32 (slice_index (schedule b 48) i) (slice_index (schedule b 48) k))
+    (small_sigma0 (slice_index (schedule b 48) j)))
     (small_sigma1 (slice_index (schedule b 48) l)) ≡ slice_index (schedule b 48) n
 word_next b n i j k l ei ej ek el below =
     let ws : List ℕ = schedule b 48 in
@@ -50,9 +53,12 @@ word_next b n i j k l ei ej ek el below =
     let nk : n - 7 ≡ k = omega arith in
     let nl : n - 2 ≡ l = omega arith in
     let next : slice_index ws n ≡ next_word ws n = slice_index-schedule_next b 48 n (omega arith) (omega arith) in
-    let order : add32 (add32 (add32 (slice_index ws i) (slice_index ws k)) (small_sigma0 (slice_index ws j))) (small_sigma1 (slice_index ws l))
-    ≡ add32 (add32 (add32 (small_sigma1 (slice_index ws l)) (slice_index ws k)) (small_sigma0 (slice_index ws j))) (slice_index ws i) =
-    reordered (slice_index ws i) (slice_index ws k) (small_sigma0 (slice_index ws j)) (small_sigma1 (slice_index ws l)) in
+    let order : add32 (add32 (add32 (slice_index ws i) (slice_index ws k)) (small_sigma0 (slice_index ws j)))
+    (small_sigma1 (slice_index ws l))
+    ≡ add32 (add32 (add32 (small_sigma1 (slice_index ws l)) (slice_index ws k)) (small_sigma0 (slice_index ws j)))
+    (slice_index ws i) =
+    reordered (slice_index ws i) (slice_index ws k) (small_sigma0 (slice_index ws j))
+    (small_sigma1 (slice_index ws l)) in
     order ∙ sym (rw (ni, nj, nk, nl) at next)
   where
     reordered : (x y z u : ℕ) → add32 (add32 (add32 x y) z) u ≡ add32 (add32 (add32 u y) z) x
@@ -72,7 +78,8 @@ zeros = 0 ∷ 0 ∷ 0 ∷ 0 ∷ []
 
 -- with those two
 abbrev first_two : (w0 w1 w2 w3 : List ℕ) → List ℕ
-first_two w0 w1 w2 w3 = zip2 add32 (known_words w0 w1 w2 w3) (map small_sigma1 (pick_l 0 (w3 ++ zeros) (2 ∷ 3 ∷ 4 ∷ 4 ∷ [])))
+first_two w0 w1 w2 w3 =
+    zip2 add32 (known_words w0 w1 w2 w3) (map small_sigma1 (pick_l 0 (w3 ++ zeros) (2 ∷ 3 ∷ 4 ∷ 4 ∷ [])))
 
 -- and with the first two of the four themselves
 abbrev all_four : (w0 w1 w2 w3 : List ℕ) → List ℕ
@@ -80,13 +87,18 @@ all_four w0 w1 w2 w3 = zip2 add32 (first_two w0 w1 w2 w3)
     (map small_sigma1 (pick_l 0 (first_two w0 w1 w2 w3 ++ zeros) (4 ∷ 4 ∷ 0 ∷ 1 ∷ [])))
 
 pub four_next : (b : List ℕ) (t : ℕ) (w0 w1 w2 w3 : List ℕ) → t + 20 ≤ 64
-    → w0 ≡ four_words (schedule b 48) t → w1 ≡ four_words (schedule b 48) (t + 4) → w2 ≡ four_words (schedule b 48) (t + 8)
+    → w0 ≡ four_words (schedule b 48) t → w1 ≡ four_words (schedule b 48) (t + 4)
+    → w2 ≡ four_words (schedule b 48) (t + 8)
     → w3 ≡ four_words (schedule b 48) (t + 12) → all_four w0 w1 w2 w3 ≡ four_words (schedule b 48) (t + 16)
 four_next b t w0 w1 w2 w3 fits e0 e1 e2 e3 =
-    let n0 = word_next b (t + 16) t (t + 1) (t + 8 + 1) (t + 12 + 2) (omega arith) (omega arith) (omega arith) (omega arith) (omega arith) in
-    let n1 = word_next b (t + 16 + 1) (t + 1) (t + 2) (t + 8 + 2) (t + 12 + 3) (omega arith) (omega arith) (omega arith) (omega arith) (omega arith) in
-    let n2 = word_next b (t + 16 + 2) (t + 2) (t + 3) (t + 8 + 3) (t + 16) (omega arith) (omega arith) (omega arith) (omega arith) (omega arith) in
-    let n3 = word_next b (t + 16 + 3) (t + 3) (t + 4) (t + 12) (t + 16 + 1) (omega arith) (omega arith) (omega arith) (omega arith) (omega arith) in
+    let n0 = word_next b (t + 16) t (t + 1) (t + 8 + 1) (t + 12 + 2) (omega arith) (omega arith) (omega arith)
+    (omega arith) (omega arith) in
+    let n1 = word_next b (t + 16 + 1) (t + 1) (t + 2) (t + 8 + 2) (t + 12 + 3) (omega arith) (omega arith) (omega arith)
+    (omega arith) (omega arith) in
+    let n2 = word_next b (t + 16 + 2) (t + 2) (t + 3) (t + 8 + 3) (t + 16) (omega arith) (omega arith) (omega arith)
+    (omega arith) (omega arith) in
+    let n3 = word_next b (t + 16 + 3) (t + 3) (t + 4) (t + 12) (t + 16 + 1) (omega arith) (omega arith) (omega arith)
+    (omega arith) (omega arith) in
     let ws : List ℕ = schedule b 48 in
     let x2 : ℕ = add32 (slice_index ws (t + 2)) (slice_index ws (t + 8 + 3)) in
     let x3 : ℕ = add32 (slice_index ws (t + 3)) (slice_index ws (t + 12)) in
@@ -97,7 +109,8 @@ four_next b t w0 w1 w2 w3 fits e0 e1 e2 e3 =
 
 -- the first sixteen words are the block's
 pub four_first : (b w : List ℕ) (t : ℕ) → t + 4 ≤ 16
-    → w ≡ word_at b (4 * t) ∷ word_at b (4 * t + 4) ∷ word_at b (4 * t + 8) ∷ word_at b (4 * t + 12) ∷ [] → w ≡ four_words (schedule b 48) t
+    → w ≡ word_at b (4 * t) ∷ word_at b (4 * t + 4) ∷ word_at b (4 * t + 8) ∷ word_at b (4 * t + 12) ∷ []
+    → w ≡ four_words (schedule b 48) t
 four_first b w t fits e =
     let p1 : 4 * (t + 1) ≡ 4 * t + 4 = omega arith in
     let p2 : 4 * (t + 2) ≡ 4 * t + 8 = omega arith in
@@ -123,7 +136,8 @@ pub sixteen_at : (w : Sixteen) (ws : List ℕ) (n k : ℕ) → n ≡ k → AreSi
 sixteen_at w ws n k e held = rw (← e) held
 
 -- a round, with its sum
-pub round_by : (h ws v next : List ℕ) (t sum : ℕ) → sum ≡ add32 (slice_index round_constants t) (slice_index ws t) → v ≡ rounds h ws t
+pub round_by : (h ws v next : List ℕ) (t sum : ℕ) → sum ≡ add32 (slice_index round_constants t) (slice_index ws t)
+    → v ≡ rounds h ws t
     → ((k w : ℕ) → sum ≡ add32 k w → next ≡ round v k w) → next ≡ rounds h ws (t + 1)
 round_by h ws v next t sum held ev is =
     is (slice_index round_constants t) (slice_index ws t) held

@@ -6,7 +6,8 @@ pub if_then : (o : Option (List ℕ)) (P Q : List ℕ → Type 0) → IfSome o P
 if_then None P Q held next = tt
 if_then (Some h) P Q held next = next h held
 
-pub if_map : (o : Option (List ℕ)) (f : List ℕ → List ℕ) (P Q : List ℕ → Type 0) → IfSome o P → ((h : List ℕ) → P h → Q (f h))
+pub if_map : (o : Option (List ℕ)) (f : List ℕ → List ℕ) (P Q : List ℕ → Type 0) → IfSome o P
+    → ((h : List ℕ) → P h → Q (f h))
     → IfSome (option_map f o) Q
 if_map None f P Q held next = tt
 if_map (Some h) f P Q held next = next h held

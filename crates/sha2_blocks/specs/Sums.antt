@@ -5,7 +5,8 @@ use Rattle.sha2.specs.Sha512 as long
 
 -- the first n sums of a constant and a word
 abbrev pub AreSums : (ℕ → ℕ → ℕ) → List ℕ → List ℕ → List ℕ → ℕ → Type 0
-AreSums add constants sums ws n = (t : ℕ) → t < n → slice_index sums t ≡ add (slice_index constants t) (slice_index ws t)
+AreSums add constants sums ws n = (t : ℕ) → t < n
+    → slice_index sums t ≡ add (slice_index constants t) (slice_index ws t)
 
 -- of words of 32 bits
 abbrev pub AreShortSums : List ℕ → List ℕ → ℕ → Type 0

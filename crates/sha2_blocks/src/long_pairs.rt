@@ -45,7 +45,8 @@ fn begin_pair(first: &[u64; 8], second: &[u64; 8]) -> Pair
 /// One round of both, with the sum of its constant and its word.
 #[inline(always)]
 fn one_round(v: Pair, sum: u64) -> Pair
-    ensures { (x y : List ℕ) (k w : ℕ) → sum ≡ add64 k w → AreBoth HoldOnce v x y → AreBoth HoldOnce result (round x k w) (round y k w) }
+    ensures { (x y : List ℕ) (k w : ℕ) → sum ≡ add64 k w → AreBoth HoldOnce v x y
+        → AreBoth HoldOnce result (round x k w) (round y k w) }
 {
     let temp1 = v.h + upper_sigma1(v.e) + choose(v.e, v.f, v.g) + u64x2::splat(sum);
     let temp2 = upper_sigma0(v.a) + majority(v.a, v.b, v.c);

@@ -68,7 +68,8 @@ fn begin_pair(first: &[u32; 8], second: &[u32; 8]) -> Pair
 /// which `doubled` drops.
 #[inline(always)]
 fn one_round(v: Pair, sum: u32) -> Pair
-    ensures { (x y : List ℕ) (k w : ℕ) → sum ≡ add32 k w → AreBoth HoldTwice v x y → AreBoth HoldTwice result (round x k w) (round y k w) }
+    ensures { (x y : List ℕ) (k w : ℕ) → sum ≡ add32 k w → AreBoth HoldTwice v x y
+        → AreBoth HoldTwice result (round x k w) (round y k w) }
 {
     let temp1 = v.h + upper_sigma1(v.e) + choose(v.e, v.f, v.g) + u64x2::splat(sum as u64);
     let temp2 = upper_sigma0(v.a) + majority(v.a, v.b, v.c);

@@ -13,7 +13,8 @@ returns-then-is_element_of c =
     (ap Some c.whole.ensures ∙ (c.in-Some.ensures ∙ ap only c.names.ensures)) c.issuer.ensures c.is_element_of.ensures)
     c.if-is_element_of.true
     (compared c.bytes.result.now i.serial c.bytes-then-is_element_of.result.now v.tbs.serial c.is_same.result
-    (c.bytes.ensures.octets ∙ c.serial.ensures) (c.bytes-then-is_element_of.ensures.octets ∙ c.serial-then-is_element_of.ensures) c.is_same.ensures)
+    (c.bytes.ensures.octets ∙ c.serial.ensures)
+    (c.bytes-then-is_element_of.ensures.octets ∙ c.serial-then-is_element_of.ensures) c.is_same.ensures)
 
 pub returns-else-is_element_of : goal.returns-else-is_element_of
 returns-else-is_element_of c =

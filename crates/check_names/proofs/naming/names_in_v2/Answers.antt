@@ -11,4 +11,5 @@ returns-in-Some-hash_algorithm-clause-named g c =
     c.in-Some-hash_algorithm.ensures.found c.in-Some-hash_algorithm.ensures.only c.names_by.ensures.named
 
 pub returns-in-None-clause-named : goal.returns-in-None-clause-named
-returns-in-None-clause-named g c = unknown_in_v2 c.args.attributes.now c.args.certificate.now c.in-Some.first c.in-Some.ensures.only c.in-None.ensures.only
+returns-in-None-clause-named g c = unknown_in_v2 c.args.attributes.now c.args.certificate.now c.in-Some.first
+    c.in-Some.ensures.only c.in-None.ensures.only

@@ -10,7 +10,8 @@ invariant-loop-count g l = record {
   failures : g.S.Source.failures l.source ≡ g.S.Source.failures l.initial.source;
   telling : g.S.Source.tells l.initial.source → g.S.Source.tells l.source;
   kept : g.F.Feed.set l.hashers ≡ g.F.Feed.set l.initial.hashers;
-  given : (given : List ℕ) × SoFar g.F.Feed.fed l.initial.hashers l.hashers (g.S.Source.tells l.initial.source) (g.S.Source.rest l.initial.source)
+  given : (given : List ℕ) × SoFar g.F.Feed.fed l.initial.hashers l.hashers (g.S.Source.tells l.initial.source)
+      (g.S.Source.rest l.initial.source)
       (g.S.Source.rest l.source) l.total given;
 }
 

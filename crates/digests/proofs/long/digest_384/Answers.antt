@@ -4,4 +4,5 @@ use Rattle.digests.proofs.long.digest_384.Goals as goal
 
 pub returns : goal.returns
 unfolding sha384
-returns c = c.first_48.ensures ∙ ap (take 48) (c.octets_of.ensures ∙ ap (λ (h : List ℕ). digest_bytes h 8) c.hash_long.ensures)
+returns c =
+    c.first_48.ensures ∙ ap (take 48) (c.octets_of.ensures ∙ ap (λ (h : List ℕ). digest_bytes h 8) c.hash_long.ensures)

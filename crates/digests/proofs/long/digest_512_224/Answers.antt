@@ -4,4 +4,5 @@ use Rattle.digests.proofs.long.digest_512_224.Goals as goal
 
 pub returns : goal.returns
 unfolding sha512_224
-returns c = c.first_28.ensures ∙ ap (take 28) (c.octets_of.ensures ∙ ap (λ (h : List ℕ). digest_bytes h 8) c.hash_long.ensures)
+returns c =
+    c.first_28.ensures ∙ ap (take 28) (c.octets_of.ensures ∙ ap (λ (h : List ℕ). digest_bytes h 8) c.hash_long.ensures)

@@ -4,4 +4,5 @@ use Rattle.digests.proofs.long.digest_512_256.Goals as goal
 
 pub returns : goal.returns
 unfolding sha512_256
-returns c = c.first_32.ensures ∙ ap (take 32) (c.octets_of.ensures ∙ ap (λ (h : List ℕ). digest_bytes h 8) c.hash_long.ensures)
+returns c =
+    c.first_32.ensures ∙ ap (take 32) (c.octets_of.ensures ∙ ap (λ (h : List ℕ). digest_bytes h 8) c.hash_long.ensures)

@@ -14,5 +14,10 @@ returns c =
     let edge : length (take end m) % 128 ≡ 0 = omega (arith, length-take end m) in
     let first = absorbed_blocks i i [] [] (take end m) begun refl edge in
     rw c.take_blocks_of_one.ensures at c.take_blocks_of_one-2.ensures
-    ∙ ended i _ [] _ _ m first edge (omega (arith, c.put_last-count.ensures.edge, c.put_last-count.ensures.within, length-take c.put_last-count.result c.put_last-count.new.last))
+    ∙ ended i _ [] _ _ m first edge (omega (
+      arith,
+      c.put_last-count.ensures.edge,
+      c.put_last-count.ensures.within,
+      length-take c.put_last-count.result c.put_last-count.new.last,
+    ))
     (message_end m _ _ (length m) end (take_rest m end) c.put_last-count.ensures.octets refl)

@@ -9,8 +9,10 @@ each-init c = none_after _ _
 pub each-preserved : goal.each-preserved
 each-preserved c =
     let sums = c.put_schedule.ensures in
-    after_next c.args.hashes.now _ _ c.args.octets.now _ c.each.i (128 * c.each.i) refl refl c.each.invariant (c.take_if_any.ensures.first _ sums)
-    (c.take_if_any.ensures.second _ sums) (c.take_if_any-in-each.ensures.first _ sums) (c.take_if_any-in-each.ensures.second _ sums)
+    after_next c.args.hashes.now _ _ c.args.octets.now _ c.each.i (128 * c.each.i) refl refl c.each.invariant
+    (c.take_if_any.ensures.first _ sums)
+    (c.take_if_any.ensures.second _ sums) (c.take_if_any-in-each.ensures.first _ sums)
+    (c.take_if_any-in-each.ensures.second _ sums)
 
 pub returns : goal.returns
 returns c = c.each.invariant ∙ ap (long_after c.args.hashes.now c.args.octets.now) (omega (arith, c.each.auto.i-end))

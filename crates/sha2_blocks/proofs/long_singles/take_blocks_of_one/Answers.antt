@@ -9,7 +9,8 @@ each-init c = refl
 
 pub each-preserved : goal.each-preserved
 each-preserved c =
-    rw (c.take_block.ensures, c.each.invariant) (next_block c.args.hash.now c.args.octets.now _ c.each.i (128 * c.each.i) refl refl)
+    rw (c.take_block.ensures, c.each.invariant)
+    (next_block c.args.hash.now c.args.octets.now _ c.each.i (128 * c.each.i) refl refl)
 
 pub returns : goal.returns
 returns c = c.each.invariant ∙ ap (hash_after c.args.hash.now c.args.octets.now) (omega (arith, c.each.auto.i-end))

@@ -22,4 +22,5 @@ turns-preserved c =
     }
 
 pub returns : goal.returns
-returns c = fewer_long _ (schedule c.args.block.now 64) _ 80 (omega (arith, c.turns.auto.turn-end)) c.turns.invariant.sums
+returns c =
+    fewer_long _ (schedule c.args.block.now 64) _ 80 (omega (arith, c.turns.auto.turn-end)) c.turns.invariant.sums

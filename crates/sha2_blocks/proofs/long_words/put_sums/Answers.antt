@@ -6,5 +6,7 @@ use Rattle.sha2_blocks.proofs.long_words.put_sums.Goals as goal
 
 pub returns : goal.returns
 returns c = λ ws two.
-    sums_more add64 round_constants c.args.sums.now _ c.load_two.result c.args.words ws c.args.t 2 80 c.requires refl c.told-sums
-    c.load_two.ensures c.store_two.ensures (ap length two) (λ j small. ap (λ (x : List ℕ). slice_index x j) two ∙ two_at ws c.args.t j small)
+    sums_more add64 round_constants c.args.sums.now _ c.load_two.result c.args.words ws c.args.t 2 80 c.requires refl
+    c.told-sums
+    c.load_two.ensures c.store_two.ensures (ap length two)
+    (λ j small. ap (λ (x : List ℕ). slice_index x j) two ∙ two_at ws c.args.t j small)

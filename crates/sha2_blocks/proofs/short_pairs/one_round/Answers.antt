@@ -14,7 +14,8 @@ returns c = λ x y k w sum held.
       b = held.a;
       c = held.b;
       d = held.c;
-      e = rw (sum_is c.args.v.d _ (slice_index x 3) (slice_index y 3) (temp1 x k w) (temp1 y k w) held.d.low t1) at c.doubled-2.ensures;
+      e = rw (sum_is c.args.v.d _ (slice_index x 3) (slice_index y 3) (temp1 x k w) (temp1 y k w) held.d.low t1) at
+          c.doubled-2.ensures;
       f = held.e;
       g = held.f;
       h = held.g;

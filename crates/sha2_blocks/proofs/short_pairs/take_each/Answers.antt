@@ -13,12 +13,16 @@ each-preserved c =
     let sums = c.put_schedule.ensures in
     let i = c.each.invariant in
     record {
-      first = rw (c.take_sums_of_two.ensures.first _ sums, i.first) (next_block c.args.first.now d _ c.each.i (64 * c.each.i) refl refl);
-      second = rw (c.take_sums_of_two.ensures.second _ sums, i.second) (next_block c.args.second.now d _ c.each.i (64 * c.each.i) refl refl);
+      first = rw (c.take_sums_of_two.ensures.first _ sums, i.first)
+          (next_block c.args.first.now d _ c.each.i (64 * c.each.i) refl refl);
+      second = rw (c.take_sums_of_two.ensures.second _ sums, i.second)
+          (next_block c.args.second.now d _ c.each.i (64 * c.each.i) refl refl);
     }
 
 pub returns-clause-first : goal.returns-clause-first
-returns-clause-first c = c.each.invariant.first ∙ ap (hash_after c.args.first.now c.args.octets.now) (omega (arith, c.each.auto.i-end))
+returns-clause-first c =
+    c.each.invariant.first ∙ ap (hash_after c.args.first.now c.args.octets.now) (omega (arith, c.each.auto.i-end))
 
 pub returns-clause-second : goal.returns-clause-second
-returns-clause-second c = c.each.invariant.second ∙ ap (hash_after c.args.second.now c.args.octets.now) (omega (arith, c.each.auto.i-end))
+returns-clause-second c =
+    c.each.invariant.second ∙ ap (hash_after c.args.second.now c.args.octets.now) (omega (arith, c.each.auto.i-end))

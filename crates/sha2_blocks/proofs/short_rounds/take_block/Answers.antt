@@ -6,7 +6,11 @@ use Rattle.sha2_blocks.proofs.short_rounds.take_block.Goals as goal
 
 pub turns-init : goal.turns-init
 unfolding rounds
-turns-init c = record { words = c.sixteen_first-w.ensures; sums = c.put_sixteen.ensures _ c.sixteen_first-w.ensures; rounds = refl }
+turns-init c = record {
+  words = c.sixteen_first-w.ensures;
+  sums = c.put_sixteen.ensures _ c.sixteen_first-w.ensures;
+  rounds = refl;
+}
 
 pub turns-preserved : goal.turns-preserved
 turns-preserved c =
@@ -25,8 +29,10 @@ turns-preserved c =
     let s4 = c.four_more-w-in-turns-3.ensures.sums b w3 s3 in
     let v1 = c.four_rounds-v.ensures h ws (fewer_short _ ws _ (t + 4) (omega arith) s1) i.rounds in
     let v2 = c.four_rounds-v-in-turns.ensures h ws (fewer_short _ ws _ (t + 4 + 4) (omega arith) s2) v1 in
-    let v3 = c.four_rounds-v-in-turns-2.ensures h ws (fewer_short _ ws _ (t + 8 + 4) (omega arith) s3) (v2 ∙ ap (rounds h ws) (omega arith)) in
-    let v4 = c.four_rounds-v-in-turns-3.ensures h ws (fewer_short _ ws _ (t + 12 + 4) (omega arith) s4) (v3 ∙ ap (rounds h ws) (omega arith)) in
+    let v3 = c.four_rounds-v-in-turns-2.ensures h ws (fewer_short _ ws _ (t + 8 + 4) (omega arith) s3)
+    (v2 ∙ ap (rounds h ws) (omega arith)) in
+    let v4 = c.four_rounds-v-in-turns-3.ensures h ws (fewer_short _ ws _ (t + 12 + 4) (omega arith) s4)
+    (v3 ∙ ap (rounds h ws) (omega arith)) in
     record {
       words = sixteen_at _ ws _ next (omega arith) (c.four_more-w-in-turns-3.ensures.words b w3);
       sums = fewer_short _ ws _ (next + 16) (omega arith) s4;

@@ -12,7 +12,8 @@ returns-clause-words c = λ b w.
       first = w.second;
       second = at_place _ ws _ (t + 4 + 4) (omega arith) w.third;
       third = at_place _ ws _ (t + 4 + 8) (omega arith) w.fourth;
-      fourth = at_place _ ws _ (t + 4 + 12) (omega arith) (c.next_words-next.ensures b t (omega arith) w.first w.second w.third w.fourth);
+      fourth = at_place _ ws _ (t + 4 + 12) (omega arith)
+          (c.next_words-next.ensures b t (omega arith) w.first w.second w.third w.fourth);
     }
 
 pub returns-clause-sums : goal.returns-clause-sums

@@ -26,4 +26,5 @@ turns-preserved c =
     }
 
 pub returns : goal.returns
-returns c = fewer_short _ (schedule c.args.block.now 48) _ 64 (omega (arith, c.turns.auto.turn-end)) c.turns.invariant.sums
+returns c =
+    fewer_short _ (schedule c.args.block.now 48) _ 64 (omega (arith, c.turns.auto.turn-end)) c.turns.invariant.sums

@@ -15,5 +15,10 @@ returns-clause-hashes c = λ m held.
     rw c.take_blocks.ensures
     (each_after _ [] 0 _ _ (each_after h.hashes _ _ _ _ (held_octets h m held) (λ i x absorbed.
     finished i x h.rest m _ _ h.total absorbed (rw used absorbed.1) c.put_last-count.ensures.octets (omega arith)
-    (omega (arith, c.put_last-count.ensures.edge, c.put_last-count.ensures.within, length-take c.put_last-count.result c.put_last-count.new.last))))
+    (omega (
+      arith,
+      c.put_last-count.ensures.edge,
+      c.put_last-count.ensures.within,
+      length-take c.put_last-count.result c.put_last-count.new.last,
+    ))))
     (λ i x is. is))

@@ -15,8 +15,8 @@ use trust_lists::Trust;
 /// The first line of the text.
 const FIRST_LINE: &[u8] = b"cmsproof questions 1\n";
 
-/// Writes the text of the questions about signers: the first line, and the lines of the questions about each of them and
-/// its tokens, in order, as `questions` says.
+/// Writes the text of the questions about signers: the first line, and the lines of the questions about each of them
+/// and its tokens, in order, as `questions` says.
 ///
 /// Errors: `SinkFault`, at the first failure of the sink. A beginning of the text was then written.
 pub fn put_text<S: Sink>(sink: &mut S, trust: &Trust, signers: &Signers) -> Result<(), SinkFault>

@@ -1,9 +1,9 @@
 -- What is written for the questions of a file that comes from a source, and what is returned. Begin here.
 --
--- If it is known which octets the source has to give, the text is that of the questions of these octets, in the words of
--- check_questions/specs/FileQuestions.antt and QuestionsText.antt. If they don't encode a ContentInfo, the fault that is
--- named holds openly: it is a fault of the octets, or it is met at an open place of them, so it may be named before
--- their end.
+-- If it is known which octets the source has to give, the text is that of the questions of these octets, in the words
+-- of check_questions/specs/FileQuestions.antt and QuestionsText.antt. If they don't encode a ContentInfo, the fault
+-- that is named holds openly: it is a fault of the octets, or it is met at an open place of them, so it may be named
+-- before their end.
 use Rattle.std.specs.Prelude.{◌≡◌, ⊤, ◌⊎◌, ℕ, List, Result, Ok, Err}
 use Rattle.devices.specs.Device.{raised}
 use Rattle.der_core.specs.OpenFaults.{FaultsOpenly}

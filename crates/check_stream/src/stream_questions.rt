@@ -54,8 +54,8 @@ fn put_pass<S: Sink>(
 
 /// Writes the questions that a verifier must be asked so that a file can be judged, as `questions` of `check_questions`
 /// writes them of the same octets. The file is read once, to its end. The buffer holds the whole elements
-/// `eContentType` and `signerInfos` (RFC 5652 5.1, 5.2); nothing else of the file is kept, and nothing is allocated. The
-/// first octet is written when the file was read to its end.
+/// `eContentType` and `signerInfos` (RFC 5652 5.1, 5.2); nothing else of the file is kept, and nothing is allocated.
+/// The first octet is written when the file was read to its end.
 ///
 /// The window serves for one file after another: it is empty at the front of each.
 ///

@@ -1,5 +1,6 @@
 -- From the verdicts about the signers, one after another, to the verdict about all of them.
-use Rattle.std.proofs.Common.{◌≡◌, ℕ, zero, suc, ◌+◌, ◌-◌, List, [], ◌∷◌, ◌++◌, take, length, All, Option, Some, None, Result, Ok, Err, refl, sym, ap, subst}
+use Rattle.std.proofs.Common.{◌≡◌, ℕ, zero, suc, ◌+◌, ◌-◌, List, [], ◌∷◌, ◌++◌, take, length, All, Option, Some, None}
+use Rattle.std.proofs.Common.{Result, Ok, Err, refl, sym, ap, subst}
 use Rattle.std.proofs.Common.{◌∙◌, arith, inl, inr, ◌⊎◌}
 use Rattle.std.specs.Prelude.{Any, Contains, slice_get, MatchOption}
 use Rattle.std.proofs.lemmas.Bool.{cases_lt}
@@ -19,7 +20,8 @@ use Rattle.check_fit.specs.declared.rules.SignerRule.TheVariants as rule
 use Rattle.check_fit.specs.Fitting.{Wants, WantedBy, signer_claim, unhashed_answer}
 use Rattle.der_core.specs.Results.{◌>>=◌}
 use Rattle.check_verdict.specs.Passing.{Terms}
-use Rattle.check_verdict.specs.Verdicts.{IsMoment, IsLeast, IsGreatest, SignerPasses, Accepts, FirstBad, JudgesSigners, Judges}
+use Rattle.check_verdict.specs.Verdicts.{IsMoment, IsLeast, IsGreatest, SignerPasses, Accepts, FirstBad, JudgesSigners}
+use Rattle.check_verdict.specs.Verdicts.{Judges}
 use Rattle.check_verdict.specs.declared.signer.SignerRefused.{SignerRefused}
 use Rattle.check_verdict.specs.declared.signer.SignerRefused.TheVariants as refused
 use Rattle.check_verdict.specs.SignerVerdicts.{JudgesSigner, numbered, IsLater, IsNumber, IsOfSigners}
@@ -27,13 +29,15 @@ use Rattle.check_verdict.specs.Checking.{IsUnread}
 use Rattle.check_verdict.proofs.Stages.{any_before, any_last}
 
 -- what a signer among them wants one of them wants
-pub wanted_among : (policy : Policy) (before : List SignerValue) (s : SignerValue) (others : List SignerValue) (alg : Alg) → Wants policy s alg
+pub wanted_among : (policy : Policy) (before : List SignerValue) (s : SignerValue) (others : List SignerValue)
+    (alg : Alg) → Wants policy s alg
     → WantedBy policy (before ++ s ∷ others) alg
 wanted_among policy [] s others alg w = inl w
 wanted_among policy (x ∷ before) s others alg w = inr (wanted_among policy before s others alg w)
 
 -- what one of them and those before it want is wanted before, or by that one
-pub wanted_last : (policy : Policy) (before : List SignerValue) (s : SignerValue) (alg : Alg) → WantedBy policy (before ++ s ∷ []) alg
+pub wanted_last : (policy : Policy) (before : List SignerValue) (s : SignerValue) (alg : Alg)
+    → WantedBy policy (before ++ s ∷ []) alg
     → WantedBy policy before alg ⊎ Wants policy s alg
 wanted_last policy [] s alg (inl w) = inr w
 wanted_last policy [] s alg (inr w) = absurd w
@@ -43,16 +47,19 @@ wanted_last policy (x ∷ before) s alg (inr w) = elim (wanted_last policy befor
   | inr l ↦ inr l
 ]
 
-no_good : (claim : Result (List ℕ × Alg) SignerRule) (u : Unit {0}) → Ok u ≡ (claim >>= λ c. Err rule.DigestAlgorithm) → ⊥
+no_good : (claim : Result (List ℕ × Alg) SignerRule) (u : Unit {0}) → Ok u ≡ (claim >>= λ c. Err rule.DigestAlgorithm)
+    → ⊥
 no_good (Ok c) u e = let z : Ok u ≡ Err rule.DigestAlgorithm = e in absurd cc
 no_good (Err failed) u e = let z : Ok u ≡ Err failed = e in absurd cc
 
 -- a signer whose digest is not at hand does not fit
-pub unhashed_bad : (policy : Policy) (econtent_type : List ℕ) (s : SignerValue) → Ok tt ≡ unhashed_answer policy econtent_type s → ⊥
+pub unhashed_bad : (policy : Policy) (econtent_type : List ℕ) (s : SignerValue)
+    → Ok tt ≡ unhashed_answer policy econtent_type s → ⊥
 unhashed_bad policy econtent_type s e = no_good (signer_claim policy econtent_type s) tt e
 
 -- the refusal of one of the signers
-pub numbered_of : (count number : ℕ) (r : SignerRefused) → IsNumber count number → IsOfSigners count (Err (numbered number r))
+pub numbered_of : (count number : ℕ) (r : SignerRefused) → IsNumber count number
+    → IsOfSigners count (Err (numbered number r))
 numbered_of count number (refused.Rule failed) is = is
 numbered_of count number (refused.Token failed) is = (is, refl)
 numbered_of count number refused.Ask is = tt
@@ -75,12 +82,14 @@ module _ (t : Terms) (content econtent_type : List ℕ) where
   pub passed_none : Passed [] None
   passed_none = record { each = λ k d lt. absurd (omega (arith, lt)); latest_is = refl }
 
-  cases : (before : List SignerValue) (s : SignerValue) (m n : ℕ) → SignerPasses t content econtent_type s m → IsMomentOf (before ++ s ∷ []) n
+  cases : (before : List SignerValue) (s : SignerValue) (m n : ℕ) → SignerPasses t content econtent_type s m
+      → IsMomentOf (before ++ s ∷ []) n
       → IsMomentOf before n ⊎ (n ≡ m)
   cases before s m n passes (i, x, within, is, p) = elim (Contains-append_cases before (s ∷ []) x (i, within, is)) [
     | inl c ↦ inl (c.0, x, c.1, c.2, p)
     | inr c ↦ (let e = only_one x s c in
-        let q : SignerPasses t content econtent_type s n = subst (λ (y : SignerValue). SignerPasses t content econtent_type y n) (sym e) p in
+        let q : SignerPasses t content econtent_type s n =
+        subst (λ (y : SignerValue). SignerPasses t content econtent_type y n) (sym e) p in
         inr (one_least (IsMoment t s) n m q.earliest passes.earliest))
   ]
     where
@@ -88,31 +97,38 @@ module _ (t : Terms) (content econtent_type : List ℕ) where
       only_one x y (zero, within, is) = is
       only_one x y (suc i, within, is) = absurd (omega (arith, within))
 
-  greater : (before : List SignerValue) (s : SignerValue) (m k : ℕ) (latest : Option ℕ) → SignerPasses t content econtent_type s m
-      → IsLater latest m k → MatchOption latest (before ≡ []) (IsGreatest (IsMomentOf before)) → IsGreatest (IsMomentOf (before ++ s ∷ [])) k
+  greater : (before : List SignerValue) (s : SignerValue) (m k : ℕ) (latest : Option ℕ)
+      → SignerPasses t content econtent_type s m
+      → IsLater latest m k → MatchOption latest (before ≡ []) (IsGreatest (IsMomentOf before))
+      → IsGreatest (IsMomentOf (before ++ s ∷ [])) k
   greater before s m k None passes is h =
-      let now : IsMomentOf (before ++ s ∷ []) m = any_last (λ x. SignerPasses t content econtent_type x m) before s passes in
+      let now : IsMomentOf (before ++ s ∷ []) m =
+      any_last (λ x. SignerPasses t content econtent_type x m) before s passes in
       record {
         has = subst (IsMomentOf (before ++ s ∷ [])) (sym is) now;
         greatest = λ n any. elim (cases before s m n passes any) [
-          | inl old ↦ absurd (let z : length before ≡ 0 = ap (λ (l : List SignerValue). length l) h in omega (arith, old.2, z))
+          | inl old ↦
+              absurd (let z : length before ≡ 0 = ap (λ (l : List SignerValue). length l) h in omega (arith, old.2, z))
           | inr e ↦ omega (arith, is, e)
         ];
       }
   greater before s m k (Some l) passes (inl (lt, is)) h =
       record {
-        has = subst (IsMomentOf (before ++ s ∷ [])) (sym is) (any_before (λ x. SignerPasses t content econtent_type x l) before (s ∷ []) h.has);
+        has = subst (IsMomentOf (before ++ s ∷ [])) (sym is)
+            (any_before (λ x. SignerPasses t content econtent_type x l) before (s ∷ []) h.has);
         greatest = λ n any. elim (cases before s m n passes any) [
           | inl old ↦ (let le = h.greatest n old in omega (arith, is, le))
           | inr e ↦ omega (arith, is, e, lt)
         ];
       }
   greater before s m k (Some l) passes (inr (ge, is)) h =
-      let now : IsMomentOf (before ++ s ∷ []) m = any_last (λ x. SignerPasses t content econtent_type x m) before s passes in
+      let now : IsMomentOf (before ++ s ∷ []) m =
+      any_last (λ x. SignerPasses t content econtent_type x m) before s passes in
       record {
         has = subst (IsMomentOf (before ++ s ∷ [])) (sym is) now;
         greatest = λ n any. elim (cases before s m n passes any) [
-          | inl old ↦ (let le = h.greatest n old in elim (cases_lt m l) [ inl less ↦ absurd (ge less) | inr over ↦ omega (arith, is, le, over) ])
+          | inl old ↦ (let le = h.greatest n old in
+              elim (cases_lt m l) [ inl less ↦ absurd (ge less) | inr over ↦ omega (arith, is, le, over) ])
           | inr e ↦ omega (arith, is, e)
         ];
       }
@@ -121,16 +137,21 @@ module _ (t : Terms) (content econtent_type : List ℕ) where
   pub passed_more : (before : List SignerValue) (s : SignerValue) (m k : ℕ) (latest : Option ℕ) → Passed before latest
       → SignerPasses t content econtent_type s m → IsLater latest m k → Passed (before ++ s ∷ []) (Some k)
   passed_more before s m k latest h passes is =
-      record { each = All-push Good before s h.each (m, passes); latest_is = greater before s m k latest passes is h.latest_is }
+      record {
+        each = All-push Good before s h.each (m, passes);
+        latest_is = greater before s m k latest passes is h.latest_is;
+      }
 
   -- all of them are
-  pub passed_all : (signers : List SignerValue) (m : ℕ) → Passed signers (Some m) → Accepts t content econtent_type signers m
+  pub passed_all : (signers : List SignerValue) (m : ℕ) → Passed signers (Some m)
+      → Accepts t content econtent_type signers m
   passed_all signers m h = record { each = h.each; latest = h.latest_is }
 
   pub none_passed : (signers : List SignerValue) → Passed signers None → signers ≡ []
   none_passed signers h = h.latest_is
 
-  module _ (before : List SignerValue) (s : SignerValue) (others signers : List SignerValue) (number : ℕ) (latest : Option ℕ) (Bad : SignerValue → Type 0)
+  module _ (before : List SignerValue) (s : SignerValue) (others signers : List SignerValue) (number : ℕ)
+      (latest : Option ℕ) (Bad : SignerValue → Type 0)
     where
       first_bad : before ++ s ∷ others ≡ signers → length before ≡ number → Passed before latest → Bad s
           → FirstBad t content econtent_type signers (number + 1) Bad
@@ -139,10 +160,13 @@ module _ (t : Terms) (content econtent_type : List ℕ) where
           record {
             counts = omega arith;
             before = subst (λ (xs : List SignerValue). All Good xs) (sym (ap (λ (k : ℕ). take k signers) n
-                ∙ ap (λ (xs : List SignerValue). take (length before) xs) (sym all) ∙ take-append_seam before (s ∷ others))) h.each;
+                ∙ ap (λ (xs : List SignerValue). take (length before) xs) (sym all)
+                ∙ take-append_seam before (s ∷ others))) h.each;
             signer = s;
-            is = ap (λ (k : ℕ). slice_get signers k) n ∙ ap (λ (xs : List SignerValue). slice_get xs (length before)) (sym all) ∙ slice_get-get_or (before
-                ++ s ∷ others) (length before) s (omega (arith, length-append before (s ∷ others))) ∙ ap some (get_or-append_seam before s others s);
+            is = ap (λ (k : ℕ). slice_get signers k) n
+                ∙ ap (λ (xs : List SignerValue). slice_get xs (length before)) (sym all) ∙ slice_get-get_or (before
+                ++ s ∷ others) (length before) s (omega (arith, length-append before (s ∷ others)))
+                ∙ ap some (get_or-append_seam before s others s);
             bad = bad;
           }
         where
@@ -150,16 +174,22 @@ module _ (t : Terms) (content econtent_type : List ℕ) where
           some x = Some x
 
   -- the first who isn't
-  module _ (before : List SignerValue) (s : SignerValue) (others signers : List SignerValue) (number : ℕ) (latest : Option ℕ) where
-    pub judged_bad : (refusal : SignerRefused) → before ++ s ∷ others ≡ signers → length before ≡ number → Passed before latest
-        → JudgesSigner t content econtent_type s (Err refusal) → JudgesSigners t content econtent_type signers (Err (numbered (number + 1) refusal))
+  module _ (before : List SignerValue) (s : SignerValue) (others signers : List SignerValue) (number : ℕ)
+      (latest : Option ℕ) where
+    pub judged_bad : (refusal : SignerRefused) → before ++ s ∷ others ≡ signers → length before ≡ number
+        → Passed before latest
+        → JudgesSigner t content econtent_type s (Err refusal)
+        → JudgesSigners t content econtent_type signers (Err (numbered (number + 1) refusal))
     judged_bad (refused.Rule failed) all counted h j = first_bad before s others signers number latest _ all counted h j
-    judged_bad (refused.Token failed) all counted h j = first_bad before s others signers number latest _ all counted h j
+    judged_bad (refused.Token failed) all counted h j =
+        first_bad before s others signers number latest _ all counted h j
     judged_bad refused.Ask all counted h j = refl
 
 -- the verdict about the signers is that about the SignedData whose signers they are, with the type of its content
-pub of_signed : (t : Terms) (content econtent_type : List ℕ) (signers : List SignerValue) (v : SignedDataValue) (result : Result ℕ Refused)
-    → econtent_type ≡ v.encapsulated.content_type → signers ≡ v.signers → JudgesSigners t content econtent_type signers result
+pub of_signed : (t : Terms) (content econtent_type : List ℕ) (signers : List SignerValue) (v : SignedDataValue)
+    (result : Result ℕ Refused)
+    → econtent_type ≡ v.encapsulated.content_type → signers ≡ v.signers
+    → JudgesSigners t content econtent_type signers result
     → Judges t content v result
 of_signed t content econtent_type signers v result k s judged =
     subst (λ (xs : List SignerValue). JudgesSigners t content v.encapsulated.content_type xs result) s

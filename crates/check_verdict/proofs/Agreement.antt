@@ -18,14 +18,16 @@ abbrev refused : Refused → Result ℕ Refused
 refused r = Err r
 
 -- a file has one verdict
-one_verdict : (t : Terms) (file : List ℕ) (handed : Option (List ℕ)) (r s : Result ℕ Refused) → IsVerdict t file handed r → IsVerdict t file handed s
+one_verdict : (t : Terms) (file : List ℕ) (handed : Option (List ℕ)) (r s : Result ℕ Refused)
+    → IsVerdict t file handed r → IsVerdict t file handed s
     → verdict_alone r ≡ verdict_alone s
 one_verdict t file handed (Ok m) (Ok n) x y = ap accepted (one_moment t file handed m n x y)
 one_verdict t file handed (Ok m) (Err f) x y = absurd (never_both t file handed m f x y)
 one_verdict t file handed (Err f) (Ok n) x y = absurd (never_both t file handed n f y x)
 one_verdict t file handed (Err f) (Err k) x y = ap refused (one_refusal t file handed f k x y)
 
-with_others : (t : Terms) (file : List ℕ) (handed : Option (List ℕ)) (others : Asked → Bool) → Answers t file others → (r : Result ℕ Refused)
+with_others : (t : Terms) (file : List ℕ) (handed : Option (List ℕ)) (others : Asked → Bool) → Answers t file others
+    → (r : Result ℕ Refused)
     → IsVerdict t file handed r → IsVerdict (with_answers t others) file handed r
 with_others t file handed others agree (Ok m) x = (yes_suffices t file handed others agree m).0 x
 with_others t file handed others agree (Err f) x = (refusals_suffice t file handed others agree f).0 x

@@ -19,7 +19,8 @@ use Rattle.check_verdict.specs.Questions.{IsAboutToken, IsQuestion}
 use Rattle.check_verdict.proofs.Claims.{claim_says}
 
 -- of a token
-about_token : (policy : Policy) (trust : List EntryValue) (stamped token : List ℕ) (q : Asked) → IsAskedOfToken policy trust stamped token q
+about_token : (policy : Policy) (trust : List EntryValue) (stamped token : List ℕ) (q : Asked)
+    → IsAskedOfToken policy trust stamped token q
     → IsAboutToken trust token q
 about_token policy trust stamped token q a =
     let k = a.is_claim in
@@ -42,8 +43,10 @@ about_token policy trust stamped token q a =
     }
 
 -- of a signer of the file
-pub question_of_file : (t : Terms) (file content econtent_type : List ℕ) (v : SignedDataValue) (s : SignerValue) (q : Asked)
-    → EncodesSignedData file v → Contains v.signers s → IsAskedOf t content econtent_type s q → IsQuestion t.trust file q
+pub question_of_file :
+    (t : Terms) (file content econtent_type : List ℕ) (v : SignedDataValue) (s : SignerValue) (q : Asked)
+    → EncodesSignedData file v → Contains v.signers s → IsAskedOf t content econtent_type s q
+    → IsQuestion t.trust file q
 question_of_file t file content econtent_type v s q encodes among a = record {
   signed = v;
   encodes = encodes;
@@ -68,7 +71,8 @@ question_of_file t file content econtent_type v s q encodes among a = record {
 -- of the signers of a SignedData, with the type of its content
 pub of_signed_data : (t : Terms) (content econtent_type : List ℕ) (signers : List SignerValue) (v : SignedDataValue)
     (OnlyAsked : (Asked → Bool) → Type 0) → econtent_type ≡ v.encapsulated.content_type → signers ≡ v.signers
-    → ((test : Asked → Bool) → ((s : SignerValue) → Contains signers s → (q : Asked) → IsAskedOf t content econtent_type s q → test q ≡ true)
+    → ((test : Asked → Bool)
+    → ((s : SignerValue) → Contains signers s → (q : Asked) → IsAskedOf t content econtent_type s q → test q ≡ true)
     → OnlyAsked test) → AsksOnly OnlyAsked (IsAskedIn t content v)
 of_signed_data t content econtent_type signers v OnlyAsked k ss h = λ test asks. h test (λ s among q a. asks q (record {
   signer = s;
@@ -76,10 +80,12 @@ of_signed_data t content econtent_type signers v OnlyAsked k ss h = λ test asks
   about = subst (λ (x : List ℕ). IsAskedOf t content x s q) k a;
 }))
 
-module _ (t : Terms) (content econtent_type : List ℕ) (s : SignerValue) (fits : Fits t.policy content econtent_type s) where
+module _ (t : Terms) (content econtent_type : List ℕ) (s : SignerValue)
+    (fits : Fits t.policy content econtent_type s) where
   module _ (e : EntryValue) (trusted : Contains t.trust e) (named : NamesIfAny fits.attributes e.certificate) where
     -- of an entry that holds at the moment of a token
-    pub asked_at : (m : ℕ) → IsStamped t s m → IsSignersAt s (Some m) e → IsAskedOf t content econtent_type s (asked e.certificate s fits.attributes)
+    pub asked_at : (m : ℕ) → IsStamped t s m → IsSignersAt s (Some m) e
+        → IsAskedOf t content econtent_type s (asked e.certificate s fits.attributes)
     asked_at m stamped p = record {
       fits = fits;
       about = inl (record {
@@ -91,7 +97,8 @@ module _ (t : Terms) (content econtent_type : List ℕ) (s : SignerValue) (fits 
     }
 
     -- where no token passes
-    pub asked_unstamped : ((m : ℕ) → IsStamped t s m → ⊥) → IsSignersAt s None e → IsAskedOf t content econtent_type s (asked e.certificate s fits.attributes)
+    pub asked_unstamped : ((m : ℕ) → IsStamped t s m → ⊥) → IsSignersAt s None e
+        → IsAskedOf t content econtent_type s (asked e.certificate s fits.attributes)
     asked_unstamped never p = record {
       fits = fits;
       about = inl (record {
@@ -103,14 +110,18 @@ module _ (t : Terms) (content econtent_type : List ℕ) (s : SignerValue) (fits 
     }
 
   -- of a token of the signer
-  pub asked_token : (token : List ℕ) → Contains (tokens s) token → (q : Asked) → IsAskedOfToken t.policy t.trust s.signature token q
+  pub asked_token : (token : List ℕ) → Contains (tokens s) token → (q : Asked)
+      → IsAskedOfToken t.policy t.trust s.signature token q
       → IsAskedOf t content econtent_type s q
   asked_token token among q a = record { fits = fits; about = inr (token, among, a) }
 
 -- a token of the signer that passes
-pub stamped_by : (t : Terms) (s : SignerValue) (token : List ℕ) (m : ℕ) → Contains (tokens s) token → Passes t token s.signature m → IsStamped t s m
+pub stamped_by : (t : Terms) (s : SignerValue) (token : List ℕ) (m : ℕ) → Contains (tokens s) token
+    → Passes t token s.signature m → IsStamped t s m
 stamped_by t s token m among passes = (among.0, token, among.1, among.2, passes)
 
 -- what stands between others in a list is in it
-pub among_all : {A : Type 0} (before : List A) (x : A) (others all : List A) → before ++ x ∷ others ≡ all → Contains all x
-among_all {A} before x others all is = subst (λ (l : List A). Contains l x) is (Contains-append_right before (x ∷ others) x (0, omega arith, refl))
+pub among_all : {A : Type 0} (before : List A) (x : A) (others all : List A) → before ++ x ∷ others ≡ all
+    → Contains all x
+among_all {A} before x others all is =
+    subst (λ (l : List A). Contains l x) is (Contains-append_right before (x ∷ others) x (0, omega arith, refl))

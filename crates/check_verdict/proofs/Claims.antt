@@ -1,5 +1,6 @@
 -- What a token says where K1 to K9 hold.
-use Rattle.std.proofs.Common.{◌≡◌, ◌≢◌, ℕ, Bool, true, false, ◌||◌, cond, List, [], ◌∷◌, Option, Some, None, Result, Ok, Err, refl, sym, ap, subst, ◌∙◌}
+use Rattle.std.proofs.Common.{◌≡◌, ◌≢◌, ℕ, Bool, true, false, ◌||◌, cond, List, [], ◌∷◌, Option, Some, None, Result, Ok}
+use Rattle.std.proofs.Common.{Err, refl, sym, ap, subst, ◌∙◌}
 use Rattle.std.specs.List.{AllByRecursion}
 use Rattle.std.specs.Option.{ok_or}
 use Rattle.std.specs.Prelude.{unwrap_or}
@@ -26,7 +27,8 @@ use Rattle.tsp_types.specs.TstValue.{TstValue}
 use Rattle.digests.specs.Named.{alg_named}
 use Rattle.tsp_types.specs.TstValue.{id_tst_info}
 use Rattle.check_verdict.specs.Passing.{IsCalm}
-use Rattle.check_verdict.specs.TokenRules.{is_critical, TokenClaim, held, signed_by, stamp_verdict, claimed, token_claim}
+use Rattle.check_verdict.specs.TokenRules.{is_critical, TokenClaim, held, signed_by, stamp_verdict, claimed}
+use Rattle.check_verdict.specs.TokenRules.{token_claim}
 use Rattle.der_core.proofs.OnlyMember.{only_is}
 use Rattle.der_core.proofs.SameOctets.{is_then_same}
 use Rattle.check_fit.proofs.FitLaw.{fit_is, fit_from}
@@ -82,7 +84,8 @@ not_calm (e ∷ es) h = rw (not_critical e h.0) (not_calm es h.1)
 
 -- ---- what K1 to K9 found
 
-pub record Says (policy : Policy) (stamped : List ℕ) (signed : Result SignedDataValue CmsFault) (stamp : Result TstValue Fault) (c : TokenClaim) : Type 0 where
+pub record Says (policy : Policy) (stamped : List ℕ) (signed : Result SignedDataValue CmsFault)
+    (stamp : Result TstValue Fault) (c : TokenClaim) : Type 0 where
   pub value : SignedDataValue
   pub reads : signed ≡ Ok value
   pub econtent_type : value.encapsulated.content_type ≡ id_tst_info
@@ -113,18 +116,21 @@ same_claim a b e = cc
 pub held_says : (v : SignedDataValue) (content : List ℕ) → held v ≡ Ok content
     → (v.encapsulated.content_type ≡ id_tst_info) × (v.encapsulated.content ≡ Some content)
 held_says v content e =
-    let b = chose (is_same v.encapsulated.content_type id_tst_info) (ok_or v.encapsulated.content rule.NoContent) rule.ContentType content e in
+    let b = chose (is_same v.encapsulated.content_type id_tst_info)
+    (ok_or v.encapsulated.content rule.NoContent) rule.ContentType content e in
     (same v.encapsulated.content_type id_tst_info b.0, given v.encapsulated.content rule.NoContent content b.1)
 
 -- K4 and K5
-signed_says : (policy : Policy) (v : SignedDataValue) (content : List ℕ) (s : SignerValue) → signed_by policy v content ≡ Ok s
+signed_says : (policy : Policy) (v : SignedDataValue) (content : List ℕ) (s : SignerValue)
+    → signed_by policy v content ≡ Ok s
     → (v.signers ≡ s ∷ []) × Fits policy content id_tst_info s
 signed_says policy v content s e =
     let f = bind_ok (ok_or (only v.signers) rule.OneSigner)
     (λ x. or_as rule.Attributes (signer_answer policy content id_tst_info x) >>= λ u. signer_ok x) s e in
     let g = bind_ok (or_as rule.Attributes (signer_answer policy content id_tst_info f.0)) (λ u. signer_ok f.0) s f.2 in
     let is : f.0 ≡ s = same_signer f.0 s g.2 in
-    let fit = fit_is policy content id_tst_info f.0 g.0 (unchanged rule.Attributes (signer_answer policy content id_tst_info f.0) g.0 g.1) in (
+    let fit = fit_is policy content id_tst_info f.0 g.0
+    (unchanged rule.Attributes (signer_answer policy content id_tst_info f.0) g.0 g.1) in (
       only_is v.signers s (given (only v.signers) rule.OneSigner s (f.1 ∙ ap signer_ok is)),
       subst (λ (x : SignerValue). Fits policy content id_tst_info x) is fit,
     )
@@ -142,11 +148,14 @@ record IsGenuine (policy : Policy) (stamped : List ℕ) (x : TstValue) : Type 0 
   pub allows : allowed policy (alg_named x.imprint.algorithm) ≡ Some alg
   pub digest : x.imprint.digest ≡ digest_of alg stamped
 
-stamp_says : (policy : Policy) (stamped : List ℕ) (x : TstValue) (u : Unit {0}) → stamp_verdict policy stamped x ≡ Ok u → IsGenuine policy stamped x
+stamp_says : (policy : Policy) (stamped : List ℕ) (x : TstValue) (u : Unit {0}) → stamp_verdict policy stamped x ≡ Ok u
+    → IsGenuine policy stamped x
 stamp_says policy stamped x u e =
-    let imprint : Alg → Result (Unit {0}) TokenRule = λ alg. cond (is_same x.imprint.digest (digest_of alg stamped)) (Ok tt) (Err rule.ImprintDiffers) in
+    let imprint : Alg → Result (Unit {0}) TokenRule =
+    λ alg. cond (is_same x.imprint.digest (digest_of alg stamped)) (Ok tt) (Err rule.ImprintDiffers) in
     let i = passed (some is_critical (unwrap_or x.extensions []))
-    (ok_or (allowed policy (alg_named x.imprint.algorithm)) rule.ImprintAlgorithm >>= imprint) rule.CriticalExtension u e in
+    (ok_or (allowed policy (alg_named x.imprint.algorithm)) rule.ImprintAlgorithm >>= imprint) rule.CriticalExtension u
+    e in
     let j = bind_ok (ok_or (allowed policy (alg_named x.imprint.algorithm)) rule.ImprintAlgorithm) imprint u i.1 in
     let k = chose (is_same x.imprint.digest (digest_of j.0 stamped)) (Ok tt) rule.ImprintDiffers u j.2 in
     record {
@@ -156,12 +165,15 @@ stamp_says policy stamped x u e =
       digest = same x.imprint.digest (digest_of j.0 stamped) k.0;
     }
 
-pub claim_says : (policy : Policy) (stamped : List ℕ) (signed : Result SignedDataValue CmsFault) (stamp : Result TstValue Fault) (c : TokenClaim)
+pub claim_says : (policy : Policy) (stamped : List ℕ) (signed : Result SignedDataValue CmsFault)
+    (stamp : Result TstValue Fault) (c : TokenClaim)
     → token_claim policy stamped signed stamp ≡ Ok c → Says policy stamped signed stamp c
 claim_says policy stamped signed stamp c e =
-    let at_stamp : SignerValue → TstValue → Result TokenClaim TokenRule = λ s x. (stamp_verdict policy stamped x >>= λ u. claim_ok (claimed s x)) in
+    let at_stamp : SignerValue → TstValue
+    → Result TokenClaim TokenRule = λ s x. (stamp_verdict policy stamped x >>= λ u. claim_ok (claimed s x)) in
     let at_signer : SignerValue → Result TokenClaim TokenRule = λ s. (or_as rule.TstMalformed stamp >>= at_stamp s) in
-    let at_content : SignedDataValue → List ℕ → Result TokenClaim TokenRule = λ v content. (signed_by policy v content >>= at_signer) in
+    let at_content : SignedDataValue → List ℕ
+    → Result TokenClaim TokenRule = λ v content. (signed_by policy v content >>= at_signer) in
     let a = bind_ok (or_as rule.Malformed signed) (λ v. held v >>= at_content v) c e in
     let b = bind_ok (held a.0) (at_content a.0) c a.2 in
     let d = bind_ok (signed_by policy a.0 b.0) at_signer c b.2 in
@@ -190,10 +202,13 @@ claim_says policy stamped signed stamp c e =
     })
 
 -- what all that holds of is what the token says
-module _ (policy : Policy) (stamped : List ℕ) (signed : Result SignedDataValue CmsFault) (stamp : Result TstValue Fault) (v : SignedDataValue)
+module _ (policy : Policy) (stamped : List ℕ) (signed : Result SignedDataValue CmsFault) (stamp : Result TstValue Fault)
+    (v : SignedDataValue)
     (content : List ℕ) (s : SignerValue) (x : TstValue) (alg : Alg) where
-  pub claim_from : signed ≡ Ok v → v.encapsulated.content_type ≡ id_tst_info → v.encapsulated.content ≡ Some content → v.signers ≡ s ∷ []
-      → Fits policy content id_tst_info s → stamp ≡ Ok x → IsCalm x → allowed policy (alg_named x.imprint.algorithm) ≡ Some alg
+  pub claim_from : signed ≡ Ok v → v.encapsulated.content_type ≡ id_tst_info → v.encapsulated.content ≡ Some content
+      → v.signers ≡ s ∷ []
+      → Fits policy content id_tst_info s → stamp ≡ Ok x → IsCalm x
+      → allowed policy (alg_named x.imprint.algorithm) ≡ Some alg
       → x.imprint.digest ≡ digest_of alg stamped → token_claim policy stamped signed stamp ≡ Ok (claimed s x)
   claim_from is econtent_type present one fits is_stamp calm allows digest =
       rw (

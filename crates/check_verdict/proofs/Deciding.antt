@@ -1,5 +1,6 @@
 -- What the rules ask of an entry can be decided.
-use Rattle.std.proofs.Common.{◌≡◌, ℕ, zero, suc, ◌+◌, ◌<◌, ◌≤◌, ◌^◌, List, [], ◌∷◌, length, All, Option, Some, None, refl, subst, arith, inl, inr, ◌⊎◌}
+use Rattle.std.proofs.Common.{◌≡◌, ℕ, zero, suc, ◌+◌, ◌<◌, ◌≤◌, ◌^◌, List, [], ◌∷◌, length, All, Option, Some, None}
+use Rattle.std.proofs.Common.{refl, subst, arith, inl, inr, ◌⊎◌}
 use Rattle.std.specs.Prelude.{Any, Contains, IsSomeAnd}
 use Rattle.std.proofs.lemmas.Bool.{cases_lt}
 use Rattle.der_core.specs.declared.flag.Flag.{Flag}
@@ -32,9 +33,11 @@ some_and P None d = inr (λ h. h)
 some_and P (Some x) d = d x
 
 -- one of a list, or none
-pub find_any : {A : Type 0} (P : A → Type 0) (xs : List A) → ((x : A) → Contains xs x → Decided (P x)) → Any P xs ⊎ All (λ x. P x → ⊥) xs
+pub find_any : {A : Type 0} (P : A → Type 0) (xs : List A) → ((x : A) → Contains xs x → Decided (P x))
+    → Any P xs ⊎ All (λ x. P x → ⊥) xs
 find_any P [] d = inr (λ k e lt. absurd (omega (arith, lt)))
-find_any {A} P (x ∷ xs) d = go (d x (0, omega arith, refl)) (find_any P xs (λ y c. d y (suc c.0, omega (arith, c.1), c.2)))
+find_any {A} P (x ∷ xs) d =
+    go (d x (0, omega arith, refl)) (find_any P xs (λ y c. d y (suc c.0, omega (arith, c.1), c.2)))
   where
     none : (P x → ⊥) → All (λ y. P y → ⊥) xs → All (λ y. P y → ⊥) (x ∷ xs)
     none nay rest zero e lt = nay
@@ -57,8 +60,10 @@ stamping Tsa = inl refl
 
 pub matches : (sid : SidValue) (c : CertificateValue) → Decided (Matches sid c)
 matches (IssuerAndSerial issuer serial) c = both (octets_same c.tbs.issuer issuer) (octets_same c.tbs.serial serial)
-matches (KeyId id) c = some_and (λ (e : ExtensionValue). IsElement 0x04 id × (e.value ≡ el 0x04 id)) (extension_of id_subject_key_identifier c) (λ e.
-    both (in_words (λ lt. record { identifier = refl; size = lt }) (λ h. h.size) (less (length id) (2 ^ 32))) (octets_same e.value (el 0x04 id)))
+matches (KeyId id) c = some_and (λ (e : ExtensionValue). IsElement 0x04 id × (e.value ≡ el 0x04 id))
+    (extension_of id_subject_key_identifier c) (λ e.
+    both (in_words (λ lt. record { identifier = refl; size = lt }) (λ h. h.size) (less (length id) (2 ^ 32)))
+    (octets_same e.value (el 0x04 id)))
 
 critical : (f : Flag) → Decided (f ≡ flag.True)
 critical flag.Absent = inr (λ e. absurd cc)
@@ -66,27 +71,36 @@ critical flag.False = inr (λ e. absurd cc)
 critical flag.True = inl refl
 
 pub stamping_only : (c : CertificateValue) → Decided (IsStampingOnly c)
-stamping_only c = some_and (λ (e : ExtensionValue). (e.critical ≡ flag.True) × (e.value ≡ el 0x30 (el 0x06 id_time_stamping)))
-    (extension_of id_ext_key_usage c) (λ e. both (critical e.critical) (octets_same e.value (el 0x30 (el 0x06 id_time_stamping))))
+stamping_only c =
+    some_and (λ (e : ExtensionValue). (e.critical ≡ flag.True) × (e.value ≡ el 0x30 (el 0x06 id_time_stamping)))
+    (extension_of id_ext_key_usage c)
+    (λ e. both (critical e.critical) (octets_same e.value (el 0x30 (el 0x06 id_time_stamping))))
 
 pub holds : (e : EntryValue) (m : ℕ) → Decided (Holds e m)
-holds e m = in_words (λ ((from, until), (since, to)). record { valid_from = from; valid_until = until; trusted_from = since; trusted_until = to })
+holds e m = in_words (λ ((from, until), (since, to)).
+    record { valid_from = from; valid_until = until; trusted_from = since; trusted_until = to })
     (λ h. ((h.valid_from, h.valid_until), (h.trusted_from, h.trusted_until)))
-    (both (both (at_most (moment_of e.certificate.tbs.validity.from) m) (at_most m (moment_of e.certificate.tbs.validity.until)))
-    (both (if_some (λ first. first ≤ m) e.from (λ first. at_most first m)) (if_some (λ last. m ≤ last) e.until (λ last. at_most m last))))
+    (both (both (at_most (moment_of e.certificate.tbs.validity.from) m)
+    (at_most m (moment_of e.certificate.tbs.validity.until)))
+    (both (if_some (λ first. first ≤ m) e.from (λ first. at_most first m))
+    (if_some (λ last. m ≤ last) e.until (λ last. at_most m last))))
 
-pub vouched : (t : Terms) (e : EntryValue) (s : SignerValue) (attributes : List AttributeValue) → Decided (Vouched t e s attributes)
+pub vouched : (t : Terms) (e : EntryValue) (s : SignerValue) (attributes : List AttributeValue)
+    → Decided (Vouched t e s attributes)
 vouched t e s attributes = is_true (t.vouches (asked e.certificate s attributes))
 
 -- ---- filters
 
 -- an entry is left after the last filter, or they stop
-pub run : {E : Type 0} (Left : ℕ → E → Type 0) (total : ℕ) (es : List E) → 0 < total → ((k : ℕ) (e : E) → Decided (Left k e))
+pub run : {E : Type 0} (Left : ℕ → E → Type 0) (total : ℕ) (es : List E) → 0 < total
+    → ((k : ℕ) (e : E) → Decided (Left k e))
     → Any (Left total) es ⊎ ((n : ℕ) × StopsAt Left total es n)
 run {E} Left total es some decide = from total 0 (omega arith) (λ lt. absurd (omega (arith, lt)))
   where
-    from : (d n : ℕ) → n + d ≡ total → (0 < n → Any (Left n) es) → Any (Left total) es ⊎ ((k : ℕ) × StopsAt Left total es k)
-    from zero n e left = let z : n ≡ total = omega (arith, e) in inl (subst (λ (k : ℕ). Any (Left k) es) z (left (omega (arith, some, z))))
+    from : (d n : ℕ) → n + d ≡ total → (0 < n → Any (Left n) es)
+        → Any (Left total) es ⊎ ((k : ℕ) × StopsAt Left total es k)
+    from zero n e left = let z : n ≡ total = omega (arith, e) in
+        inl (subst (λ (k : ℕ). Any (Left k) es) z (left (omega (arith, some, z))))
     from (suc d) n e left = elim (find_any (Left (n + 1)) es (λ x c. decide (n + 1) x)) [
       | inl any ↦ from d (n + 1) (omega (arith, e)) (λ lt. any)
       | inr none ↦ inr (n, record { within = omega (arith, e); left = left; none = none })

@@ -10,11 +10,13 @@ abbrev pub Below : (ℕ → Type 0) → ℕ → Type 0
 Below P n = (m : ℕ) × (m < n) × P m
 
 -- where it can be told of each whether a lesser one is there, one is the least
-pub least_of : (P : ℕ → Type 0) → ((n : ℕ) → Decided (Below P n)) → (fuel n : ℕ) → n ≤ fuel → P n → (m : ℕ) × IsLeast P m
+pub least_of : (P : ℕ → Type 0) → ((n : ℕ) → Decided (Below P n)) → (fuel n : ℕ) → n ≤ fuel → P n
+    → (m : ℕ) × IsLeast P m
 least_of P below zero n le p = (n, record { has = p; least = λ k q. omega (arith, le) })
 least_of P below (suc fuel) n le p = elim (below n) [
   | inl h ↦ least_of P below fuel h.0 (omega (arith, h.1, le)) h.2
-  | inr none ↦ (n, record { has = p; least = λ k q. elim (cases_lt k n) [ inl lt ↦ absurd (none (k, lt, q)) | inr ge ↦ ge ] })
+  | inr none ↦
+      (n, record { has = p; least = λ k q. elim (cases_lt k n) [ inl lt ↦ absurd (none (k, lt, q)) | inr ge ↦ ge ] })
 ]
 
 -- each member of a list has one number: one of these is the greatest
@@ -54,13 +56,17 @@ module _ {A : Type 0} (P : A → ℕ → Type 0) (once : (x : A) (m n : ℕ) →
       elim (cases_lt first later) [
         | inl lt ↦ (
           later,
-          record { has = has_tail x (y ∷ xs) later most.has; greatest = λ n q. bounded x (y ∷ xs) first later n is (omega (arith, lt)) most.greatest q },
+          record {
+            has = has_tail x (y ∷ xs) later most.has;
+            greatest = λ n q. bounded x (y ∷ xs) first later n is (omega (arith, lt)) most.greatest q;
+          },
         )
         | inr ge ↦ (
           first,
           record {
             has = has_head x (y ∷ xs) first is;
-            greatest = λ n q. bounded x (y ∷ xs) first first n is (omega arith) (λ k t. (let le = most.greatest k t in omega (arith, le, ge))) q;
+            greatest = λ n q. bounded x (y ∷ xs) first first n is (omega arith)
+                (λ k t. (let le = most.greatest k t in omega (arith, le, ge))) q;
           },
         )
       ]

@@ -22,9 +22,11 @@ use Rattle.check_names.specs.NamingRows.{digest_of_certificate, named_by}
 use Rattle.tsp_types.specs.TstValue.{id_tst_info}
 use Rattle.check_verdict.specs.TokenRules.{LeftForToken}
 use Rattle.check_verdict.specs.Rows.{terms}
-use Rattle.check_verdict.specs.RuleRows.{its_signer, ClaimRows, authority_with, ext_key_usage, attests_with, claim_naming, NotForStamping, PurposeRows}
+use Rattle.check_verdict.specs.RuleRows.{its_signer, ClaimRows, authority_with, ext_key_usage, attests_with}
+use Rattle.check_verdict.specs.RuleRows.{claim_naming, NotForStamping, PurposeRows}
 use Rattle.check_fit.proofs.FitLaw.{fit_from}
-use Rattle.check_verdict.proofs.NamedCertificates.{Encoded, all_encoded, hash_unstated, hash_uncritical, hash_second, names_v2, must_name}
+use Rattle.check_verdict.proofs.NamedCertificates.{Encoded, all_encoded, hash_unstated, hash_uncritical, hash_second}
+use Rattle.check_verdict.proofs.NamedCertificates.{names_v2, must_name}
 use Rattle.check_verdict.proofs.RowsJudged.{one_of, token_fits, nor, nobody}
 
 -- ---- K1 to K9
@@ -47,12 +49,16 @@ claim_rows = record {
 
 record Digests : Type 0 where
   pub unstated : digest_of Sha256 (encoding (authority_with None)) ≡ hash_unstated
-  pub uncritical : digest_of Sha256 (encoding (authority_with (ext_key_usage flag.Absent (hex "06082b06010505070308")))) ≡ hash_uncritical
-  pub second : digest_of Sha256 (encoding (authority_with (ext_key_usage flag.True (hex "06082b0601050507030806082b06010505070301")))) ≡ hash_second
-  pub same : digest_of Sha256 (encoding (authority_with (ext_key_usage flag.True (hex "06082b06010505070308")))) ≡ digest_of_certificate
+  pub uncritical : digest_of Sha256 (encoding (authority_with (ext_key_usage flag.Absent (hex "06082b06010505070308"))))
+      ≡ hash_uncritical
+  pub second : digest_of Sha256 (encoding
+      (authority_with (ext_key_usage flag.True (hex "06082b0601050507030806082b06010505070301")))) ≡ hash_second
+  pub same : digest_of Sha256 (encoding (authority_with (ext_key_usage flag.True (hex "06082b06010505070308"))))
+      ≡ digest_of_certificate
 
 digests : Digests
-unfolding len digest_of sha256.sha256 sha256.digest_bytes sha256.hash_after sha256.compress sha256.rounds sha256.schedule sha256.first_words
+unfolding len digest_of sha256.sha256 sha256.digest_bytes sha256.hash_after sha256.compress sha256.rounds
+    sha256.schedule sha256.first_words
 digests = record { unstated = refl; uncritical = refl; second = refl; same = refl }
 
 not_empty : (a : AttributeValue) (xs : List AttributeValue) → a ∷ xs ≡ [] → ⊥
@@ -60,7 +66,8 @@ not_empty a xs e = absurd cc
 
 -- ---- for time-stamping alone
 
-named_so : (hash : List ℕ) (c : CertificateValue) → Encoded hash → digest_of Sha256 (encoding c) ≡ hash → MustName (named_by hash ∷ []) c
+named_so : (hash : List ℕ) (c : CertificateValue) → Encoded hash → digest_of Sha256 (encoding c) ≡ hash
+    → MustName (named_by hash ∷ []) c
 named_so hash c encodes digest = must_name (named_by hash ∷ []) c (λ occurs. occurs refl) (λ e. not_empty _ _ e)
     (names_v2 (named_by hash ∷ []) hash c refl encodes digest)
 
@@ -69,10 +76,13 @@ Left extensions hash k e = LeftForToken (terms (attests_with extensions ∷ []) 
 
 named_left : (extensions : Option (List ExtensionValue)) (hash : List ℕ) → Encoded hash
     → digest_of Sha256 (encoding (authority_with extensions)) ≡ hash → Left extensions hash 2 (attests_with extensions)
-named_left extensions hash encodes digest = ((refl, (refl, refl)), named_so hash (authority_with extensions) encodes digest)
+named_left extensions hash encodes digest =
+    ((refl, (refl, refl)), named_so hash (authority_with extensions) encodes digest)
 
-not_for_stamping : (extensions : Option (List ExtensionValue)) (hash : List ℕ) → Encoded hash → digest_of Sha256 (encoding
-    (authority_with extensions)) ≡ hash → (Left extensions hash 3 (attests_with extensions) → ⊥) → NotForStamping extensions hash
+not_for_stamping : (extensions : Option (List ExtensionValue)) (hash : List ℕ) → Encoded hash
+    → digest_of Sha256 (encoding
+    (authority_with extensions)) ≡ hash → (Left extensions hash 3 (attests_with extensions) → ⊥)
+    → NotForStamping extensions hash
 not_for_stamping extensions hash encodes digest never = record {
   filter = 2;
   stops = record {
@@ -100,14 +110,20 @@ not_at_0 h = let le = h.valid_from in omega (arith, le)
 usage_left : Left (ext_key_usage flag.True (hex "06082b06010505070308")) digest_of_certificate 3
     (attests_with (ext_key_usage flag.True (hex "06082b06010505070308")))
 unfolding len
-usage_left = (named_left (ext_key_usage flag.True (hex "06082b06010505070308")) digest_of_certificate all_encoded.authority digests.same, (refl, refl))
+usage_left = (
+  named_left (ext_key_usage flag.True (hex "06082b06010505070308")) digest_of_certificate
+      all_encoded.authority digests.same,
+  (refl, refl),
+)
 
 pub purpose_rows : PurposeRows
 purpose_rows = record {
   unstated = not_for_stamping None hash_unstated all_encoded.unstated digests.unstated (λ p. p.1);
-  uncritical = not_for_stamping (ext_key_usage flag.Absent (hex "06082b06010505070308")) hash_uncritical all_encoded.uncritical digests.uncritical
+  uncritical = not_for_stamping
+      (ext_key_usage flag.Absent (hex "06082b06010505070308")) hash_uncritical all_encoded.uncritical digests.uncritical
       (λ p. never_uncritical p.1.0);
-  second = not_for_stamping (ext_key_usage flag.True (hex "06082b0601050507030806082b06010505070301")) hash_second all_encoded.second digests.second
+  second = not_for_stamping (ext_key_usage flag.True (hex "06082b0601050507030806082b06010505070301")) hash_second
+      all_encoded.second digests.second
       (λ p. never_second p.1.1);
   ended = record {
     filter = 3;

@@ -42,12 +42,15 @@ module _ {E : Type 0} (Left : ℕ → E → Type 0) (e : E) where
   early_token token.SignatureFails other = absurd (other refl)
 
   -- it fails one of K10 to K13
-  pub token_stops : (failed : TokenFilter) → (failed ≡ token.SignatureFails → ⊥) → Comes Left 4 e (before_token failed) → Comes Left 5 e (before_token failed)
+  pub token_stops : (failed : TokenFilter) → (failed ≡ token.SignatureFails → ⊥) → Comes Left 4 e (before_token failed)
+      → Comes Left 5 e (before_token failed)
   token_stops failed other h = comes_on Left 4 e (before_token failed) (early_token failed other) h
 
   -- it passes them
-  pub token_is_left : (failed : TokenFilter) → failed ≡ token.SignatureFails → Comes Left 4 e (before_token failed) → Left 4 e
-  token_is_left failed is h = (subst (λ (filter : TokenFilter). Comes Left 4 e (before_token filter)) is h).left (omega arith)
+  pub token_is_left : (failed : TokenFilter) → failed ≡ token.SignatureFails → Comes Left 4 e (before_token failed)
+      → Left 4 e
+  token_is_left failed is h =
+      (subst (λ (filter : TokenFilter). Comes Left 4 e (before_token filter)) is h).left (omega arith)
 
   early_signer : (failed : SignerFilter) → (failed ≡ signer.SignatureFails → ⊥) → before_signer failed < 2
   early_signer signer.UnknownSigner other = omega arith
@@ -55,13 +58,16 @@ module _ {E : Type 0} (Left : ℕ → E → Type 0) (e : E) where
   early_signer signer.SignatureFails other = absurd (other refl)
 
   -- it fails one of S7 and S8
-  pub signer_stops : (failed : SignerFilter) → (failed ≡ signer.SignatureFails → ⊥) → Comes Left 2 e (before_signer failed)
+  pub signer_stops : (failed : SignerFilter) → (failed ≡ signer.SignatureFails → ⊥)
+      → Comes Left 2 e (before_signer failed)
       → Comes Left 3 e (before_signer failed)
   signer_stops failed other h = comes_on Left 2 e (before_signer failed) (early_signer failed other) h
 
   -- it passes them
-  pub signer_is_left : (failed : SignerFilter) → failed ≡ signer.SignatureFails → Comes Left 2 e (before_signer failed) → Left 2 e
-  signer_is_left failed is h = (subst (λ (filter : SignerFilter). Comes Left 2 e (before_signer filter)) is h).left (omega arith)
+  pub signer_is_left : (failed : SignerFilter) → failed ≡ signer.SignatureFails → Comes Left 2 e (before_signer failed)
+      → Left 2 e
+  signer_is_left failed is h =
+      (subst (λ (filter : SignerFilter). Comes Left 2 e (before_signer filter)) is h).left (omega arith)
 
 -- ---- a filter comes before the end of them
 
@@ -78,7 +84,8 @@ signer_is_within signer.NotNamed = omega arith
 signer_is_within signer.SignatureFails = omega arith
 
 -- what is asked of a signer
-pub question_is : (c : CertificateValue) (s : SignerValue) (q : Asked) → option_map (asked c s) s.signed_attributes ≡ Some q
+pub question_is : (c : CertificateValue) (s : SignerValue) (q : Asked)
+    → option_map (asked c s) s.signed_attributes ≡ Some q
     → q ≡ asked c s (unwrap_or s.signed_attributes [])
 question_is c s q e = go s.signed_attributes e
   where
@@ -86,13 +93,15 @@ question_is c s q e = go s.signed_attributes e
     go None h = absurd cc
     go (Some xs) h = cc
 
-pub question_of_some : (c : CertificateValue) (s : SignerValue) (attributes : List AttributeValue) (q : Asked) → s.signed_attributes ≡ Some attributes
+pub question_of_some : (c : CertificateValue) (s : SignerValue) (attributes : List AttributeValue) (q : Asked)
+    → s.signed_attributes ≡ Some attributes
     → option_map (asked c s) s.signed_attributes ≡ Some q → q ≡ asked c s attributes
 question_of_some c s attributes q has e = subst (λ (o : Option (List AttributeValue)). option_map (asked c s) o ≡ Some q
     → q ≡ asked c s attributes) (sym has) (λ h. cc) e
 
 -- no attributes name anybody
-pub unnamed : (c d : CertificateValue) (s : SignerValue) → option_map (asked c s) s.signed_attributes ≡ None → MustName (unwrap_or s.signed_attributes []) d → ⊥
+pub unnamed : (c d : CertificateValue) (s : SignerValue) → option_map (asked c s) s.signed_attributes ≡ None
+    → MustName (unwrap_or s.signed_attributes []) d → ⊥
 unnamed c d s e = go s.signed_attributes e
   where
     go : (o : Option (List AttributeValue)) → option_map (asked c s) o ≡ None → MustName (unwrap_or o []) d → ⊥

@@ -23,7 +23,8 @@ abbrev moments : ℕ → Result ℕ TokenRefused
 moments m = Ok m
 
 -- where it passes, that is the verdict, unless the verifier failed
-pub completes : (t : Terms) (token stamped : List ℕ) (result : Result ℕ TokenRefused) → IsTokenVerdict t token stamped result → (m : ℕ)
+pub completes : (t : Terms) (token stamped : List ℕ) (result : Result ℕ TokenRefused)
+    → IsTokenVerdict t token stamped result → (m : ℕ)
     → Passes t token stamped m → PassesOrDevice m result
 completes t token stamped (Ok n) is m p = inl (ap moments (one_moment t token stamped n m is p))
 completes t token stamped (Err (refused.Rule failed)) is m p = absurd (never_both t token stamped m failed p is)
@@ -32,7 +33,8 @@ completes t token stamped (Err (refused.Device fault)) is m p = inr tt
 module _ (t : Terms) (token stamped : List ℕ) (signed : Result SignedDataValue CmsFault) (stamp : Result TstValue Fault)
     (reads : Reads token signed stamp) where
   -- one of K1 to K9 fails
-  pub claim_fails : (failed : TokenRule) → token_claim t.policy stamped signed stamp ≡ Err failed → TokenFails t token stamped failed
+  pub claim_fails : (failed : TokenRule) → token_claim t.policy stamped signed stamp ≡ Err failed
+      → TokenFails t token stamped failed
   claim_fails failed e = record { signed = signed; stamp = stamp; reads = reads; first = inl e }
 
   module _ (c : TokenClaim) (e : token_claim t.policy stamped signed stamp ≡ Ok c) where
@@ -46,7 +48,12 @@ module _ (t : Terms) (token stamped : List ℕ) (signed : Result SignedDataValue
       first = inr (
         c,
         e,
-        record { filter = before_token failed; stops = best_stops (LeftForToken t c) 5 t.trust (before_token failed) (token_is_within failed) best; is = refl },
+        record {
+          filter = before_token failed;
+          stops =
+              best_stops (LeftForToken t c) 5 t.trust (before_token failed) (token_is_within failed) best;
+          is = refl;
+        },
       );
     }
 

@@ -1,5 +1,6 @@
 -- A token never both passes and fails, it passes with one moment, and it fails one rule first.
-use Rattle.std.proofs.Common.{◌≡◌, ◌≤◌, ℕ, zero, suc, List, [], Option, Some, Result, Ok, Err, refl, sym, ap, subst, ◌∙◌, inl, inr, ◌⊎◌, arith}
+use Rattle.std.proofs.Common.{◌≡◌, ◌≤◌, ℕ, zero, suc, List, [], Option, Some, Result, Ok, Err, refl, sym, ap, subst}
+use Rattle.std.proofs.Common.{◌∙◌, inl, inr, ◌⊎◌, arith}
 use Rattle.std.specs.Prelude.{Any, unwrap_or}
 use Rattle.der_core.specs.declared.fault.Fault.{Fault}
 use Rattle.der_core.specs.Results.{◌>>=◌, or_as}
@@ -20,7 +21,8 @@ use Rattle.check_verdict.specs.Filters.{Comes}
 use Rattle.digests.specs.Named.{alg_named}
 use Rattle.check_verdict.specs.Passing.{Terms, Vouched, StampedUnder, Passes}
 use Rattle.check_names.specs.Naming.{MustName}
-use Rattle.check_verdict.specs.TokenRules.{Reads, TokenClaim, held, signed_by, stamp_verdict, claimed, token_claim, LeftForToken, token_filter, RunsOut}
+use Rattle.check_verdict.specs.TokenRules.{Reads, TokenClaim, held, signed_by, stamp_verdict, claimed, token_claim}
+use Rattle.check_verdict.specs.TokenRules.{LeftForToken, token_filter, RunsOut}
 use Rattle.check_verdict.specs.Alone.{cms_alone, token_alone}
 use Rattle.check_verdict.specs.Laws.{TokensNeverBoth, TokensHaveOneMoment, TokensFailOneRule}
 use Rattle.check_verdict.proofs.Lists.{along, never_stops, stops_once, lowered}
@@ -38,7 +40,8 @@ falls t c (suc (suc (suc (suc zero)))) e p = p.0
 falls t c (suc (suc (suc (suc (suc n))))) e p = p
 
 -- an entry that passes K12 has a certificate for time-stamping alone
-pub past_purpose : (t : Terms) (c : TokenClaim) (e : EntryValue) (k : ℕ) → 3 ≤ k → Comes (LeftForToken t c) 5 e k → IsStampingOnly e.certificate
+pub past_purpose : (t : Terms) (c : TokenClaim) (e : EntryValue) (k : ℕ) → 3 ≤ k → Comes (LeftForToken t c) 5 e k
+    → IsStampingOnly e.certificate
 past_purpose t c e k le h = (lowered (LeftForToken t c) (falls t c) 3 k e le (h.left (omega (arith, le)))).1
 
 abbrev claim_ok : TokenClaim → Result TokenClaim TokenRule
@@ -51,18 +54,25 @@ some_attributes : (a b : List AttributeValue) (o : Option (List AttributeValue))
 some_attributes a b o e h = let z = sym e ∙ h in cc
 
 -- what a token says that passes
-passing_claim : (t : Terms) (token stamped : List ℕ) (m : ℕ) (p : Passes t token stamped m) (signed : Result SignedDataValue CmsFault)
-    (stamp : Result TstValue Fault) → Reads token signed stamp → token_claim t.policy stamped signed stamp ≡ Ok (claimed p.signer p.stamp)
+passing_claim : (t : Terms) (token stamped : List ℕ) (m : ℕ) (p : Passes t token stamped m)
+    (signed : Result SignedDataValue CmsFault)
+    (stamp : Result TstValue Fault) → Reads token signed stamp
+    → token_claim t.policy stamped signed stamp ≡ Ok (claimed p.signer p.stamp)
 passing_claim t token stamped m p signed stamp r =
     let is : signed ≡ Ok p.signed = reads_it token signed p.signed r.is_signed p.encodes in
-    let is_stamp : stamp ≡ Ok p.stamp = reads_tst p.content stamp p.stamp (r.is_stamp p.signed p.content is p.present) p.encodes_stamp in
-    let named : alg_named p.stamp.imprint.algorithm ≡ Some p.imprint.alg = named_is p.stamp.imprint.algorithm p.imprint.alg p.imprint.named in
-    claim_from t.policy stamped signed stamp p.signed p.content p.signer p.stamp p.imprint.alg is p.econtent_type p.present p.one_signer p.fits is_stamp p.calm
+    let is_stamp : stamp ≡ Ok p.stamp =
+    reads_tst p.content stamp p.stamp (r.is_stamp p.signed p.content is p.present) p.encodes_stamp in
+    let named : alg_named p.stamp.imprint.algorithm ≡ Some p.imprint.alg =
+    named_is p.stamp.imprint.algorithm p.imprint.alg p.imprint.named in
+    claim_from t.policy stamped signed stamp p.signed p.content p.signer p.stamp p.imprint.alg is p.econtent_type
+    p.present p.one_signer p.fits is_stamp p.calm
     (rw (named, p.imprint.allows) refl) p.imprint.digest
 
 -- an entry that it passes under is left after each filter
-passing_left : (t : Terms) (token stamped : List ℕ) (m : ℕ) (p : Passes t token stamped m) → Any (LeftForToken t (claimed p.signer p.stamp) 5) t.trust
-passing_left t token stamped m p = along (StampedUnder t p.signer p.attributes m) (LeftForToken t (claimed p.signer p.stamp) 5) t.trust
+passing_left : (t : Terms) (token stamped : List ℕ) (m : ℕ) (p : Passes t token stamped m)
+    → Any (LeftForToken t (claimed p.signer p.stamp) 5) t.trust
+passing_left t token stamped m p =
+    along (StampedUnder t p.signer p.attributes m) (LeftForToken t (claimed p.signer p.stamp) 5) t.trust
     (λ e c u. left e u) p.entry
   where
     are : p.attributes ≡ unwrap_or p.signer.signed_attributes []
@@ -88,10 +98,12 @@ never_both t token stamped m failed p f = by_rule f.first
 
     by_rule : ((token_claim t.policy stamped f.signed f.stamp ≡ Err failed)
         ⊎ ((c : TokenClaim) × (token_claim t.policy stamped f.signed f.stamp ≡ Ok c) × RunsOut t c failed)) → ⊥
-    by_rule (inl e) = not_failing (claimed p.signer p.stamp) failed (token_claim t.policy stamped f.signed f.stamp) claim e
+    by_rule (inl e) =
+        not_failing (claimed p.signer p.stamp) failed (token_claim t.policy stamped f.signed f.stamp) claim e
     by_rule (inr (c, e, out)) =
         let is : claimed p.signer p.stamp ≡ c = same_claim (claimed p.signer p.stamp) c (sym claim ∙ e) in
-        let any : Any (LeftForToken t c 5) t.trust = subst (λ (x : TokenClaim). Any (LeftForToken t x 5) t.trust) is (passing_left t token stamped m p) in
+        let any : Any (LeftForToken t c 5) t.trust =
+        subst (λ (x : TokenClaim). Any (LeftForToken t x 5) t.trust) is (passing_left t token stamped m p) in
         never_stops (LeftForToken t c) 5 t.trust out.filter (falls t c) any out.stops
 
 -- ---- one moment
@@ -104,7 +116,8 @@ one_moment t token stamped m n p q =
     let v : p.signed ≡ q.signed = one_value token p.signed q.signed p.encodes q.encodes in
     let content : p.content ≡ q.content = some_content p.content q.content q.signed.encapsulated.content
     (subst (λ (x : SignedDataValue). x.encapsulated.content ≡ Some p.content) v p.present) q.present in
-    let x : p.stamp ≡ q.stamp = one_tst q.content p.stamp q.stamp (subst (λ (b : List ℕ). EncodesTst b p.stamp) content p.encodes_stamp) q.encodes_stamp in
+    let x : p.stamp ≡ q.stamp = one_tst q.content p.stamp q.stamp
+    (subst (λ (b : List ℕ). EncodesTst b p.stamp) content p.encodes_stamp) q.encodes_stamp in
     sym p.moment ∙ ap (λ (y : TstValue). generalized_moment y.time) x ∙ q.moment
 
 -- ---- one rule
@@ -120,28 +133,35 @@ Alike a b = claim_alone a ≡ claim_alone b
 abbrev pub claims : Policy → (stamped : List ℕ) → SignerValue → TstValue → Result TokenClaim TokenRule
 claims policy stamped s x = stamp_verdict policy stamped x >>= λ u. claim_ok (claimed s x)
 
-bind_alike : {A : Type 0} (r : Result A TokenRule) (f g : A → Result TokenClaim TokenRule) → ((x : A) → r ≡ Ok x → Alike (f x) (g x))
+bind_alike : {A : Type 0} (r : Result A TokenRule) (f g : A → Result TokenClaim TokenRule)
+    → ((x : A) → r ≡ Ok x → Alike (f x) (g x))
     → Alike (r >>= f) (r >>= g)
 bind_alike (Ok x) f g h = h x refl
 bind_alike (Err e) f g h = refl
 
-by_stamp : (policy : Policy) (stamped : List ℕ) (stamp stamp' : Result TstValue Fault) (s : SignerValue) → tst_alone stamp ≡ tst_alone stamp'
-    → Alike (or_as rule.TstMalformed stamp >>= claims policy stamped s) (or_as rule.TstMalformed stamp' >>= claims policy stamped s)
-by_stamp policy stamped (Ok x) (Ok y) s e = let z : x ≡ y = ok_is x y e in ap (λ (w : TstValue). claim_alone (claims policy stamped s w)) z
+by_stamp : (policy : Policy) (stamped : List ℕ) (stamp stamp' : Result TstValue Fault) (s : SignerValue)
+    → tst_alone stamp ≡ tst_alone stamp'
+    → Alike (or_as rule.TstMalformed stamp >>= claims policy stamped s)
+    (or_as rule.TstMalformed stamp' >>= claims policy stamped s)
+by_stamp policy stamped (Ok x) (Ok y) s e =
+    let z : x ≡ y = ok_is x y e in ap (λ (w : TstValue). claim_alone (claims policy stamped s w)) z
 by_stamp policy stamped (Ok x) (Err g) s e = absurd cc
 by_stamp policy stamped (Err f) (Ok y) s e = absurd cc
 by_stamp policy stamped (Err f) (Err g) s e = refl
 
 -- what a token says whose octets read so, and its content so
 abbrev by_value : Policy → (stamped : List ℕ) → Result TstValue Fault → SignedDataValue → Result TokenClaim TokenRule
-by_value policy stamped stamp v = held v >>= λ content. signed_by policy v content >>= λ s. or_as rule.TstMalformed stamp >>= claims policy stamped s
+by_value policy stamped stamp v =
+    held v >>= λ content. signed_by policy v content >>= λ s. or_as rule.TstMalformed stamp >>= claims policy stamped s
 
 by_content : (policy : Policy) (stamped : List ℕ) (stamp stamp' : Result TstValue Fault) (v : SignedDataValue)
     → ((content : List ℕ) → v.encapsulated.content ≡ Some content → tst_alone stamp ≡ tst_alone stamp')
     → Alike (by_value policy stamped stamp v) (by_value policy stamped stamp' v)
 by_content policy stamped stamp stamp' v h =
-    bind_alike (held v) (λ content. signed_by policy v content >>= λ s. or_as rule.TstMalformed stamp >>= claims policy stamped s)
-    (λ content. signed_by policy v content >>= λ s. or_as rule.TstMalformed stamp' >>= claims policy stamped s) (λ content is.
+    bind_alike (held v)
+    (λ content. signed_by policy v content >>= λ s. or_as rule.TstMalformed stamp >>= claims policy stamped s)
+    (λ content. signed_by policy v content >>= λ s. or_as rule.TstMalformed stamp' >>= claims policy stamped s)
+    (λ content is.
     bind_alike (signed_by policy v content) (λ s. or_as rule.TstMalformed stamp >>= claims policy stamped s)
     (λ s. or_as rule.TstMalformed stamp' >>= claims policy stamped s) (λ s k.
     by_stamp policy stamped stamp stamp' s (h content (held_says v content is).1)))
@@ -149,9 +169,11 @@ by_content policy stamped stamp stamp' v h =
 same_fault : (f g : CmsFault) → reading_alone (Err f) ≡ reading_alone (Err g) → cms_alone f ≡ cms_alone g
 same_fault f g e = cc
 
-by_reading : (policy : Policy) (stamped : List ℕ) (signed signed' : Result SignedDataValue CmsFault) (stamp stamp' : Result TstValue Fault)
+by_reading : (policy : Policy) (stamped : List ℕ) (signed signed' : Result SignedDataValue CmsFault)
+    (stamp stamp' : Result TstValue Fault)
     → reading_alone signed ≡ reading_alone signed'
-    → ((v : SignedDataValue) (content : List ℕ) → signed ≡ Ok v → signed' ≡ Ok v → v.encapsulated.content ≡ Some content → tst_alone stamp ≡ tst_alone stamp')
+    → ((v : SignedDataValue) (content : List ℕ) → signed ≡ Ok v → signed' ≡ Ok v → v.encapsulated.content ≡ Some content
+    → tst_alone stamp ≡ tst_alone stamp')
     → Alike (token_claim policy stamped signed stamp) (token_claim policy stamped signed' stamp')
 by_reading policy stamped (Ok v) (Ok w) stamp stamp' e h =
     let is : v ≡ w = same_value v w e in
@@ -165,7 +187,8 @@ by_reading policy stamped (Ok v) (Ok w) stamp stamp' e h =
     same_value v w e = cc
 by_reading policy stamped (Ok v) (Err g) stamp stamp' e h = absurd cc
 by_reading policy stamped (Err f) (Ok w) stamp stamp' e h = absurd cc
-by_reading policy stamped (Err f) (Err g) stamp stamp' e h = ap (λ (x : CmsFault). failing (rule.Malformed x)) (same_fault f g e)
+by_reading policy stamped (Err f) (Err g) stamp stamp' e h =
+    ap (λ (x : CmsFault). failing (rule.Malformed x)) (same_fault f g e)
   where
     failing : TokenRule → Result TokenClaim TokenRule
     failing x = Err x
@@ -174,15 +197,19 @@ same_failure : (a b : TokenRule) → Alike (Err a) (Err b) → token_alone a ≡
 same_failure a b e = cc
 
 one_out : (t : Terms) (c : TokenClaim) (a b : TokenRule) → RunsOut t c a → RunsOut t c b → a ≡ b
-one_out t c a b h k = h.is ∙ ap token_filter (stops_once (LeftForToken t c) 5 t.trust h.filter k.filter (falls t c) h.stops k.stops) ∙ sym k.is
+one_out t c a b h k = h.is
+    ∙ ap token_filter (stops_once (LeftForToken t c) 5 t.trust h.filter k.filter (falls t c) h.stops k.stops) ∙ sym k.is
 
 abbrev First : (t : Terms) (claim : Result TokenClaim TokenRule) (failed : TokenRule) → Type 0
 First t claim failed = (claim ≡ Err failed) ⊎ ((c : TokenClaim) × (claim ≡ Ok c) × RunsOut t c failed)
 
-firsts : (t : Terms) (x y : Result TokenClaim TokenRule) (a b : TokenRule) → Alike x y → First t x a → First t y b → token_alone a ≡ token_alone b
+firsts : (t : Terms) (x y : Result TokenClaim TokenRule) (a b : TokenRule) → Alike x y → First t x a → First t y b
+    → token_alone a ≡ token_alone b
 firsts t x y a b alike (inl e) (inl h) = same_failure a b (sym (ap claim_alone e) ∙ alike ∙ ap claim_alone h)
-firsts t x y a b alike (inl e) (inr (d, h, out)) = let z = sym (ap claim_alone e) ∙ alike ∙ ap claim_alone h in absurd cc
-firsts t x y a b alike (inr (c, e, out)) (inl h) = let z = sym (ap claim_alone e) ∙ alike ∙ ap claim_alone h in absurd cc
+firsts t x y a b alike (inl e) (inr (d, h, out)) =
+    let z = sym (ap claim_alone e) ∙ alike ∙ ap claim_alone h in absurd cc
+firsts t x y a b alike (inr (c, e, out)) (inl h) =
+    let z = sym (ap claim_alone e) ∙ alike ∙ ap claim_alone h in absurd cc
 firsts t x y a b alike (inr (c, e, out)) (inr (d, h, out')) =
     let is : c ≡ d = same_claim c d (sym (ap claim_alone e) ∙ alike ∙ ap claim_alone h) in
     ap token_alone (one_out t d a b (subst (λ (z : TokenClaim). RunsOut t z a) is out) out')
@@ -190,6 +217,7 @@ firsts t x y a b alike (inr (c, e, out)) (inr (d, h, out')) =
 pub one_rule : TokensFailOneRule
 one_rule t token stamped a b f g =
     firsts t (token_claim t.policy stamped f.signed f.stamp) (token_claim t.policy stamped g.signed g.stamp) a b
-    (by_reading t.policy stamped f.signed g.signed f.stamp g.stamp (one_reading token f.signed g.signed f.reads.is_signed g.reads.is_signed)
+    (by_reading t.policy stamped f.signed g.signed f.stamp g.stamp
+    (one_reading token f.signed g.signed f.reads.is_signed g.reads.is_signed)
     (λ v content is is' present. one_tst_reading content f.stamp g.stamp (f.reads.is_stamp v content is present)
     (g.reads.is_stamp v content is' present))) f.first g.first

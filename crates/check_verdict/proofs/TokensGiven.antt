@@ -1,5 +1,6 @@
 -- Each token passes or fails.
-use Rattle.std.proofs.Common.{◌≡◌, ℕ, zero, suc, Bool, true, false, cond, List, [], ◌∷◌, Option, Some, None, Result, Ok, Err, refl, ap, subst, ◌∙◌, arith, inl}
+use Rattle.std.proofs.Common.{◌≡◌, ℕ, zero, suc, Bool, true, false, cond, List, [], ◌∷◌, Option, Some, None, Result, Ok}
+use Rattle.std.proofs.Common.{Err, refl, ap, subst, ◌∙◌, arith, inl}
 use Rattle.std.proofs.Common.{inr, ◌⊎◌}
 use Rattle.std.specs.Prelude.{Any, IfSome}
 use Rattle.std.specs.List.{AllByRecursion}
@@ -20,7 +21,8 @@ use Rattle.tsp_types.proofs.TstReaders.{tst_takes, tst_fault}
 use Rattle.trust_lists.specs.Entries.{EntryValue}
 use Rattle.digests.specs.Named.{alg_named}
 use Rattle.check_verdict.specs.Passing.{Terms, StampedUnder, Passes}
-use Rattle.check_verdict.specs.TokenRules.{IsTstReading, Reads, TokenClaim, token_claim, IsAuthority, IsNamedOne, IsForStamping, IsInPeriod, LeftForToken}
+use Rattle.check_verdict.specs.TokenRules.{IsTstReading, Reads, TokenClaim, token_claim, IsAuthority, IsNamedOne}
+use Rattle.check_verdict.specs.TokenRules.{IsForStamping, IsInPeriod, LeftForToken}
 use Rattle.check_verdict.specs.TokenRules.{token_filter, TokenFails}
 use Rattle.check_verdict.specs.Alone.{any_fault}
 use Rattle.check_verdict.specs.Laws.{TokensPassOrFail}
@@ -52,7 +54,8 @@ no_stamp = (Err any_fault, λ content e. absurd (let z = e in cc))
 
 stamp_of : (o : Option (List ℕ)) → IfSome o IsBytes → Stamp o
 stamp_of None h = no_stamp
-stamp_of (Some b) h = let r = tst_of b h in (r.0, λ content e. subst (λ (x : List ℕ). IsTstReading x r.0) (same_content b content e) r.1)
+stamp_of (Some b) h =
+    let r = tst_of b h in (r.0, λ content e. subst (λ (x : List ℕ). IsTstReading x r.0) (same_content b content e) r.1)
 
 abbrev okay : SignedDataValue → Result SignedDataValue CmsFault
 okay v = Ok v
@@ -64,13 +67,15 @@ abbrev Looks : List ℕ → Type 0
 Looks token = (signed : Result SignedDataValue CmsFault) × (stamp : Result TstValue Fault) × Reads token signed stamp
 
 -- what the content of a SignedData reads as, where there is one
-pub looks_at : (token : List ℕ) (v : SignedDataValue) → IsBytes token → IsReading token (Ok v) → (stamp : Result TstValue Fault) × Reads token (Ok v) stamp
+pub looks_at : (token : List ℕ) (v : SignedDataValue) → IsBytes token → IsReading token (Ok v)
+    → (stamp : Result TstValue Fault) × Reads token (Ok v) stamp
 looks_at token v fits is =
     let s = stamp_of v.encapsulated.content (signed_octets token v is fits).content in (
       s.0,
       record {
         is_signed = is;
-        is_stamp = λ w content e present. s.1 content (ap (λ (x : SignedDataValue). x.encapsulated.content) (same_value v w e) ∙ present);
+        is_stamp = λ w content e present.
+            s.1 content (ap (λ (x : SignedDataValue). x.encapsulated.content) (same_value v w e) ∙ present);
       },
     )
 
@@ -79,16 +84,19 @@ looks_of token fits = let r = reading_of token fits in go r.0 r.1
   where
     go : (r : Result SignedDataValue CmsFault) → IsReading token r → Looks token
     go (Ok v) is = let l = looks_at token v fits is in (Ok v, l.0, l.1)
-    go (Err f) is = (Err f, Err any_fault, record { is_signed = is; is_stamp = λ w content e present. absurd (let z = e in cc) })
+    go (Err f) is =
+        (Err f, Err any_fault, record { is_signed = is; is_stamp = λ w content e present. absurd (let z = e in cc) })
 
 -- ---- the filters
 
 -- an algorithm that is allowed is the one that was named
-allowed_is : (policy : Policy) (named : Option Alg) (alg : Alg) → allowed policy named ≡ Some alg → (named ≡ Some alg) × (is_allowed policy alg ≡ true)
+allowed_is : (policy : Policy) (named : Option Alg) (alg : Alg) → allowed policy named ≡ Some alg
+    → (named ≡ Some alg) × (is_allowed policy alg ≡ true)
 allowed_is policy None alg h = absurd cc
 allowed_is policy (Some a) alg h = go (is_allowed policy a) refl h
   where
-    go : (b : Bool) → is_allowed policy a ≡ b → cond b (Some a) None ≡ Some alg → (Some a ≡ Some alg) × (is_allowed policy alg ≡ true)
+    go : (b : Bool) → is_allowed policy a ≡ b → cond b (Some a) None ≡ Some alg
+        → (Some a ≡ Some alg) × (is_allowed policy alg ≡ true)
     go true t e = let q : a ≡ alg = cc in (e, subst (λ (x : Alg). is_allowed policy x ≡ true) q t)
     go false t e = absurd cc
 
@@ -104,7 +112,8 @@ for_stamping c e octets = both (named_one c e octets) (stamping_only e.certifica
 in_period : (c : TokenClaim) (e : EntryValue) → ValuesAreOctets c.attributes → Decided (IsInPeriod c e)
 in_period c e octets = both (for_stamping c e octets) (holds e c.moment)
 
-left : (t : Terms) (c : TokenClaim) → ValuesAreOctets c.attributes → (k : ℕ) (e : EntryValue) → Decided (LeftForToken t c k e)
+left : (t : Terms) (c : TokenClaim) → ValuesAreOctets c.attributes → (k : ℕ) (e : EntryValue)
+    → Decided (LeftForToken t c k e)
 left t c octets zero e = inl tt
 left t c octets (suc zero) e = authority c e
 left t c octets (suc (suc zero)) e = named_one c e octets
@@ -115,18 +124,23 @@ left t c octets (suc (suc (suc (suc (suc n))))) e = both (in_period c e octets) 
 -- ---- the token
 
 signer_of : (v : SignedDataValue) (s : SignerValue) → v.signers ≡ s ∷ [] → SignedOctets v → SignerOctets s
-signer_of v s one octets = let h : AllByRecursion SignerOctets (s ∷ []) = subst (AllByRecursion SignerOctets) one octets.signers in h.0
+signer_of v s one octets =
+    let h : AllByRecursion SignerOctets (s ∷ []) = subst (AllByRecursion SignerOctets) one octets.signers in h.0
 
-pub attributes_of : (s : SignerValue) (attributes : List AttributeValue) → s.signed_attributes ≡ Some attributes → SignerOctets s → ValuesAreOctets attributes
+pub attributes_of : (s : SignerValue) (attributes : List AttributeValue) → s.signed_attributes ≡ Some attributes
+    → SignerOctets s → ValuesAreOctets attributes
 attributes_of s attributes has octets = let h : IfSome (Some attributes) ValuesAreOctets =
     subst (λ (o : Option (List AttributeValue)). IfSome o ValuesAreOctets) has octets.attributes in h
 
-under : (t : Terms) (c : TokenClaim) (e : EntryValue) → LeftForToken t c 5 e → StampedUnder t c.signer c.attributes c.moment e
+under : (t : Terms) (c : TokenClaim) (e : EntryValue) → LeftForToken t c 5 e
+    → StampedUnder t c.signer c.attributes c.moment e
 under t c e (((((role, same), named), purpose), period), vouched) =
     record { role = role; matches = same; named = named; purpose = purpose; period = period; vouched = vouched }
 
-pub passing : (t : Terms) (token stamped : List ℕ) (signed : Result SignedDataValue CmsFault) (stamp : Result TstValue Fault) (c : TokenClaim)
-    → Reads token signed stamp → Says t.policy stamped signed stamp c → Any (LeftForToken t c 5) t.trust → Passes t token stamped c.moment
+pub passing : (t : Terms) (token stamped : List ℕ) (signed : Result SignedDataValue CmsFault)
+    (stamp : Result TstValue Fault) (c : TokenClaim)
+    → Reads token signed stamp → Says t.policy stamped signed stamp c → Any (LeftForToken t c 5) t.trust
+    → Passes t token stamped c.moment
 passing t token stamped signed stamp c reads says any =
     let named = allowed_is t.policy (alg_named says.tst.imprint.algorithm) says.alg says.allows in
     record {
@@ -141,30 +155,48 @@ passing t token stamped signed stamp c reads says any =
       has = says.has;
       fits = says.fits;
       stamp = says.tst;
-      encodes_stamp = subst (IsTstReading says.content) says.reads_tst (reads.is_stamp says.value says.content says.reads says.present);
+      encodes_stamp = subst (IsTstReading says.content) says.reads_tst
+          (reads.is_stamp says.value says.content says.reads says.present);
       calm = says.calm;
-      imprint = record { alg = says.alg; named = named_says says.tst.imprint.algorithm says.alg named.0; allows = named.1; digest = says.digest };
+      imprint = record {
+        alg = says.alg;
+        named = named_says says.tst.imprint.algorithm says.alg named.0;
+        allows = named.1;
+        digest = says.digest;
+      };
       moment = says.moment;
-      entry = along (LeftForToken t c 5) (StampedUnder t c.signer c.attributes c.moment) t.trust (λ e k p. under t c e p) any;
+      entry = along (LeftForToken t c 5) (StampedUnder t c.signer c.attributes c.moment) t.trust
+          (λ e k p. under t c e p) any;
     }
 
 abbrev PassesOrFails : Terms → (token stamped : List ℕ) → Type 0
-PassesOrFails t token stamped = ((m : ℕ) × Passes t token stamped m) ⊎ ((failed : TokenRule) × TokenFails t token stamped failed)
+PassesOrFails t token stamped =
+    ((m : ℕ) × Passes t token stamped m) ⊎ ((failed : TokenRule) × TokenFails t token stamped failed)
 
-by_claim : (t : Terms) (token stamped : List ℕ) → IsBytes token → (signed : Result SignedDataValue CmsFault) (stamp : Result TstValue Fault)
-    → Reads token signed stamp → (r : Result TokenClaim TokenRule) → token_claim t.policy stamped signed stamp ≡ r → PassesOrFails t token stamped
-by_claim t token stamped fits signed stamp reads (Err failed) e = inr (failed, record { signed = signed; stamp = stamp; reads = reads; first = inl e })
+by_claim : (t : Terms) (token stamped : List ℕ) → IsBytes token
+    → (signed : Result SignedDataValue CmsFault) (stamp : Result TstValue Fault)
+    → Reads token signed stamp → (r : Result TokenClaim TokenRule) → token_claim t.policy stamped signed stamp ≡ r
+    → PassesOrFails t token stamped
+by_claim t token stamped fits signed stamp reads (Err failed) e =
+    inr (failed, record { signed = signed; stamp = stamp; reads = reads; first = inl e })
 by_claim t token stamped fits signed stamp reads (Ok c) e =
     let says = claim_says t.policy stamped signed stamp c e in
     let octets = attributes_of c.signer c.attributes says.has
-    (signer_of says.value c.signer says.one_signer (signed_octets token says.value (subst (IsReading token) says.reads reads.is_signed) fits)) in
+    (signer_of says.value c.signer says.one_signer
+    (signed_octets token says.value (subst (IsReading token) says.reads reads.is_signed) fits)) in
     elim (run (LeftForToken t c) 5 t.trust (omega arith) (left t c octets)) [
       | inl any ↦ inl (c.moment, passing t token stamped signed stamp c reads says any)
       | inr stops ↦ inr (
         token_filter stops.0,
-        record { signed = signed; stamp = stamp; reads = reads; first = inr (c, e, record { filter = stops.0; stops = stops.1; is = refl }) },
+        record {
+          signed = signed;
+          stamp = stamp;
+          reads = reads;
+          first = inr (c, e, record { filter = stops.0; stops = stops.1; is = refl });
+        },
       )
     ]
 
 pub pass_or_fail : TokensPassOrFail
-pass_or_fail t token stamped fits = let l = looks_of token fits in by_claim t token stamped fits l.0 l.1 l.2 (token_claim t.policy stamped l.0 l.1) refl
+pass_or_fail t token stamped fits =
+    let l = looks_of token fits in by_claim t token stamped fits l.0 l.1 l.2 (token_claim t.policy stamped l.0 l.1) refl

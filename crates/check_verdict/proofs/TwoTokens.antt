@@ -1,5 +1,6 @@
 -- The worked rows of a file with two tokens hold.
-use Rattle.std.proofs.Common.{◌≡◌, ℕ, zero, suc, ◌≤◌, true, List, [], ◌∷◌, Option, Some, None, refl, sym, ap, subst, arith, lit<, lit≤, inl, inr, ◌⊎◌}
+use Rattle.std.proofs.Common.{◌≡◌, ℕ, zero, suc, ◌≤◌, true, List, [], ◌∷◌, Option, Some, None, refl, sym, ap, subst}
+use Rattle.std.proofs.Common.{arith, lit<, lit≤, inl, inr, ◌⊎◌}
 use Rattle.std.specs.Prelude.{Any}
 use Rattle.der_core.specs.Element.{len}
 use Rattle.der_grammar.specs.Vectors.{time_stamp_token}
@@ -18,18 +19,23 @@ use Rattle.check_verdict.specs.Trusted.{Holds}
 use Rattle.tsp_types.specs.TstValue.{id_tst_info}
 use Rattle.check_verdict.specs.Passing.{Terms, StampedUnder, Passes}
 use Rattle.check_verdict.specs.Verdicts.{IsStamped, SignedUnder, IsMoment, IsLeast, SignerPasses, Yes}
-use Rattle.check_verdict.specs.Rows.{of_signer, early_stamp, early_tst, early_token, early_data, digest_of_stamp, digest_of_early_stamp, attributes_over}
-use Rattle.check_verdict.specs.Rows.{token_signer, file_attributes, file_signer, file_data, both_stamps, twice_stamped_file, of_file, of_early_token, of_token}
-use Rattle.check_verdict.specs.Rows.{terms, nine_oclock, half_past_nine, ten_oclock, signs, attests, three, TwoTokenRows}
+use Rattle.check_verdict.specs.Rows.{of_signer, early_stamp, early_tst, early_token, early_data, digest_of_stamp}
+use Rattle.check_verdict.specs.Rows.{digest_of_early_stamp, attributes_over}
+use Rattle.check_verdict.specs.Rows.{token_signer, file_attributes, file_signer, file_data, both_stamps}
+use Rattle.check_verdict.specs.Rows.{twice_stamped_file, of_file, of_early_token, of_token}
+use Rattle.check_verdict.specs.Rows.{terms, nine_oclock, half_past_nine, ten_oclock, signs, attests, three}
+use Rattle.check_verdict.specs.Rows.{TwoTokenRows}
 use Rattle.check_verdict.proofs.Tokens as tokens_law
 use Rattle.check_verdict.proofs.Rows.{early_reads, early_stamp_reads, twice_reads}
-use Rattle.check_verdict.proofs.RowsJudged.{one_of, first_of, after_first, in_one, none_of, all_and, element, attested_at, passing, open_then, abc, file_fits}
+use Rattle.check_verdict.proofs.RowsJudged.{one_of, first_of, after_first, in_one, none_of, all_and, element}
+use Rattle.check_verdict.proofs.RowsJudged.{attested_at, passing, open_then, abc, file_fits}
 use Rattle.check_verdict.proofs.RowsJudged.{file_named}
 
 -- ---- the earlier token
 
 early_digest : digest_of Sha256 early_stamp ≡ digest_of_early_stamp
-unfolding digest_of sha256.sha256 sha256.digest_bytes sha256.hash_after sha256.compress sha256.rounds sha256.schedule sha256.first_words
+unfolding digest_of sha256.sha256 sha256.digest_bytes sha256.hash_after sha256.compress sha256.rounds sha256.schedule
+    sha256.first_words
 early_digest = refl
 
 stamped_early : generalized_moment early_tst.time ≡ nine_oclock
@@ -49,7 +55,8 @@ early_fits = record {
   digest = ap element (sym early_digest);
 }
 
-pub passing_early : (trust : List EntryValue) (ls : List Asked) → Any (StampedUnder (terms trust ls) (token_signer digest_of_early_stamp)
+pub passing_early : (trust : List EntryValue) (ls : List Asked)
+    → Any (StampedUnder (terms trust ls) (token_signer digest_of_early_stamp)
     (attributes_over digest_of_early_stamp) nine_oclock) trust → Passes (terms trust ls) early_token abc nine_oclock
 passing_early trust ls any = record {
   signed = early_data;
@@ -65,7 +72,12 @@ passing_early trust ls any = record {
   stamp = early_tst;
   encodes_stamp = early_stamp_reads;
   calm = tt;
-  imprint = record { alg = Sha256; named = record { contents = refl; plain = refl }; allows = refl; digest = sym abc_rows.sha256 };
+  imprint = record {
+    alg = Sha256;
+    named = record { contents = refl; plain = refl };
+    allows = refl;
+    digest = sym abc_rows.sha256;
+  };
   moment = stamped_early;
   entry = any;
 }
@@ -96,15 +108,19 @@ answered e = record { file = refl; early = refl; late = refl }
 
 early_passes : (e : EntryValue) → Passes (with_entry e) early_token abc nine_oclock
 early_passes e =
-    let Under : EntryValue → Type 0 = StampedUnder (with_entry e) (token_signer digest_of_early_stamp) (attributes_over digest_of_early_stamp) nine_oclock in
+    let Under : EntryValue → Type 0 = StampedUnder (with_entry e) (token_signer digest_of_early_stamp)
+    (attributes_over digest_of_early_stamp) nine_oclock in
     passing_early (trust_in e) three (after_first Under e (attests None None ∷ [])
-    (one_of Under (attests None None) (attested_at digest_of_early_stamp nine_oclock None None (trust_in e) three open_early (answered e).early)))
+    (one_of Under (attests None None)
+    (attested_at digest_of_early_stamp nine_oclock None None (trust_in e) three open_early (answered e).early)))
 
 late_passes : (e : EntryValue) → Passes (with_entry e) time_stamp_token abc ten_oclock
 late_passes e =
-    let Under : EntryValue → Type 0 = StampedUnder (with_entry e) (token_signer digest_of_stamp) (attributes_over digest_of_stamp) ten_oclock in
+    let Under : EntryValue → Type 0 =
+    StampedUnder (with_entry e) (token_signer digest_of_stamp) (attributes_over digest_of_stamp) ten_oclock in
     passing (trust_in e) three (after_first Under e (attests None None ∷ [])
-    (one_of Under (attests None None) (attested_at digest_of_stamp ten_oclock None None (trust_in e) three open_then (answered e).late)))
+    (one_of Under (attests None None)
+    (attested_at digest_of_stamp ten_oclock None None (trust_in e) three open_then (answered e).late)))
 
 -- ---- the moments of the file's signer
 
@@ -115,7 +131,8 @@ stamped_early_too : (e : EntryValue) → IsStamped (with_entry e) who nine_ocloc
 stamped_early_too e = first_of (PassesAt e nine_oclock) early_token (time_stamp_token ∷ []) (early_passes e)
 
 stamped_late : (e : EntryValue) → IsStamped (with_entry e) who ten_oclock
-stamped_late e = after_first (PassesAt e ten_oclock) early_token (time_stamp_token ∷ []) (one_of (PassesAt e ten_oclock) time_stamp_token (late_passes e))
+stamped_late e = after_first (PassesAt e ten_oclock) early_token (time_stamp_token ∷ [])
+    (one_of (PassesAt e ten_oclock) time_stamp_token (late_passes e))
 
 pub split : {A : Type 0} (P : A → Type 0) (x : A) (xs : List A) → Any P (x ∷ xs) → P x ⊎ Any P xs
 split P x xs (zero, y, within, is, p) = inl (subst P (sym is) p)
@@ -124,10 +141,12 @@ split P x xs (suc i, y, within, is, p) = inr (i, y, omega (arith, within), is, p
 at_one : (e : EntryValue) (n : ℕ) → IsStamped (with_entry e) who n → (n ≡ nine_oclock) ⊎ (n ≡ ten_oclock)
 at_one e n k = elim (split (PassesAt e n) early_token (time_stamp_token ∷ []) k) [
   | inl p ↦ inl (tokens_law.one_moment (with_entry e) early_token abc n nine_oclock p (early_passes e))
-  | inr q ↦ inr (tokens_law.one_moment (with_entry e) time_stamp_token abc n ten_oclock (in_one (PassesAt e n) time_stamp_token q) (late_passes e))
+  | inr q ↦ inr (tokens_law.one_moment (with_entry e) time_stamp_token abc n ten_oclock
+      (in_one (PassesAt e n) time_stamp_token q) (late_passes e))
 ]
 
-signed_at : (from until : Option ℕ) (n : ℕ) → Holds (signs from until) n → SignedUnder (with_entry (signs from until)) who file_attributes n (signs from until)
+signed_at : (from until : Option ℕ) (n : ℕ) → Holds (signs from until) n
+    → SignedUnder (with_entry (signs from until)) who file_attributes n (signs from until)
 signed_at from until n h = record {
   role = refl;
   matches = (refl, refl);
@@ -136,13 +155,15 @@ signed_at from until n h = record {
   vouched = (answered (signs from until)).file;
 }
 
-moment_at : (from until : Option ℕ) (n : ℕ) → IsStamped (with_entry (signs from until)) who n → Holds (signs from until) n
+moment_at : (from until : Option ℕ) (n : ℕ) → IsStamped (with_entry (signs from until)) who n
+    → Holds (signs from until) n
     → IsMoment (with_entry (signs from until)) who n
 moment_at from until n k h = record {
   stamped = k;
   attributes = file_attributes;
   has = refl;
-  entry = first_of (SignedUnder (with_entry (signs from until)) who file_attributes n) (signs from until) (attests None None ∷ []) (signed_at from until n h);
+  entry = first_of (SignedUnder (with_entry (signs from until)) who file_attributes n) (signs from until)
+      (attests None None ∷ []) (signed_at from until n h);
 }
 
 pub valid_early : Holds (signs None None) nine_oclock
@@ -168,10 +189,13 @@ abbrev later_entry : EntryValue
 later_entry = signs (Some half_past_nine) None
 
 held : (n : ℕ) → IsMoment (with_entry later_entry) who n → half_past_nine ≤ n
-held n i = elim (split (SignedUnder (with_entry later_entry) who i.attributes n) later_entry (attests None None ∷ []) i.entry) [
-  | inl u ↦ u.period.trusted_from
-  | inr any ↦ absurd (let z = (in_one (SignedUnder (with_entry later_entry) who i.attributes n) (attests None None) any).role in cc)
-]
+held n i = elim (split (SignedUnder (with_entry later_entry) who i.attributes n) later_entry
+    (attests None None ∷ []) i.entry) [
+      | inl u ↦ u.period.trusted_from
+      | inr any ↦ absurd
+          (let z = (in_one (SignedUnder (with_entry later_entry) who i.attributes n) (attests None None) any).role in
+          cc)
+    ]
 
 least_late : IsLeast (IsMoment (with_entry later_entry) who) ten_oclock
 least_late = record {
@@ -185,7 +209,8 @@ least_late = record {
 
 -- ---- the file
 
-accepted_at : (e : EntryValue) (m : ℕ) → IsLeast (IsMoment (with_entry e) who) m → Yes (with_entry e) twice_stamped_file None m
+accepted_at : (e : EntryValue) (m : ℕ) → IsLeast (IsMoment (with_entry e) who) m
+    → Yes (with_entry e) twice_stamped_file None m
 accepted_at e m least =
     let t : Terms = with_entry e in
     let passes : SignerPasses t abc id_data who m = record { fits = file_fits both_stamps; earliest = least } in
@@ -195,7 +220,8 @@ accepted_at e m least =
       content = abc;
       is_content = refl;
       accepts = record {
-        each = all_and (λ s. (n : ℕ) × SignerPasses t abc id_data s n) who [] (m, passes) (none_of (λ s. (n : ℕ) × SignerPasses t abc id_data s n));
+        each = all_and (λ s. (n : ℕ) × SignerPasses t abc id_data s n) who [] (m, passes)
+            (none_of (λ s. (n : ℕ) × SignerPasses t abc id_data s n));
         latest = record {
           has = one_of (λ s. SignerPasses t abc id_data s m) who passes;
           greatest = λ n k. (in_one (λ s. SignerPasses t abc id_data s n) who k).earliest.least m least.has;

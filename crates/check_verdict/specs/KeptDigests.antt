@@ -14,7 +14,8 @@ IsCertificateAt entries number c = option_map (λ (e : EntryValue). e.certificat
 
 -- the digest is that of the whole certificate of the entry of this number, by its own algorithm
 abbrev pub IsDigestAt : List EntryValue → (number : ℕ) → Digest → Type 0
-IsDigestAt entries number d = (c : CertificateValue) → IsCertificateAt entries number c → octets_of d ≡ digest_of (alg_of d) (encoding c)
+IsDigestAt entries number d = (c : CertificateValue) → IsCertificateAt entries number c
+    → octets_of d ≡ digest_of (alg_of d) (encoding c)
 
 -- what is kept is a digest of the certificate of the entry of its number
 abbrev pub IsKeptDigest : List EntryValue → KeptDigest → Type 0

@@ -8,9 +8,9 @@ use std::marker::Model;
 use trust_lists::Trust;
 
 /// What a check goes by: whom its user trusts, and which algorithms are allowed; and what is kept of the trusted
-/// entries, so that file after file can be judged by one `Checker`: the digests of their certificates that were computed
-/// last, and the certificates of signers and of authorities that were read last. All that is kept is of this list, and
-/// it changes no answer.
+/// entries, so that file after file can be judged by one `Checker`: the digests of their certificates that were
+/// computed last, and the certificates of signers and of authorities that were read last. All that is kept is of this
+/// list, and it changes no answer.
 ///
 /// Contracts see a `CheckerValue` (`specs/Checkers.antt`): the entries of the list, in its order, and the policy.
 #[derive(Debug, Drop)]

@@ -1,5 +1,6 @@
 -- The worked rows of times with fractions hold.
-use Rattle.std.proofs.Common.{◌≡◌, ℕ, ◌+◌, ◌≤◌, true, false, List, [], ◌∷◌, Option, Some, None, refl, sym, subst, arith, lit<, lit≤}
+use Rattle.std.proofs.Common.{◌≡◌, ℕ, ◌+◌, ◌≤◌, true, false, List, [], ◌∷◌, Option, Some, None, refl, sym, subst, arith}
+use Rattle.std.proofs.Common.{lit<, lit≤}
 use Rattle.std.specs.Prelude.{codes}
 use Rattle.der_core.specs.Element.{len}
 use Rattle.der_time.specs.Calendar.{days_before_month}
@@ -19,14 +20,16 @@ left_for_stamping : (from until : Option ℕ) (time : List ℕ) → Left from un
 unfolding len
 left_for_stamping from until time = (((refl, (refl, refl)), token_names digest_of_stamp), (refl, refl))
 
-outside : (from until : Option ℕ) (time : List ℕ) (m : ℕ) → generalized_moment time ≡ m → (Holds (attests from until) m → ⊥)
+outside : (from until : Option ℕ) (time : List ℕ) (m : ℕ) → generalized_moment time ≡ m
+    → (Holds (attests from until) m → ⊥)
     → FailsAt from until time token.Period
 outside from until time m is never = record {
   filter = 3;
   stops = record {
     within = lit< tt;
     left = λ lt. one_of (Left from until time 3) (attests from until) (left_for_stamping from until time);
-    none = nor (Left from until time 4) (attests from until) [] (λ p. never (subst (λ (n : ℕ). Holds (attests from until) n) is p.1))
+    none = nor (Left from until time 4) (attests from until) []
+        (λ p. never (subst (λ (n : ℕ). Holds (attests from until) n) is p.1))
         (nobody (Left from until time 4));
   };
   is = refl;
@@ -93,9 +96,11 @@ periods = record {
 pub fraction_rows : FractionRows
 fraction_rows = record {
   after_end = outside None (Some ten_oclock) (codes "20240115100000.5Z") half_a_second_later moments.later after_end;
-  at_end = inside None (Some half_a_second_later) (codes "20240115100000.5Z") half_a_second_later moments.later periods.at_end;
+  at_end = inside None (Some half_a_second_later)
+      (codes "20240115100000.5Z") half_a_second_later moments.later periods.at_end;
   before_start = outside (Some half_a_second_later) None (codes "20240115100000Z") ten_oclock moments.ten before_start;
-  at_start = inside (Some half_a_second_later) None (codes "20240115100000.5Z") half_a_second_later moments.later periods.at_start;
+  at_start = inside (Some half_a_second_later) None
+      (codes "20240115100000.5Z") half_a_second_later moments.later periods.at_start;
   after_certificate = outside None None (codes "20240131235959.5Z") past_it moments.past after_certificate;
   with_certificate = inside None None (codes "20240131235959Z") last_second moments.last periods.with_certificate;
 }

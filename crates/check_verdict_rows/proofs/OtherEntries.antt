@@ -39,7 +39,8 @@ never_element m = other_octets 1 2 4 _ _ refl refl (λ e. absurd (omega (arith, 
 -- ---- what the token names
 
 unstated_digest : digest_of Sha256 (encoding (authority_with None)) ≡ hash_unstated
-unfolding len digest_of sha256.sha256 sha256.digest_bytes sha256.hash_after sha256.compress sha256.rounds sha256.schedule sha256.first_words
+unfolding len digest_of sha256.sha256 sha256.digest_bytes sha256.hash_after sha256.compress sha256.rounds
+    sha256.schedule sha256.first_words
 unstated_digest = refl
 
 abbrev its_attributes : List AttributeValue
@@ -85,7 +86,8 @@ other_entry_rows = record {
     stops = record {
       within = lit< tt;
       left = λ lt. one_of (Left (attests_with None) 1) (attests_with None) (refl, (refl, refl));
-      none = nor (Left (attests_with None) 2) (attests_with None) [] (λ p. never_named p.1) (nobody (Left (attests_with None) 2));
+      none = nor (Left (attests_with None) 2) (attests_with None) [] (λ p. never_named p.1)
+          (nobody (Left (attests_with None) 2));
     };
     is = refl;
   };

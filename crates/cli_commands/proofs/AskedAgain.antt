@@ -9,7 +9,8 @@ use Rattle.check_stream.specs.StreamQuestions.{CountsReads}
 use Rattle.cli_commands.specs.Asking.{Attempt, IsTextFor, Takes, AsksPass}
 use Rattle.cli_commands.specs.Checking.{IfKnown}
 
-pub kept_then : (before between after : Option (List ℕ)) (bs : List ℕ) → Keeps before between → Appends between after bs → Appends before after bs
+pub kept_then : (before between after : Option (List ℕ)) (bs : List ℕ) → Keeps before between → Appends between after bs
+    → Appends before after bs
 kept_then None between after bs kept took = tt
 kept_then (Some xs) None after bs kept took = absurd kept
 kept_then (Some xs) (Some ys) None bs kept took = absurd took
@@ -26,13 +27,17 @@ module _ (trust : List EntryValue) (held : Option (List ℕ)) where
   in_any_room room limit (Err stream.ReadFailed) before after fits pass = pass
   in_any_room room limit (Err stream.TooLong) before after fits pass = absurd (fits refl)
 
-  took_after : (r : Attempt) (before between after : Option (List ℕ)) → Keeps before between → Takes (IsTextFor trust held) r between after
+  took_after : (r : Attempt) (before between after : Option (List ℕ)) → Keeps before between
+      → Takes (IsTextFor trust held) r between after
       → Takes (IsTextFor trust held) r before after
-  took_after (Ok u) before between after kept (text, is, took) = (text, is, kept_then before between after text kept took)
+  took_after (Ok u) before between after kept (text, is, took) =
+      (text, is, kept_then before between after text kept took)
   took_after (Err (stream.Questions fault.WriteFailed)) before between after kept (text, is, (count, took)) =
       (text, is, (count, kept_then before between after _ kept took))
-  took_after (Err (stream.Questions (fault.Malformed f))) before between after kept took = Keeps-trans before between after kept took
-  took_after (Err (stream.Questions fault.NotSignedData)) before between after kept took = Keeps-trans before between after kept took
+  took_after (Err (stream.Questions (fault.Malformed f))) before between after kept took =
+      Keeps-trans before between after kept took
+  took_after (Err (stream.Questions fault.NotSignedData)) before between after kept took =
+      Keeps-trans before between after kept took
   took_after (Err stream.ReadFailed) before between after kept took = Keeps-trans before between after kept took
   took_after (Err stream.TooLong) before between after kept took = Keeps-trans before between after kept took
 
@@ -41,19 +46,23 @@ module _ (trust : List EntryValue) (held : Option (List ℕ)) where
       → AsksPass trust held room r between after → AsksPass trust held room r before after
   asks_after room r before between after kept (took, is) = (took_after r before between after kept took, is)
 
-  pub asks_within : (room limit : ℕ) (r : Attempt) (before between after : Option (List ℕ)) → (r ≡ Err stream.TooLong → ⊥) → Keeps before between
+  pub asks_within : (room limit : ℕ) (r : Attempt) (before between after : Option (List ℕ))
+      → (r ≡ Err stream.TooLong → ⊥) → Keeps before between
       → AsksPass trust held room r between after → AsksPass trust held limit r before after
   asks_within room limit r before between after fits kept pass =
       asks_after limit r before between after kept (in_any_room room limit r between after fits pass)
 
   -- a pass with too little room printed nothing
-  pub kept_still : (room : ℕ) (r : Attempt) (before between after : Option (List ℕ)) → r ≡ Err stream.TooLong → Keeps before between
+  pub kept_still : (room : ℕ) (r : Attempt) (before between after : Option (List ℕ)) → r ≡ Err stream.TooLong
+      → Keeps before between
       → AsksPass trust held room r between after → Keeps before after
   kept_still room r before between after long kept pass =
-      Keeps-trans before between after kept (subst (λ (x : Attempt). AsksPass trust held room x between after) long pass).0
+      Keeps-trans before between after kept
+      (subst (λ (x : Attempt). AsksPass trust held room x between after) long pass).0
 
   -- the file failed to go back to its front
-  pub not_again : (limit : ℕ) (before after : Option (List ℕ)) → Keeps before after → AsksPass trust held limit (Err stream.ReadFailed) before after
+  pub not_again : (limit : ℕ) (before after : Option (List ℕ)) → Keeps before after
+      → AsksPass trust held limit (Err stream.ReadFailed) before after
   not_again limit before after kept = (kept, nothing held)
     where
       nothing : (o : Option (List ℕ)) → IfKnown o (λ octets. Unit {0})

@@ -19,21 +19,25 @@ use Rattle.cli_failures.specs.declared.failure.Failure.{Failure}
 use Rattle.cli_commands.specs.Judging.{JudgesFile, IsContentHeld}
 use Rattle.cli_commands.specs.Lists.{IsTrustOf, IsAnswersOf}
 use Rattle.cli_commands.specs.Fit.{TellsUnfit}
-use Rattle.cli_commands.specs.Checking.{IsTerms, JudgesCheck, JudgesStream, IfKnown, TellsAccepted, ShowsAccepted, ShowsRefused}
+use Rattle.cli_commands.specs.Checking.{IsTerms, JudgesCheck, JudgesStream, IfKnown, TellsAccepted, ShowsAccepted}
+use Rattle.cli_commands.specs.Checking.{ShowsRefused}
 use Rattle.cli_commands.specs.Rereading.{OfPassOver}
 use Rattle.cli_commands.specs.Rooms.{IsLimit}
 use Rattle.cli_commands.proofs.JudgedFiles.{judged_file, Gives}
 use Rattle.check_fit.specs.FileFitting.{SourceFacts}
 
 -- what a check goes by is what the lists say
-terms : {F : Type 0} (holds : F → Option (List ℕ)) (words : CheckWords) (policy : Policy) (trust : List EntryValue) (vouched : List Asked)
+terms : {F : Type 0} (holds : F → Option (List ℕ)) (words : CheckWords) (policy : Policy) (trust : List EntryValue)
+    (vouched : List Asked)
     → policy ≡ record { sha1 = words.sha1 }
-    → IsTrustOf holds trust → IsAnswersOf holds vouched → IsTerms holds words (terms_of policy trust (λ q. is_among vouched q))
+    → IsTrustOf holds trust → IsAnswersOf holds vouched
+    → IsTerms holds words (terms_of policy trust (λ q. is_among vouched q))
 terms holds words policy trust vouched p is (text, asked, read, says, same) =
     record { policy = p; trust = is; text = text; read = read; asked = asked; says = says; vouches = same }
 
 -- what the words say of the values that a check was called with
-pub record IsCalledBy {F S : Type 0} (holds : F → Option (List ℕ)) (words : CheckWords) (policy : Policy) (trust : List EntryValue)
+pub record IsCalledBy {F S : Type 0} (holds : F → Option (List ℕ)) (words : CheckWords) (policy : Policy)
+    (trust : List EntryValue)
     (vouched : List Asked) (room : ℕ) (before : Option S) : Type 0 where
   pub policy_is : policy ≡ record { sha1 = words.sha1 }
   pub trusted : IsTrustOf holds trust
@@ -42,28 +46,35 @@ pub record IsCalledBy {F S : Type 0} (holds : F → Option (List ℕ)) (words : 
   pub again : Bool
   pub buffer : IsLimit words.buffer again room
 
-module _ {F S T : Type 0} (bytes : T → List ℕ) (holds : F → Option (List ℕ)) (facts : SourceFacts S) (words : CheckWords) (policy : Policy)
-    (trust : List EntryValue) (vouched : List Asked) (room count count' : ℕ) (before after : Option S) (gives : Gives facts (IsContentHeld holds)) where
+module _ {F S T : Type 0} (bytes : T → List ℕ) (holds : F → Option (List ℕ)) (facts : SourceFacts S)
+    (words : CheckWords) (policy : Policy)
+    (trust : List EntryValue) (vouched : List Asked) (room count count' : ℕ) (before after : Option S)
+    (gives : Gives facts (IsContentHeld holds)) where
   abbrev by_lists : Terms
   by_lists = terms_of policy trust (λ q. is_among vouched q)
 
   -- the verdict of a pass over a file that has this left
   abbrev Streamed : Option (List ℕ) → Result ℕ Refused → Type 0
-  Streamed left verdict = OfPassOver (λ octets. ChecksStream facts by_lists octets before after) left room count count' before after verdict
+  Streamed left verdict =
+      OfPassOver (λ octets. ChecksStream facts by_lists octets before after) left room count count' before after verdict
 
   abbrev Called : Type 0
   Called = IsCalledBy holds words policy trust vouched room before
 
   abbrev Told : F → Result T Failure → Type 0
-  Told last r = (verdict : Result ℕ Refused) × Streamed (holds last) verdict × MatchResult r (λ t. TellsAccepted verdict (bytes t)) (TellsUnfit verdict)
+  Told last r = (verdict : Result ℕ Refused) × Streamed (holds last) verdict
+      × MatchResult r (λ t. TellsAccepted verdict (bytes t)) (TellsUnfit verdict)
 
-  by_words : (octets : List ℕ) (verdict : Result ℕ Refused) → Called → ChecksStream facts by_lists octets before after verdict
+  by_words : (octets : List ℕ) (verdict : Result ℕ Refused) → Called
+      → ChecksStream facts by_lists octets before after verdict
       → JudgesCheck holds words octets verdict
   by_words octets verdict called (reading, reads, judged) = (
     by_lists,
     terms holds words policy trust vouched called.policy_is called.trusted called.vouched_for,
-    subst (λ (b : Bool). JudgesFile (FaultsOpenly (file content_info)) (Judges by_lists) (IsContentHeld holds) b octets verdict) called.handed
-        (judged_file facts (Judges by_lists) (IsContentHeld holds) gives (FaultsOpenly (file content_info)) reading octets before after verdict reads judged),
+    subst (λ (b : Bool). JudgesFile (FaultsOpenly (file content_info)) (Judges by_lists)
+        (IsContentHeld holds) b octets verdict) called.handed
+        (judged_file facts (Judges by_lists) (IsContentHeld holds) gives
+        (FaultsOpenly (file content_info)) reading octets before after verdict reads judged),
   )
 
   streamed : (octets : List ℕ) (verdict : Result ℕ Refused) → Called → AreOctets octets → Streamed (Some octets) verdict
@@ -71,9 +82,11 @@ module _ {F S T : Type 0} (bytes : T → List ℕ) (holds : F → Option (List �
   streamed octets verdict called are (fails raised same) = inl refl
   streamed octets verdict called are (too_long unraised same stated) =
       inr (inl (refl, (room, called.again, called.buffer, stated (refl, are))))
-  streamed octets verdict called are (told unraised judged) = inr (inr (by_words octets verdict called (judged (refl, are))))
+  streamed octets verdict called are (told unraised judged) =
+      inr (inr (by_words octets verdict called (judged (refl, are))))
 
-  held : (left : Option (List ℕ)) (verdict : Result ℕ Refused) → Called → Streamed left verdict → IfKnown left (λ o. JudgesStream holds words o verdict)
+  held : (left : Option (List ℕ)) (verdict : Result ℕ Refused) → Called → Streamed left verdict
+      → IfKnown left (λ o. JudgesStream holds words o verdict)
   held None verdict called s = tt
   held (Some o) verdict called s = λ are. streamed o verdict called are s
 
@@ -82,16 +95,20 @@ module _ {F S T : Type 0} (bytes : T → List ℕ) (holds : F → Option (List �
   yes o m (inr (inl (e, large))) = absurd (let no : ⊥ = cc in no)
   yes o m (inr (inr judged)) = judged
 
-  accepts : (left : Option (List ℕ)) (m : ℕ) → IfKnown left (λ o. JudgesStream holds words o (Ok m)) → IfKnown left (λ o. JudgesCheck holds words o (Ok m))
+  accepts : (left : Option (List ℕ)) (m : ℕ) → IfKnown left (λ o. JudgesStream holds words o (Ok m))
+      → IfKnown left (λ o. JudgesCheck holds words o (Ok m))
   accepts None m says = tt
   accepts (Some o) m says = λ are. yes o m (says are)
 
-  pub shows_accepted : (last : F) (r : Result T Failure) → Called → Told last r → IfOk r (λ t. (f : F) × ShowsAccepted holds words (holds f) (bytes t))
-  shows_accepted last (Ok t) called (Ok m, s, line) = (last, (m, line, accepts (holds last) m (held (holds last) (Ok m) called s)))
+  pub shows_accepted : (last : F) (r : Result T Failure) → Called → Told last r
+      → IfOk r (λ t. (f : F) × ShowsAccepted holds words (holds f) (bytes t))
+  shows_accepted last (Ok t) called (Ok m, s, line) =
+      (last, (m, line, accepts (holds last) m (held (holds last) (Ok m) called s)))
   shows_accepted last (Ok t) called (Err why, s, line) = absurd line
   shows_accepted last (Err f) called any = tt
 
   pub shows_refused : (last : F) (r : Result T Failure) → Called → Told last r → IfErr r (ShowsRefused holds words)
   shows_refused last (Ok t) called any = tt
   shows_refused last (Err f) called (Ok m, s, line) = inr (inr (inr (inl (inl line))))
-  shows_refused last (Err f) called (Err why, s, line) = inr (inr (inr (inr (last, (why, line, held (holds last) (Err why) called s)))))
+  shows_refused last (Err f) called (Err why, s, line) =
+      inr (inr (inr (inr (last, (why, line, held (holds last) (Err why) called s)))))

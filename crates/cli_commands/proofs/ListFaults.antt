@@ -14,8 +14,10 @@ use Rattle.cli_failures.specs.Files.{IsHeld}
 use Rattle.cli_commands.specs.Lists.{IsFailureOfTrust, IsFailureOfAnswers}
 
 module _ {F : Type 0} (holds : F → Option (List ℕ)) where
-  by_rule : (path : Bor (List ℕ)) (text : List ℕ) (fault : TrustFault) (r : TrustRule) → IsHeld holds text → fault.rule ≡ r
-      → (fault ≡ record { rule = rule.OutOfMemory; line = 0 }) ⊎ IsTrust text (Err fault) → IsFailureOfTrust holds path (failure_by r fault)
+  by_rule : (path : Bor (List ℕ)) (text : List ℕ) (fault : TrustFault) (r : TrustRule) → IsHeld holds text
+      → fault.rule ≡ r
+      → (fault ≡ record { rule = rule.OutOfMemory; line = 0 }) ⊎ IsTrust text (Err fault)
+      → IsFailureOfTrust holds path (failure_by r fault)
   by_rule path text fault rule.OutOfMemory read e h = inl (inl refl)
   by_rule path text fault rule.Version read e (inl m) = absurd (let no : ⊥ = cc in no)
   by_rule path text fault rule.Version read e (inr h) = inr (text, fault, read, h, refl)
@@ -32,8 +34,10 @@ module _ {F : Type 0} (holds : F → Option (List ℕ)) where
       → IsFailureOfTrust holds path (failure_of_trust fault)
   no_trust path text fault read h = by_rule path text fault fault.rule read refl h
 
-  by_answers_rule : (path : Bor (List ℕ)) (text : List ℕ) (fault : AnswersFault) (r : AnswersRule) → IsHeld holds text → fault.rule ≡ r
-      → (fault ≡ record { rule = answers.OutOfMemory; line = 0 }) ⊎ (answers_of text ≡ Err fault) → IsFailureOfAnswers holds path (failure_by_rule r fault)
+  by_answers_rule : (path : Bor (List ℕ)) (text : List ℕ) (fault : AnswersFault) (r : AnswersRule) → IsHeld holds text
+      → fault.rule ≡ r
+      → (fault ≡ record { rule = answers.OutOfMemory; line = 0 }) ⊎ (answers_of text ≡ Err fault)
+      → IsFailureOfAnswers holds path (failure_by_rule r fault)
   by_answers_rule path text fault answers.OutOfMemory read e h = inl (inl refl)
   by_answers_rule path text fault answers.Version read e (inl m) = absurd (let no : ⊥ = cc in no)
   by_answers_rule path text fault answers.Version read e (inr h) = inr (text, fault, read, h, refl)

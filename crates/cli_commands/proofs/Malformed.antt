@@ -15,20 +15,24 @@ pub fault_told : (f : Failure) (before after : Option (List ℕ)) → status_of 
     → Appends before after (failure_text f) → TellsMalformed before after
 fault_told (failure.Words text) before after ends told = absurd (let no : ⊥ = cc in no)
 fault_told failure.NotText before after ends told = absurd (let no : ⊥ = cc in no)
-fault_told (failure.Malformed fault) before after ends told = inl (record { message = None; fault = fault; line = told })
-fault_told (failure.MalformedMessage m fault) before after ends told = inl (record { message = Some m; fault = fault; line = told })
+fault_told (failure.Malformed fault) before after ends told =
+    inl (record { message = None; fault = fault; line = told })
+fault_told (failure.MalformedMessage m fault) before after ends told =
+    inl (record { message = Some m; fault = fault; line = told })
 fault_told (failure.Trust fault) before after ends told = inr (inl (fault, told))
 fault_told (failure.Answers fault) before after ends told = inr (inr (inl (fault, told)))
 fault_told (failure.Uncompared why) before after ends told = inr (inr (inr (why, ends, told)))
 fault_told failure.Different before after ends told = absurd (let no : ⊥ = cc in no)
 fault_told failure.Collision before after ends told = absurd (let no : ⊥ = cc in no)
 fault_told (failure.Unattached why) before after ends told = absurd (let no : ⊥ = cc in no)
-fault_told (failure.Unasked (questions.Malformed fault)) before after ends told = inl (record { message = None; fault = fault; line = told })
+fault_told (failure.Unasked (questions.Malformed fault)) before after ends told =
+    inl (record { message = None; fault = fault; line = told })
 fault_told (failure.Unasked questions.NotSignedData) before after ends told = absurd (let no : ⊥ = cc in no)
 fault_told (failure.Unasked questions.WriteFailed) before after ends told = absurd (let no : ⊥ = cc in no)
 fault_told (failure.Unmatched why) before after ends told = absurd (let no : ⊥ = cc in no)
 fault_told failure.NotSignedData before after ends told = absurd (let no : ⊥ = cc in no)
-fault_told (failure.Refused (refused.File (file.Malformed fault))) before after ends told = inl (record { message = None; fault = fault; line = told })
+fault_told (failure.Refused (refused.File (file.Malformed fault))) before after ends told =
+    inl (record { message = None; fault = fault; line = told })
 fault_told (failure.Refused (refused.File file.NotSignedData)) before after ends told = absurd (let no : ⊥ = cc in no)
 fault_told (failure.Refused (refused.File file.NoSigner)) before after ends told = absurd (let no : ⊥ = cc in no)
 fault_told (failure.Refused (refused.File file.NoContent)) before after ends told = absurd (let no : ⊥ = cc in no)
@@ -70,13 +74,17 @@ refusal_told (failure.Write path) before after ends told = absurd (let no : ⊥ 
 refusal_told failure.Memory before after ends told = absurd (let no : ⊥ = cc in no)
 
 -- the same of a failure that was reported
-pub refusal_reported : (f : Failure) (result : Status) (before after : Option (List ℕ)) → (result ≡ status_of f) ⊎ (result ≡ status.Failed)
-    → (result ≡ status.Refused → Appends before after (failure_text f)) → result ≡ status.Refused → TellsRefusal before after
+pub refusal_reported : (f : Failure) (result : Status) (before after : Option (List ℕ))
+    → (result ≡ status_of f) ⊎ (result ≡ status.Failed)
+    → (result ≡ status.Refused → Appends before after (failure_text f)) → result ≡ status.Refused
+    → TellsRefusal before after
 refusal_reported f result before after (inl e) told ends = refusal_told f before after (sym e ∙ ends) (told ends)
 refusal_reported f result before after (inr e) told ends = absurd (let no : ⊥ = cc in no)
 
 -- the same of a fault
-pub fault_reported : (f : Failure) (result : Status) (before after : Option (List ℕ)) → (result ≡ status_of f) ⊎ (result ≡ status.Failed)
-    → (result ≡ status.Malformed → Appends before after (failure_text f)) → result ≡ status.Malformed → TellsMalformed before after
+pub fault_reported : (f : Failure) (result : Status) (before after : Option (List ℕ))
+    → (result ≡ status_of f) ⊎ (result ≡ status.Failed)
+    → (result ≡ status.Malformed → Appends before after (failure_text f)) → result ≡ status.Malformed
+    → TellsMalformed before after
 fault_reported f result before after (inl e) told ends = fault_told f before after (sym e ∙ ends) (told ends)
 fault_reported f result before after (inr e) told ends = absurd (let no : ⊥ = cc in no)

@@ -11,6 +11,7 @@ no_nonce : (digits contents : List ℕ) → decode_of digits ≡ Ok contents →
 no_nonce digits contents spelled wrong None again right = absurd again
 no_nonce digits contents spelled wrong (Some e) again right = cc
 
-pub refuses_nonce : (digits contents : List ℕ) (f : Failure) → Names (codes "nonce") f → decode_of digits ≡ Ok contents → is_integer contents ≡ false
+pub refuses_nonce : (digits contents : List ℕ) (f : Failure) → Names (codes "nonce") f → decode_of digits ≡ Ok contents
+    → is_integer contents ≡ false
     → RefusesNonce (Some digits) f
 refuses_nonce digits contents f names spelled wrong = (names, no_nonce digits contents spelled wrong)

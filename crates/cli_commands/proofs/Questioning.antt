@@ -30,29 +30,45 @@ refused_works e = cc
 -- a failure that was reported behind what was kept
 module _ (f : Failure) (result : Status) (before between after : Option (List ℕ)) (reported : Reported f result)
     (kept : KeepsUnlessFailed before between f) where
-  printed : (s : Status) → s ≢ status.Failed → (result ≡ s → Appends between after (failure_text f)) → result ≡ s → Appends before after (failure_text f)
+  printed : (s : Status) → s ≢ status.Failed → (result ≡ s → Appends between after (failure_text f)) → result ≡ s
+      → Appends before after (failure_text f)
   printed s works told is =
-      kept_then before between after (failure_text f) (kept (λ e. works (sym (of_status f result s works reported is) ∙ ap status_of e))) (told is)
+      kept_then before between after (failure_text f)
+      (kept (λ e. works (sym (of_status f result s works reported is) ∙ ap status_of e))) (told is)
 
-  pub questions_malformed : (result ≡ status.Malformed → Appends between after (failure_text f)) → result ≡ status.Malformed → TellsMalformed before after
+  pub questions_malformed : (result ≡ status.Malformed → Appends between after (failure_text f))
+      → result ≡ status.Malformed → TellsMalformed before after
   questions_malformed told is =
-      fault_told f before after (of_status f result status.Malformed malformed_works reported is) (printed status.Malformed malformed_works told is)
+      fault_told f before after (of_status f result status.Malformed malformed_works reported is)
+      (printed status.Malformed malformed_works told is)
 
-  pub questions_refused : (result ≡ status.Refused → Appends between after (failure_text f)) → result ≡ status.Refused → TellsRefusal before after
+  pub questions_refused : (result ≡ status.Refused → Appends between after (failure_text f)) → result ≡ status.Refused
+      → TellsRefusal before after
   questions_refused told is =
-      refusal_told f before after (of_status f result status.Refused refused_works reported is) (printed status.Refused refused_works told is)
+      refusal_told f before after (of_status f result status.Refused refused_works reported is)
+      (printed status.Refused refused_works told is)
 
   pub questions_told : {F : Type 0} (holds : F → Option (List ℕ)) (words : QuestionsWords) → AsksNot holds words f
-      → (result ≡ status.Malformed → Appends between after (failure_text f)) → (result ≡ status.Refused → Appends between after (failure_text f))
+      → (result ≡ status.Malformed → Appends between after (failure_text f))
+      → (result ≡ status.Refused → Appends between after (failure_text f))
       → (result ≡ status.Malformed) ⊎ (result ≡ status.Refused)
       → (g : Failure) × AsksNot holds words g × (status_of g ≡ result) × Appends before after (failure_text g)
-  questions_told holds words fails malformed refused (inl is) =
-      (f, fails, of_status f result status.Malformed malformed_works reported is ∙ sym is, printed status.Malformed malformed_works malformed is)
-  questions_told holds words fails malformed refused (inr is) =
-      (f, fails, of_status f result status.Refused refused_works reported is ∙ sym is, printed status.Refused refused_works refused is)
+  questions_told holds words fails malformed refused (inl is) = (
+    f,
+    fails,
+    of_status f result status.Malformed malformed_works reported is ∙ sym is,
+    printed status.Malformed malformed_works malformed is,
+  )
+  questions_told holds words fails malformed refused (inr is) = (
+    f,
+    fails,
+    of_status f result status.Refused refused_works reported is ∙ sym is,
+    printed status.Refused refused_works refused is,
+  )
 
 -- none of the failures of questions is one of usage
-no_usage : {F : Type 0} (holds : F → Option (List ℕ)) (words : QuestionsWords) (f : Failure) → AsksNot holds words f → status_of f ≢ status.Usage
+no_usage : {F : Type 0} (holds : F → Option (List ℕ)) (words : QuestionsWords) (f : Failure) → AsksNot holds words f
+    → status_of f ≢ status.Usage
 no_usage holds words f (inl (inl (inl e))) is = cc
 no_usage holds words f (inl (inl (inr (inl e)))) is = cc
 no_usage holds words f (inl (inl (inr (inr (inl e))))) is = cc
@@ -66,7 +82,8 @@ no_usage holds words f (inr (inr (trust, file, stream.Questions questions.WriteF
 no_usage holds words f (inr (inr (trust, file, stream.ReadFailed, says, known, e))) is = cc
 no_usage holds words f (inr (inr (trust, file, stream.TooLong, says, known, e))) is = cc
 
-pub never_usage : {F : Type 0} (holds : F → Option (List ℕ)) (words : QuestionsWords) (f : Failure) (result : Status) → AsksNot holds words f
+pub never_usage : {F : Type 0} (holds : F → Option (List ℕ)) (words : QuestionsWords) (f : Failure) (result : Status)
+    → AsksNot holds words f
     → Reported f result → result ≢ status.Usage
 never_usage holds words f result fails (inl e) is = no_usage holds words f fails (sym e ∙ is)
 never_usage holds words f result fails (inr e) is = cc

@@ -32,12 +32,14 @@ no_tst octets (read.Malformed fault) h m = inr (record { fault = fault; malforme
 no_tst octets read.OutOfMemory h m = inl (refl, m refl)
 
 pub no_certificate : (octets : List ℕ) (e : ReadFault) → IsReadFault (file certificate) octets e
-    → (e ≡ read.OutOfMemory → (v : CertificateValue) × EncodesCertificate octets v) → ShowsNoCertificate octets (failure_of e)
+    → (e ≡ read.OutOfMemory → (v : CertificateValue) × EncodesCertificate octets v)
+    → ShowsNoCertificate octets (failure_of e)
 no_certificate octets (read.Malformed fault) h m = inr (record { fault = fault; malformed = refl; found = h })
 no_certificate octets read.OutOfMemory h m = inl (refl, m refl)
 
 pub no_signed_data : (octets : List ℕ) (e : CmsFault) → IsCmsFault octets e
-    → (e ≡ cms.OutOfMemory → (v : SignedDataValue) × EncodesSignedData octets v) → ShowsNoSignedData octets (failure_of_cms e)
+    → (e ≡ cms.OutOfMemory → (v : SignedDataValue) × EncodesSignedData octets v)
+    → ShowsNoSignedData octets (failure_of_cms e)
 no_signed_data octets (cms.Malformed fault) h m = inr (inr (record { fault = fault; malformed = refl; found = h }))
 no_signed_data octets cms.NotSignedData h m = inr (inl (refl, h))
 no_signed_data octets cms.OutOfMemory h m = inl (refl, m refl)

@@ -1,5 +1,6 @@
 -- What a sink took whose first octet is the name of a lent writer, that writer took.
-use Rattle.std.proofs.Common.{◌≡◌, ◌∷◌, ◌++◌, ℕ, List, [], Option, Some, None, Ok, Err, IsSome, unwrap_or, length, take, refl, sym, subst, inl, inr, arith}
+use Rattle.std.proofs.Common.{◌≡◌, ◌∷◌, ◌++◌, ℕ, List, [], Option, Some, None, Ok, Err, IsSome, unwrap_or, length, take}
+use Rattle.std.proofs.Common.{refl, sym, subst, inl, inr, arith}
 use Rattle.std.specs.Prelude.{IfErr}
 use Rattle.std.proofs.lemmas.List.{take_all}
 use Rattle.std.proofs.KnownBytes.{Appends-kept}
@@ -40,10 +41,12 @@ grown (Some xs) (Some ys) final name name' bs lent took =
     subst (λ (o : Option (List ℕ)). Appends (Some xs) o bs) (sym (lent.same first)) others
 
 stopped : (before after final : Option (List ℕ)) (name name' : ℕ) (text : List ℕ) → IsLent before after final name name'
-    → (IsSome before → Stops (seen name before) (seen name' after) text) → (count : ℕ) × Appends before final (take count text)
+    → (IsSome before → Stops (seen name before) (seen name' after) text)
+    → (count : ℕ) × Appends before final (take count text)
 stopped None after final name name' text lent took = (0, tt)
 stopped (Some xs) after final name name' text lent took =
-    let stops = took refl in (stops.count, grown (Some xs) after final name name' (take stops.count text) lent (λ _. stops.front))
+    let stops = took refl in
+    (stops.count, grown (Some xs) after final name name' (take stops.count text) lent (λ _. stops.front))
 
 stayed : (before after final : Option (List ℕ)) (name name' : ℕ) → IsLent before after final name name'
     → (IsSome before → seen name' after ≡ seen name before) → Keeps before final
@@ -56,14 +59,16 @@ stayed (Some xs) (Some ys) final name name' lent took =
     subst (λ (o : Option (List ℕ)). Keeps (Some xs) o) (sym (lent.same first)) others
 
 -- what holds of the octets of a file that is known
-known : (held : Option (List ℕ)) (IsSo : List ℕ → Type 0) → (IsKnown held → IsSo (unwrap_or held [])) → IfKnown held IsSo
+known : (held : Option (List ℕ)) (IsSo : List ℕ → Type 0) → (IsKnown held → IsSo (unwrap_or held []))
+    → IfKnown held IsSo
 known None IsSo so = tt
 known (Some octets) IsSo so = λ are. so (refl, are)
 
 module _ (trust : List EntryValue) (held before after final : Option (List ℕ)) (room name name' count count' : ℕ)
     (lent : IsLent before after final name name') where
   abbrev Or : Attempt → Type 0
-  Or r = IsTextOrBefore trust (IsKnown held) (unwrap_or held []) r (IsSome before) (seen name before) (seen name' after) count count'
+  Or r = IsTextOrBefore trust (IsKnown held) (unwrap_or held []) r (IsSome before) (seen name before)
+      (seen name' after) count count'
 
   abbrev Untouched : Type 0
   Untouched = IsUntouched (IsSome before) (seen name before) (seen name' after) count count'
@@ -81,38 +86,50 @@ module _ (trust : List EntryValue) (held before after final : Option (List ℕ))
     ((signers, qs, are, refl), known held (λ o. IsTextOf trust o (questions_text qs)) (λ told. (qs, of told, refl))),
     stopped before after final name name' (questions_text qs) lent taken,
   )
-  took (Err (stream.Questions (fault.Malformed f))) or untouched = stayed before after final name name' lent (untouched tt).0
-  took (Err (stream.Questions fault.NotSignedData)) or untouched = stayed before after final name name' lent (untouched tt).0
+  took (Err (stream.Questions (fault.Malformed f))) or untouched =
+      stayed before after final name name' lent (untouched tt).0
+  took (Err (stream.Questions fault.NotSignedData)) or untouched =
+      stayed before after final name name' lent (untouched tt).0
   took (Err stream.ReadFailed) or untouched = stayed before after final name name' lent (untouched tt).0
   took (Err stream.TooLong) or untouched = stayed before after final name name' lent (untouched tt).0
 
   abbrev Written : Attempt → Type 0
-  Written r = IsKnown held → IsWrittenOf trust (unwrap_or held []) room r (IsSome before) (seen name before) (seen name' after) count count'
+  Written r = IsKnown held
+      → IsWrittenOf trust (unwrap_or held []) room r (IsSome before) (seen name before) (seen name' after) count count'
 
-  unasked : (r : Attempt) → Written r → IfErr r (λ why. IfKnown held (λ o. IsUnasked trust (λ x. IsTooLarge x room) o why))
+  unasked : (r : Attempt) → Written r
+      → IfErr r (λ why. IfKnown held (λ o. IsUnasked trust (λ x. IsTooLarge x room) o why))
   unasked (Ok u) written = tt
   unasked (Err (stream.Questions fault.WriteFailed)) written = known held (λ o. (text : List ℕ) × IsTextOf trust o text)
       (λ told. let w = written told in (questions_text w.0, (w.0, w.1, refl)))
-  unasked (Err (stream.Questions (fault.Malformed f))) written = known held (λ o. FaultsOpenly (file content_info) o f × EncodesNothing o)
+  unasked (Err (stream.Questions (fault.Malformed f))) written =
+      known held (λ o. FaultsOpenly (file content_info) o f × EncodesNothing o)
       (λ told. let w = written told in (w.0, w.1.0))
-  unasked (Err (stream.Questions fault.NotSignedData)) written = known held EncodesAnotherType (λ told. (written told).0)
+  unasked (Err (stream.Questions fault.NotSignedData)) written =
+      known held EncodesAnotherType (λ told. (written told).0)
   unasked (Err stream.ReadFailed) written = known held (λ o. Unit {0}) (λ told. tt)
   unasked (Err stream.TooLong) written = known held (λ o. IsTooLarge o room) (λ told. (written told).0)
 
-  pub straight : (r : Attempt) → Or r → (IsBeforeText r → Untouched) → Written r → AsksPass trust held room r before final
+  pub straight : (r : Attempt) → Or r → (IsBeforeText r → Untouched) → Written r
+      → AsksPass trust held room r before final
   straight r or untouched written = (took r or untouched, unasked r written)
 
 -- a flush keeps what was taken, whether it fails or not
-pub flushed : (trust : List EntryValue) (held : Option (List ℕ)) (room : ℕ) (u : Unit {0}) (before between after : Option (List ℕ))
-    → AsksPass trust held room (Ok u) before between → Keeps between after → AsksPass trust held room (Ok u) before after
-flushed trust held room u before between after ((text, is, took), none) kept = ((text, is, Appends-kept before between after text took kept), tt)
+pub flushed : (trust : List EntryValue) (held : Option (List ℕ)) (room : ℕ) (u : Unit {0})
+    (before between after : Option (List ℕ))
+    → AsksPass trust held room (Ok u) before between → Keeps between after
+    → AsksPass trust held room (Ok u) before after
+flushed trust held room u before between after ((text, is, took), none) kept =
+    ((text, is, Appends-kept before between after text took kept), tt)
 
-some_text : (trust : List EntryValue) (held : Option (List ℕ)) (text : List ℕ) → IfKnown held (λ o. IsTextOf trust o text)
+some_text : (trust : List EntryValue) (held : Option (List ℕ)) (text : List ℕ)
+    → IfKnown held (λ o. IsTextOf trust o text)
     → IfKnown held (λ o. (t : List ℕ) × IsTextOf trust o t)
 some_text trust None text is = tt
 some_text trust (Some octets) text is = λ are. (text, is are)
 
-pub unflushed : (trust : List EntryValue) (held : Option (List ℕ)) (room : ℕ) (u : Unit {0}) (before between after : Option (List ℕ))
+pub unflushed : (trust : List EntryValue) (held : Option (List ℕ)) (room : ℕ) (u : Unit {0})
+    (before between after : Option (List ℕ))
     → AsksPass trust held room (Ok u) before between → Keeps between after
     → AsksPass trust held room (Err (stream.Questions fault.WriteFailed)) before after
 unflushed trust held room u before between after ((text, is, took), none) kept = (
@@ -121,7 +138,8 @@ unflushed trust held room u before between after ((text, is, took), none) kept =
     is,
     (
       length text,
-      subst (λ (bs : List ℕ). Appends before after bs) (sym (take_all (length text) text (omega arith))) (Appends-kept before between after text took kept),
+      subst (λ (bs : List ℕ). Appends before after bs) (sym (take_all (length text) text (omega arith)))
+          (Appends-kept before between after text took kept),
     ),
   ),
   some_text trust held text is.1,

@@ -9,14 +9,17 @@ use Rattle.check_stream.specs.declared.fault.StreamQuestionsFault.{StreamQuestio
 use Rattle.check_stream.specs.declared.fault.StreamQuestionsFault.TheVariants as stream
 use Rattle.cli_failures.specs.declared.failure.Failure.{Failure}
 use Rattle.cli_tasks.specs.declared.task.QuestionsWords.{QuestionsWords}
-use Rattle.cli_commands.specs.Asking.{IsTooLong, IsUnasked, AsksPass, ShowsQuestions, AsksNot, KeepsUnlessFailed, failure_of}
+use Rattle.cli_commands.specs.Asking.{IsTooLong, IsUnasked, AsksPass, ShowsQuestions, AsksNot, KeepsUnlessFailed}
+use Rattle.cli_commands.specs.Asking.{failure_of}
 use Rattle.cli_commands.specs.Checking.{IfKnown}
 use Rattle.cli_commands.specs.Lists.{IsTrustOf}
 use Rattle.cli_commands.specs.Rooms.{IsLimit}
 
 -- a pass over a file that was opened, with as much room as the words allow
-module _ {F : Type 0} (holds : F → Option (List ℕ)) (words : QuestionsWords) (trust : List EntryValue) (last : F) (limit : ℕ) (again : Bool)
-    (trusted : IsTrustOf holds trust) (allowed : IsLimit words.buffer again limit) (before after : Option (List ℕ)) where
+module _ {F : Type 0} (holds : F → Option (List ℕ)) (words : QuestionsWords) (trust : List EntryValue) (last : F)
+    (limit : ℕ) (again : Bool)
+    (trusted : IsTrustOf holds trust) (allowed : IsLimit words.buffer again limit)
+    (before after : Option (List ℕ)) where
   pub shows : (u : Unit {0}) → AsksPass trust (holds last) limit (Ok u) before after
       → (text : List ℕ) × ShowsQuestions holds text × Appends before after text
   shows u ((text, is, took), none) = (text, (trust, last, trusted, is), took)
@@ -29,7 +32,8 @@ module _ {F : Type 0} (holds : F → Option (List ℕ)) (words : QuestionsWords)
   by_words octets stream.ReadFailed is = is
   by_words octets stream.TooLong is = (limit, again, allowed, is)
 
-  if_known : (held : Option (List ℕ)) (why : StreamQuestionsFault) → IfKnown held (λ octets. IsUnasked trust (λ o. IsTooLarge o limit) octets why)
+  if_known : (held : Option (List ℕ)) (why : StreamQuestionsFault)
+      → IfKnown held (λ octets. IsUnasked trust (λ o. IsTooLarge o limit) octets why)
       → IfKnown held (λ octets. IsUnasked trust (IsTooLong words) octets why)
   if_known None why is = tt
   if_known (Some octets) why is = λ are. by_words octets why (is are)
@@ -38,10 +42,13 @@ module _ {F : Type 0} (holds : F → Option (List ℕ)) (words : QuestionsWords)
       → f ≡ failure_of words.file why → AsksNot holds words f
   not_asked why f (took, is) e = inr (inr (trust, last, why, trusted, if_known (holds last) why is, e))
 
-pub kept_unless_failed : (trust : List EntryValue) (held : Option (List ℕ)) (room : ℕ) (why : StreamQuestionsFault) (path : Bor (List ℕ)) (f : Failure)
-    (before after : Option (List ℕ)) → AsksPass trust held room (Err why) before after → f ≡ failure_of path why → KeepsUnlessFailed before after f
+pub kept_unless_failed : (trust : List EntryValue) (held : Option (List ℕ)) (room : ℕ) (why : StreamQuestionsFault)
+    (path : Bor (List ℕ)) (f : Failure)
+    (before after : Option (List ℕ)) → AsksPass trust held room (Err why) before after → f ≡ failure_of path why
+    → KeepsUnlessFailed before after f
 kept_unless_failed trust held room (stream.Questions (fault.Malformed g)) path f before after (took, is) e works = took
 kept_unless_failed trust held room (stream.Questions fault.NotSignedData) path f before after (took, is) e works = took
-kept_unless_failed trust held room (stream.Questions fault.WriteFailed) path f before after (took, is) e works = absurd (works e)
+kept_unless_failed trust held room (stream.Questions fault.WriteFailed) path f before after (took, is) e works =
+    absurd (works e)
 kept_unless_failed trust held room stream.ReadFailed path f before after (took, is) e works = took
 kept_unless_failed trust held room stream.TooLong path f before after (took, is) e works = took

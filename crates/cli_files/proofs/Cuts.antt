@@ -1,5 +1,6 @@
 -- The first name of a list, and the list behind it.
-use Rattle.std.proofs.Common.{◌≡◌, ◌<◌, ◌+◌, ◌-◌, ℕ, Bool, true, false, List, [], ◌∷◌, length, take, drop, Option, Some, None, refl, arith, ◌∙◌, ap}
+use Rattle.std.proofs.Common.{◌≡◌, ◌<◌, ◌+◌, ◌-◌, ℕ, Bool, true, false, List, [], ◌∷◌, length, take, drop, Option, Some}
+use Rattle.std.proofs.Common.{None, refl, arith, ◌∙◌, ap}
 use Rattle.std.specs.List.{slice_split}
 use Rattle.std.specs.Prelude.{◌==◌}
 use Rattle.memchr.specs.Find.{IsFirstByte, is_byte}
@@ -35,4 +36,5 @@ pub cut_before : (text : List ℕ) (end i : ℕ) (r : Option ℕ) → IsFirstByt
     → names_of end text ≡ take i text ∷ names_of end (take (length text - (i + 1)) (drop (i + 1) text))
 cut_before text end i r first found =
     let (less, is) = cut_there text end i r (first_place text end r first) found in
-    ap names_of_parts is ∙ more (take i text) _ (some_part (λ b. b == end) (take (length text - (i + 1)) (drop (i + 1) text)))
+    ap names_of_parts is
+    ∙ more (take i text) _ (some_part (λ b. b == end) (take (length text - (i + 1)) (drop (i + 1) text)))

@@ -28,7 +28,8 @@ use Rattle.cli_commands.specs.Asking.{AsksNot, failure_of}
 use Rattle.cli_commands.specs.Checking.{ShowsRefused}
 use Rattle.cli_commands.specs.Fit.{ShowsUnfit}
 use Rattle.cli_commands.specs.Lists.{IsFailureOfAnswers, IsFailureOfTrust}
-use Rattle.cli_files.specs.Lines.{AreAll, AreTold, none, next, Begins, EndsFiles, IsAsked, IsCut, IsFailureOfList, IsLine, IsLost}
+use Rattle.cli_files.specs.Lines.{AreAll, AreTold, none, next, Begins, EndsFiles, IsAsked, IsCut, IsFailureOfList}
+use Rattle.cli_files.specs.Lines.{IsLine, IsLost}
 use Rattle.cli_files.specs.Lines.{check_of, fit_of, questions_of}
 
 pub read_fails : (path : Bor (List ℕ)) (f : Failure) → IsFailureToRead path f → status_of f ≡ status.Failed
@@ -41,7 +42,8 @@ open_fails : (path : Bor (List ℕ)) (f : Failure) → IsFailureToOpen path f �
 open_fails path f (inl e) = cc
 open_fails path f (inr e) = cc
 
-given_fails : (path : Option (Bor (List ℕ))) (f : Failure) → IsSomeAnd path (λ p. IsFailureToOpen p f) → status_of f ≡ status.Failed
+given_fails : (path : Option (Bor (List ℕ))) (f : Failure) → IsSomeAnd path (λ p. IsFailureToOpen p f)
+    → status_of f ≡ status.Failed
 given_fails (Some p) f fails = open_fails p f fails
 given_fails None f fails = absurd fails
 
@@ -67,7 +69,8 @@ module _ {F : Type 0} (holds : F → Option (List ℕ)) where
   list_fails (each.Fit words) f fails = absurd fails
   list_fails (each.Questions words) f fails = trust_fails words.trust f fails
 
-  not_usage : (f : Failure) → (status_of f ≡ status.Malformed) ⊎ (status_of f ≡ status.Failed) → status_of f ≢ status.Usage
+  not_usage : (f : Failure) → (status_of f ≡ status.Malformed) ⊎ (status_of f ≡ status.Failed)
+      → status_of f ≢ status.Usage
   not_usage f (inl e) = λ is. let no : ⊥ = cc in no
   not_usage f (inr e) = λ is. let no : ⊥ = cc in no
 
@@ -102,7 +105,8 @@ module _ {F : Type 0} (holds : F → Option (List ℕ)) where
   unasked_not_usage questions.NotSignedData = λ is. let no : ⊥ = cc in no
   unasked_not_usage questions.WriteFailed = λ is. let no : ⊥ = cc in no
 
-  stopped_not_usage : (path : Bor (List ℕ)) (why : StreamQuestionsFault) → status_of (failure_of path why) ≢ status.Usage
+  stopped_not_usage : (path : Bor (List ℕ)) (why : StreamQuestionsFault)
+      → status_of (failure_of path why) ≢ status.Usage
   stopped_not_usage path (stream.Questions why) = unasked_not_usage why
   stopped_not_usage path stream.ReadFailed = λ is. let no : ⊥ = cc in no
   stopped_not_usage path stream.TooLong = λ is. let no : ⊥ = cc in no
@@ -111,36 +115,47 @@ module _ {F : Type 0} (holds : F → Option (List ℕ)) where
   asking_not_usage words f (inl fails) = not_usage f (trust_fails words.trust f fails)
   asking_not_usage words f (inr (inl fails)) = not_usage f (inr (open_fails words.file f fails))
   asking_not_usage words f (inr (inr (trust, file, why, is, known, e))) =
-      λ used. stopped_not_usage words.file why (let same : status_of (failure_of words.file why) ≡ status_of f = cc in same ∙ used)
+      λ used. stopped_not_usage words.file why
+      (let same : status_of (failure_of words.file why) ≡ status_of f = cc in same ∙ used)
 
-  check_line : (e : CheckEach) (path : Bor (List ℕ)) (line : List ℕ) (ends : Status) → IsLine holds (check_of e) path line ends
+  check_line : (e : CheckEach) (path : Bor (List ℕ)) (line : List ℕ) (ends : Status)
+      → IsLine holds (check_of e) path line ends
       → ends ≢ status.Usage
   check_line e path line ends (said, inl (done, makes), is) = λ used. let no : ⊥ = cc in no
   check_line e path line ends (said, inr (f, fails, of, told), is) = λ used. check_not_usage _ f fails (of ∙ used)
 
-  fit_line : (e : FitEach) (path : Bor (List ℕ)) (line : List ℕ) (ends : Status) → IsLine holds (fit_of e) path line ends
+  fit_line : (e : FitEach) (path : Bor (List ℕ)) (line : List ℕ) (ends : Status)
+      → IsLine holds (fit_of e) path line ends
       → ends ≢ status.Usage
   fit_line e path line ends (said, inl (done, makes), is) = λ used. let no : ⊥ = cc in no
   fit_line e path line ends (said, inr (f, fails, of, told), is) = λ used. fit_not_usage _ f fails (of ∙ used)
 
-  asked_line : (e : QuestionsEach) (path : Bor (List ℕ)) (line : List ℕ) (ends : Status) → IsAsked holds e path line ends
+  asked_line : (e : QuestionsEach) (path : Bor (List ℕ)) (line : List ℕ) (ends : Status)
+      → IsAsked holds e path line ends
       → ends ≢ status.Usage
   asked_line e path line ends (inl (done, asked)) = λ used. let no : ⊥ = cc in no
-  asked_line e path line ends (inr (f, fails, of, told)) = λ used. asking_not_usage (questions_of e path) f fails (of ∙ used)
+  asked_line e path line ends (inr (f, fails, of, told)) =
+      λ used. asking_not_usage (questions_of e path) f fails (of ∙ used)
 
   lines_not_usage : (IsLineOf : Bor (List ℕ) → List ℕ → Status → Type 0)
       → ((path : Bor (List ℕ)) (line : List ℕ) (ends : Status) → IsLineOf path line ends → ends ≢ status.Usage)
-      → (paths : List (Bor (List ℕ))) (text : List ℕ) (worst : Status) → AreTold IsLineOf paths text worst → worst ≢ status.Usage
+      → (paths : List (Bor (List ℕ))) (text : List ℕ) (worst : Status) → AreTold IsLineOf paths text worst
+      → worst ≢ status.Usage
   lines_not_usage IsLineOf never paths text worst none = λ used. let no : ⊥ = cc in no
-  lines_not_usage IsLineOf never paths text worst (next {path = path} {line = line} {ends = ends} told is (more, most, inl e)) =
+  lines_not_usage IsLineOf never paths text worst
+      (next {path = path} {line = line} {ends = ends} told is (more, most, inl e)) =
       λ used. lines_not_usage IsLineOf never _ _ _ told (sym e ∙ used)
-  lines_not_usage IsLineOf never paths text worst (next {path = path} {line = line} {ends = ends} told is (more, most, inr e)) =
+  lines_not_usage IsLineOf never paths text worst
+      (next {path = path} {line = line} {ends = ends} told is (more, most, inr e)) =
       λ used. never path line ends is (sym e ∙ used)
 
-  pub all_not_usage : (e : Each) (paths : List (Bor (List ℕ))) (text : List ℕ) (worst : Status) → AreAll holds e paths text worst
+  pub all_not_usage : (e : Each) (paths : List (Bor (List ℕ))) (text : List ℕ) (worst : Status)
+      → AreAll holds e paths text worst
       → worst ≢ status.Usage
-  all_not_usage (each.Check words) paths text worst told = lines_not_usage (IsLine holds (check_of words)) (check_line words) paths text worst told
-  all_not_usage (each.Fit words) paths text worst told = lines_not_usage (IsLine holds (fit_of words)) (fit_line words) paths text worst told
+  all_not_usage (each.Check words) paths text worst told =
+      lines_not_usage (IsLine holds (check_of words)) (check_line words) paths text worst told
+  all_not_usage (each.Fit words) paths text worst told =
+      lines_not_usage (IsLine holds (fit_of words)) (fit_line words) paths text worst told
   all_not_usage (each.Questions words) paths text worst (trust, asked, is, told, same) =
       lines_not_usage (IsAsked holds words) (asked_line words) paths asked worst told
 
@@ -157,7 +172,8 @@ module _ {F : Type 0} (holds : F → Option (List ℕ)) where
   fails_so e f (inl (fails, same)) = list_fails e f fails
   fails_so e f (inr (lost, cut)) = inr (lost_fails f lost)
 
-  pub reported_so : {X Y : Type 0} (e : Each) (f : Failure) (result : Status) → (IsFailureOfList holds e f × X) ⊎ (IsLost f × Y)
+  pub reported_so : {X Y : Type 0} (e : Each) (f : Failure) (result : Status)
+      → (IsFailureOfList holds e f × X) ⊎ (IsLost f × Y)
       → (result ≡ status_of f) ⊎ (result ≡ status.Failed) → (result ≡ status.Malformed) ⊎ (result ≡ status.Failed)
   reported_so e f result fails (inl is) = by_status (fails_so e f fails)
     where
@@ -176,7 +192,8 @@ module _ {F : Type 0} (holds : F → Option (List ℕ)) where
   so_quiet result (inl is) quiet = inr (quiet is)
   so_quiet result (inr is) quiet = inl is
 
-  module _ {W : Type 0} (contents : W → Option (List ℕ)) (e : Each) (paths : List (Bor (List ℕ))) (f : Failure) (result : Status)
+  module _ {W : Type 0} (contents : W → Option (List ℕ)) (e : Each) (paths : List (Bor (List ℕ))) (f : Failure)
+      (result : Status)
       (old mid after : W) where
     -- the line of a list that fails was printed, or a beginning of it
     list_ends : IsFailureOfList holds e f → (result ≡ status.Malformed) ⊎ (result ≡ status.Failed)
@@ -188,13 +205,15 @@ module _ {F : Type 0} (holds : F → Option (List ℕ)) where
     list_ends fails (inl ends) (inr is) told begun = absurd (let no : ⊥ = cc in no)
     list_ends fails (inr ends) is told begun = inr (ends, inr (f, fails, begun))
 
-    pub reported_ends : (IsFailureOfList holds e f × (mid ≡ old)) ⊎ (IsLost f × IsCut holds e paths (contents old) (contents mid))
+    pub reported_ends : (IsFailureOfList holds e f × (mid ≡ old))
+        ⊎ (IsLost f × IsCut holds e paths (contents old) (contents mid))
         → (result ≡ status_of f) ⊎ (result ≡ status.Failed)
         → (result ≡ status.Malformed → Appends (contents mid) (contents after) (failure_text f))
         → Begins (contents mid) (contents after) (failure_text f)
         → (status_of f ≡ status.Failed → after ≡ mid)
         → EndsFiles holds e paths result (contents old) (contents after)
-    reported_ends (inl (fails, same)) is told begun kept = list_ends fails (reported_so {Y = ⊥} e f result (inl (fails, same)) is) is
+    reported_ends (inl (fails, same)) is told begun kept =
+        list_ends fails (reported_so {Y = ⊥} e f result (inl (fails, same)) is) is
         (λ m. subst (λ (w : W). Appends (contents w) (contents after) (failure_text f)) same (told m))
         (subst (λ (w : W). Begins (contents w) (contents after) (failure_text f)) same begun)
     reported_ends (inr (lost, cut)) is told begun kept = inr (

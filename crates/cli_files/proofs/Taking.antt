@@ -50,7 +50,8 @@ begins_either a b text (Err f) whole (lost, cut) = cut
 pub begins_behind : (a b c : Option (List ℕ)) (s t : List ℕ) → Appends a b s → Begins b c t → Begins a c (s ++ t)
 begins_behind a b c s t took (count, more) = (
   length s + count,
-  subst (λ (bs : List ℕ). Appends a c bs) (sym (take-append-add s t count)) (appends_both a b c s (take count t) took more),
+  subst (λ (bs : List ℕ). Appends a c bs) (sym (take-append-add s t count))
+      (appends_both a b c s (take count t) took more),
 )
 
 -- a beginning of a text is one of a longer text
@@ -67,22 +68,26 @@ up_to_none octets a = record { done = []; are = refl; took = appends_none a }
 rest_is : (n : ℕ) (left : List ℕ) → take (length left - n) (drop n left) ≡ drop n left
 rest_is n left = take_all (length left - n) (drop n left) (omega (arith, length-drop n left))
 
-pub up_to_more : (octets left : List ℕ) (a b c : Option (List ℕ)) (n : ℕ) → UpTo octets left a b → Appends b c (take n left)
+pub up_to_more : (octets left : List ℕ) (a b c : Option (List ℕ)) (n : ℕ) → UpTo octets left a b
+    → Appends b c (take n left)
     → UpTo octets (take (length left - n) (drop n left)) a c
 up_to_more octets left a b c n h more = record {
   done = h.done ++ take n left;
-  are = h.are ∙ ap (λ (v : List ℕ). h.done ++ v) (sym (take-append-drop n left)) ∙ sym (append_assoc h.done (take n left) (drop n left))
+  are = h.are ∙ ap (λ (v : List ℕ). h.done ++ v) (sym (take-append-drop n left))
+      ∙ sym (append_assoc h.done (take n left) (drop n left))
       ∙ ap (λ (v : List ℕ). (h.done ++ take n left) ++ v) (sym (rest_is n left));
   took = appends_both a b c h.done (take n left) h.took more;
 }
 
 -- what was taken is a beginning
-pub cut_more : (octets left : List ℕ) (a b c : Option (List ℕ)) (n : ℕ) → UpTo octets left a b → Appends b c (take n left)
+pub cut_more : (octets left : List ℕ) (a b c : Option (List ℕ)) (n : ℕ) → UpTo octets left a b
+    → Appends b c (take n left)
     → Begins a c octets
 cut_more octets left a b c n h more = (
   length h.done + n,
   subst (λ (bs : List ℕ). Appends a c bs)
-      (sym (ap (take (length h.done + n)) h.are ∙ take-append-add h.done left n)) (appends_both a b c h.done (take n left) h.took more),
+      (sym (ap (take (length h.done + n)) h.are ∙ take-append-add h.done left n))
+      (appends_both a b c h.done (take n left) h.took more),
 )
 
 pub cut_kept : (octets left : List ℕ) (a b c : Option (List ℕ)) → UpTo octets left a b → Keeps b c → Begins a c octets

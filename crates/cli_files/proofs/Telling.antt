@@ -21,7 +21,8 @@ use Rattle.cli_commands.specs.Lists.{IsAnswersOf}
 use Rattle.cli_commands.specs.Tasks.{MakesText, MakesNoText}
 use Rattle.cli_files.proofs.Taking.{appends_both, begins_behind, begins_front}
 use Rattle.cli_files.specs.Names.{heading_of, line_of}
-use Rattle.cli_files.specs.Lines.{AreTold, Begins, first_line, IsAsked, IsHeaded, IsLost, next, questions_of, Says, IsSaid, IsWorse}
+use Rattle.cli_files.specs.Lines.{AreTold, Begins, first_line, IsAsked, IsHeaded, IsLost, next, questions_of, Says}
+use Rattle.cli_files.specs.Lines.{IsSaid, IsWorse}
 
 -- what is known stays the same where nothing is printed
 pub keeps_same : (a : Option (List ℕ)) → Keeps a a
@@ -36,7 +37,8 @@ some_worse one other = elim (cases_lt (code_of one) (code_of other)) [
 ]
 
 -- one file more: its line was printed behind what was printed, and the worse status is kept
-pub record OneMore (IsLineOf : Bor (List ℕ) → List ℕ → Status → Type 0) (path : Bor (List ℕ)) (printed after : Option (List ℕ))
+pub record OneMore (IsLineOf : Bor (List ℕ) → List ℕ → Status → Type 0) (path : Bor (List ℕ))
+    (printed after : Option (List ℕ))
     (before worst : Status) : Type 0 where
   pub line : List ℕ
   pub ends : Status
@@ -47,10 +49,13 @@ pub record OneMore (IsLineOf : Bor (List ℕ) → List ℕ → Status → Type 0
 module _ (IsLineOf : Bor (List ℕ) → List ℕ → Status → Type 0) (paths : List (Bor (List ℕ))) (d : Bor (List ℕ)) where
   -- the lines of so many files were printed
   abbrev pub UpTo : ℕ → (start printed : Option (List ℕ)) → (worst : Status) → Type 0
-  UpTo count start printed worst = (text : List ℕ) × AreTold IsLineOf (take count paths) text worst × Appends start printed text
+  UpTo count start printed worst =
+      (text : List ℕ) × AreTold IsLineOf (take count paths) text worst × Appends start printed text
 
-  pub told_next : (i j : ℕ) (start printed after : Option (List ℕ)) (before worst : Status) → i < length paths → j ≡ suc i
-      → UpTo i start printed before → OneMore IsLineOf (get_or paths i d) printed after before worst → UpTo j start after worst
+  pub told_next : (i j : ℕ) (start printed after : Option (List ℕ)) (before worst : Status) → i < length paths
+      → j ≡ suc i
+      → UpTo i start printed before → OneMore IsLineOf (get_or paths i d) printed after before worst
+      → UpTo j start after worst
   told_next i j start printed after before worst less is (text, told, took) more = (
     text ++ more.line,
     subst (λ (ps : List (Bor (List ℕ))). AreTold IsLineOf ps (text ++ more.line) worst)
@@ -65,7 +70,8 @@ module _ (IsLineOf : Bor (List ℕ) → List ℕ → Status → Type 0) (paths :
       × Begins start after text
 
   -- a beginning of one line more
-  pub cut_next : (i : ℕ) (start printed after : Option (List ℕ)) (before ends : Status) (line : List ℕ) → i < length paths
+  pub cut_next : (i : ℕ) (start printed after : Option (List ℕ)) (before ends : Status) (line : List ℕ)
+      → i < length paths
       → UpTo IsLineOf paths d i start printed before → IsLineOf (get_or paths i d) line ends → Begins printed after line
       → CutOff start after
   cut_next i start printed after before ends line less (text, told, took) says begun =
@@ -73,13 +79,16 @@ module _ (IsLineOf : Bor (List ℕ) → List ℕ → Status → Type 0) (paths :
         suc i,
         text ++ line,
         worst,
-        subst (λ (ps : List (Bor (List ℕ))). AreTold IsLineOf ps (text ++ line) worst) (sym (take-suc paths i d less)) (next told says worse),
+        subst (λ (ps : List (Bor (List ℕ))). AreTold IsLineOf ps (text ++ line) worst) (sym (take-suc paths i d less))
+            (next told says worse),
         begins_behind start printed after text line took begun,
       )
 
 -- behind the last file all were told
-pub all_told : (IsLineOf : Bor (List ℕ) → List ℕ → Status → Type 0) (paths : List (Bor (List ℕ))) (count : ℕ) (text : List ℕ)
-    (worst : Status) → length paths ≤ count → AreTold IsLineOf (take count paths) text worst → AreTold IsLineOf paths text worst
+pub all_told :
+    (IsLineOf : Bor (List ℕ) → List ℕ → Status → Type 0) (paths : List (Bor (List ℕ))) (count : ℕ) (text : List ℕ)
+    (worst : Status) → length paths ≤ count → AreTold IsLineOf (take count paths) text worst
+    → AreTold IsLineOf paths text worst
 all_told IsLineOf paths count text worst le told =
     subst (λ (ps : List (Bor (List ℕ))). AreTold IsLineOf ps text worst) (take_all count paths le) told
 
@@ -92,32 +101,38 @@ said_by bytes holds task (Ok v) text ends (is, done) makes fails = inl (done, rw
 said_by bytes holds task (Err f) text ends (is, of) makes fails = inr (f, fails, sym of, is)
 
 -- a line that was not printed, of a file that a command failed for
-pub said_lost : {T : Type 0} (octets : T → List ℕ) (r : Result T Failure) (f : Failure) (name : List ℕ) (before after : Option (List ℕ))
+pub said_lost : {T : Type 0} (octets : T → List ℕ) (r : Result T Failure) (f : Failure) (name : List ℕ)
+    (before after : Option (List ℕ))
     (result : Result Status Failure) → r ≡ Err f
     → IfErr result (λ lost. IsLost lost × Begins before after (line_of name (failure_text f)))
     → IfErr result (λ lost. IsLost lost × ((text : List ℕ) × (ends : Status) × IsSaid octets r text ends
     × Begins before after (line_of name text)))
 said_lost octets r f name before after (Ok ends) is lost = lost
-said_lost octets r f name before after (Err e) is (lost, begun) = (lost, (failure_text f, status_of f, rw is (refl, refl), begun))
+said_lost octets r f name before after (Err e) is (lost, begun) =
+    (lost, (failure_text f, status_of f, rw is (refl, refl), begun))
 
 -- what is printed of a file by `questions`, by what the function that makes it returned
-pub headed_by : {F T : Type 0} (bytes : T → List ℕ) (holds : F → Option (List ℕ)) (e : QuestionsEach) (path : Bor (List ℕ))
+pub headed_by :
+    {F T : Type 0} (bytes : T → List ℕ) (holds : F → Option (List ℕ)) (e : QuestionsEach) (path : Bor (List ℕ))
     (r : Result T Failure) (text : List ℕ) (ends : Status) → IsHeaded bytes r path.now text ends
-    → IfOk r (λ v. ShowsQuestions holds (bytes v)) → IfErr r (AsksNot holds (questions_of e path)) → IsAsked holds e path text ends
-headed_by bytes holds e path (Ok v) text ends (done, heads) (trust, file, listed, ((signers, qs, are, is), known)) fails = inl (
-  done,
-  (
-    question_lines qs,
-    subst (λ (bs : List ℕ). ShowsQuestions holds bs) is (trust, file, listed, ((signers, qs, are, is), known)),
-    heads (question_lines qs) is,
-  ),
-)
+    → IfOk r (λ v. ShowsQuestions holds (bytes v)) → IfErr r (AsksNot holds (questions_of e path))
+    → IsAsked holds e path text ends
+headed_by bytes holds e path (Ok v) text ends (done, heads)
+    (trust, file, listed, ((signers, qs, are, is), known)) fails = inl (
+      done,
+      (
+        question_lines qs,
+        subst (λ (bs : List ℕ). ShowsQuestions holds bs) is (trust, file, listed, ((signers, qs, are, is), known)),
+        heads (question_lines qs) is,
+      ),
+    )
 headed_by bytes holds e path (Err f) text ends (of, is) asks fails = inr (f, fails, sym of, is)
 
 module _ {T : Type 0} (octets : T → List ℕ) (r : Result T Failure) (name : List ℕ) where
   -- what is printed of a file by `questions`, or a beginning of it
   abbrev pub HeadedCut : (before after : Option (List ℕ)) → Type 0
-  HeadedCut before after = (text : List ℕ) × (ends : Status) × IsHeaded octets r name text ends × Begins before after text
+  HeadedCut before after =
+      (text : List ℕ) × (ends : Status) × IsHeaded octets r name text ends × Begins before after text
 
   -- behind the heading what is behind the first line of the text
   headed_is : (v : T) (asked : List ℕ) → r ≡ Ok v → ((xs : List ℕ) → octets v ≡ first_line ++ xs → asked ≡ xs)
@@ -141,9 +156,14 @@ module _ {T : Type 0} (octets : T → List ℕ) (r : Result T Failure) (name : L
       )
 
   pub headed_cut : (v : T) (asked : List ℕ) (a b c : Option (List ℕ)) → r ≡ Ok v
-      → ((xs : List ℕ) → octets v ≡ first_line ++ xs → asked ≡ xs) → Appends a b (heading_of name) → Begins b c asked → HeadedCut a c
-  headed_cut v asked a b c is behind took begun =
-      (heading_of name ++ asked, status.Done, headed_is v asked is behind, begins_behind a b c (heading_of name) asked took begun)
+      → ((xs : List ℕ) → octets v ≡ first_line ++ xs → asked ≡ xs) → Appends a b (heading_of name) → Begins b c asked
+      → HeadedCut a c
+  headed_cut v asked a b c is behind took begun = (
+    heading_of name ++ asked,
+    status.Done,
+    headed_is v asked is behind,
+    begins_behind a b c (heading_of name) asked took begun,
+  )
 
   pub headed_failure : (f : Failure) (a b : Option (List ℕ)) (result : Result Status Failure) → r ≡ Err f
       → IfErr result (λ lost. IsLost lost × Begins a b (codes "# " ++ line_of name (failure_text f)))
@@ -154,6 +174,7 @@ module _ {T : Type 0} (octets : T → List ℕ) (r : Result T Failure) (name : L
 
 -- what an answers list vouches for serves for the next file
 pub still_answers : {F : Type 0} (holds : F → Option (List ℕ)) (before after : List Asked)
-    → ◌≡◌ {A = Asked → Bool} (λ q. is_among after q) (λ q. is_among before q) → IsAnswersOf holds before → IsAnswersOf holds after
+    → ◌≡◌ {A = Asked → Bool} (λ q. is_among after q) (λ q. is_among before q) → IsAnswersOf holds before
+    → IsAnswersOf holds after
 still_answers holds before after same (text, asked, read, says, vouch) =
     (text, asked, read, says, λ q. ap (λ (f : Asked → Bool). f q) same ∙ vouch q)

@@ -44,7 +44,8 @@ pub fn put_failure<'a, O: Write>(
     failure: &Failure<'_>,
     out: &mut O,
 ) -> Result<Status, Failure<'a>>
-    ensures put { IfOk result (λ ends. (ends ≡ status_of failure.now) × Appends (O.contents out.old) (O.contents out.new)
+    ensures put { IfOk result
+        (λ ends. (ends ≡ status_of failure.now) × Appends (O.contents out.old) (O.contents out.new)
         (front.now ++ line_of path.now (failure_text failure.now))) }
     ensures lost { IfErr result (λ f. IsLost f × Begins (O.contents out.old) (O.contents out.new)
         (front.now ++ line_of path.now (failure_text failure.now))) }

@@ -5,8 +5,10 @@ use Rattle.clap.specs.Matches.{one_text, ReadsOne}
 use Rattle.clap.specs.declared.parser.matches.Found.{Found}
 use Rattle.cli_words.specs.Words.{IsNumberIn}
 
-module _ {E : Type 0} (gives : List ℕ → Result ℕ E → Type 0) (parses : (t : List ℕ) (x : Result ℕ E) → gives t x → ParsesUnsigned 64 10 t x) where
-  spelled : (t : List ℕ) (r : Option ℕ) (n : ℕ) → ReadsOne gives t r → r ≡ Some n → n ≡ digits_value 10 (without_leading_plus t)
+module _ {E : Type 0} (gives : List ℕ → Result ℕ E → Type 0)
+    (parses : (t : List ℕ) (x : Result ℕ E) → gives t x → ParsesUnsigned 64 10 t x) where
+  spelled : (t : List ℕ) (r : Option ℕ) (n : ℕ) → ReadsOne gives t r → r ≡ Some n
+      → n ≡ digits_value 10 (without_leading_plus t)
   spelled t (Some v) n reads e = let same : v ≡ n = cc in sym same ∙ (parses t (Ok v) reads).1
   spelled t None n reads e = absurd (let no : ⊥ = cc in no)
 
@@ -19,4 +21,8 @@ module _ {E : Type 0} (gives : List ℕ → Result ℕ E → Type 0) (parses : (
       → ((t : List ℕ) → one_text given name ≡ Some t → ReadsOne gives t r)
       → IsNumberIn given name r
   number_in given name r none value =
-      record { absent = none; spelled = λ t n is e. spelled t r n (value t is) e; unspelled = λ t is e. unspelled t r (value t is) e }
+      record {
+        absent = none;
+        spelled = λ t n is e. spelled t r n (value t is) e;
+        unspelled = λ t is e. unspelled t r (value t is) e;
+      }

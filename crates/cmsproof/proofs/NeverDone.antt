@@ -57,14 +57,16 @@ never_done (failure.Size path) ends = cc
 never_done (failure.Write path) ends = cc
 never_done failure.Memory ends = cc
 
-pub reported : (f : Failure) (result : Status) → (result ≡ status_of f) ⊎ (result ≡ status.Failed) → result ≡ status.Done → ⊥
+pub reported : (f : Failure) (result : Status) → (result ≡ status_of f) ⊎ (result ≡ status.Failed)
+    → result ≡ status.Done → ⊥
 reported f result (inl same) ends = never_done f (sym same ∙ ends)
 reported f result (inr failed) ends = cc
 
 -- what was printed of several files
 module _ {F : Type 0} (holds : F → Option (List ℕ)) (many : Many) (result : Status) (before after : Option (List ℕ))
     (told : result ≢ status.Usage → EndsMany holds many.each many.files result before after) where
-  told_unless : (s : Status) → s ≢ status.Failed → EndsMany holds many.each many.files s before after → TellsMany holds many s before after
+  told_unless : (s : Status) → s ≢ status.Failed → EndsMany holds many.each many.files s before after
+      → TellsMany holds many s before after
   told_unless s unfailed (inl (paths, files, inl told)) = (paths, files, told)
   told_unless s unfailed (inl (paths, files, inr (failed, stops))) = absurd (unfailed failed)
   told_unless s unfailed (inr (failed, kept)) = absurd (unfailed failed)
@@ -77,7 +79,8 @@ module _ {F : Type 0} (holds : F → Option (List ℕ)) (many : Many) (result : 
       → (text : List ℕ) × IsToldBy holds (meaning.Many many) text × Appends before after text
   many_done is = of (ends_as status.Done is (λ e. cc) (λ e. cc))
     where
-      of : TellsMany holds many status.Done before after → (text : List ℕ) × IsToldBy holds (meaning.Many many) text × Appends before after text
+      of : TellsMany holds many status.Done before after
+          → (text : List ℕ) × IsToldBy holds (meaning.Many many) text × Appends before after text
       of (paths, files, inl (text, lines, took)) = (text, (paths, files, lines), took)
       of (paths, files, inr (f, fails, ends, malformed, took)) = absurd (never_done f ends)
 

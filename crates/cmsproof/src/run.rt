@@ -27,8 +27,10 @@ where
     // After a fault of the words or of a value nothing is on the standard output; for a fault of a file its line is,
     // and likewise for a file that is refused. Of several files there is a line for each, if one of them is the worst.
     ensures silent { result ≡ Status.Usage → out.new ≡ out.old }
-    ensures malformed { result ≡ Status.Malformed → TellsFaults R.File.remaining (O.contents out.old) (O.contents out.new) }
-    ensures refused { result ≡ Status.Refused → TellsRefusals R.File.remaining (O.contents out.old) (O.contents out.new) }
+    ensures malformed { result ≡ Status.Malformed
+        → TellsFaults R.File.remaining (O.contents out.old) (O.contents out.new) }
+    ensures refused { result ≡ Status.Refused
+        → TellsRefusals R.File.remaining (O.contents out.old) (O.contents out.new) }
     ensures quiet { (result ≡ Status.Usage) ⊎ ((result ≡ Status.Failed) ⊎ (err.new ≡ err.old)) }
 {
     match asked(rt, words) {
@@ -46,8 +48,10 @@ where
     ensures done { result ≡ Status.Done → (text : List ℕ) × IsToldBy R.File.remaining meaning.entry text
         × Appends (O.contents out.old) (O.contents out.new) text }
     ensures silent { result ≡ Status.Usage → out.new ≡ out.old }
-    ensures malformed { result ≡ Status.Malformed → TellsFaults R.File.remaining (O.contents out.old) (O.contents out.new) }
-    ensures refused { result ≡ Status.Refused → TellsRefusals R.File.remaining (O.contents out.old) (O.contents out.new) }
+    ensures malformed { result ≡ Status.Malformed
+        → TellsFaults R.File.remaining (O.contents out.old) (O.contents out.new) }
+    ensures refused { result ≡ Status.Refused
+        → TellsRefusals R.File.remaining (O.contents out.old) (O.contents out.new) }
     ensures quiet { (result ≡ Status.Usage) ⊎ ((result ≡ Status.Failed) ⊎ (err.new ≡ err.old)) }
 {
     match meaning {

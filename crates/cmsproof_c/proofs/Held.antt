@@ -16,8 +16,10 @@ use Rattle.library_calls.proofs.Checking.{says_yes, says_moment, checked_suffice
 use Rattle.library_calls.proofs.CheckingTokens.{says_passes}
 use Rattle.cmsproof_c.specs.Held.{SaysNoList, IsCheck, IsTokenCheck, AsksFile}
 
-module _ (octets : List ℕ) (content : Option (List ℕ)) (sha1 : Bool) (said : Answer) (status : ℕ) (before : List ℕ) (size : ℕ) (after : List ℕ) where
-  pub yes_held : (list : Option (List EntryValue)) (asked : Option (List Asked)) → IsCheck list asked octets content sha1 said status before size after
+module _ (octets : List ℕ) (content : Option (List ℕ)) (sha1 : Bool) (said : Answer) (status : ℕ) (before : List ℕ)
+    (size : ℕ) (after : List ℕ) where
+  pub yes_held : (list : Option (List EntryValue)) (asked : Option (List Asked))
+      → IsCheck list asked octets content sha1 said status before size after
       → IfSome list (λ l. IfSome asked (λ a. (m : ℕ) → SaysYes (terms_under l a sha1) octets content said m))
   yes_held (Some l) (Some a) h = says_yes (terms_under l a sha1) octets content said status before size after h
   yes_held (Some l) None h = tt
@@ -29,37 +31,46 @@ module _ (octets : List ℕ) (content : Option (List ℕ)) (sha1 : Bool) (said :
     done = λ one. absurd (let no : 8 ≡ 1 = sym h.0 ∙ one in cc);
   }
 
-  pub moment_held : (list : Option (List EntryValue)) (asked : Option (List Asked)) → IsCheck list asked octets content sha1 said status before size after
+  pub moment_held : (list : Option (List EntryValue)) (asked : Option (List Asked))
+      → IsCheck list asked octets content sha1 said status before size after
       → SaysMoment said status
   moment_held (Some l) (Some a) h = says_moment (terms_under l a sha1) octets content said status before size after h
   moment_held (Some l) None h = no_moment h
   moment_held None (Some a) h = no_moment h
   moment_held None None h = no_moment h
 
-  pub sufficient_held : (list : Option (List EntryValue)) (asked : Option (List Asked)) → IsCheck list asked octets content sha1 said status before size after
+  pub sufficient_held : (list : Option (List EntryValue)) (asked : Option (List Asked))
+      → IsCheck list asked octets content sha1 said status before size after
       → IfSome list (λ l. IfSome asked (λ a. (vouches : Asked → Bool) → Answers (terms_under l a sha1) octets vouches
       → IsChecked (with_answers (terms_under l a sha1) vouches) octets content said status before size after))
-  sufficient_held (Some l) (Some a) h = checked_suffices (terms_under l a sha1) octets content said status before size after h
+  sufficient_held (Some l) (Some a) h =
+      checked_suffices (terms_under l a sha1) octets content said status before size after h
   sufficient_held (Some l) None h = tt
   sufficient_held None asked h = tt
 
-  pub asked_held : (list : Option (List EntryValue)) (asked : Option (List Asked)) → IsCheck list asked octets content sha1 said status before size after
-      → IfSome list (λ l. IfSome asked (λ a. (vouches : Asked → Bool) → AnswersAsked (terms_under l a sha1) octets content vouches
+  pub asked_held : (list : Option (List EntryValue)) (asked : Option (List Asked))
+      → IsCheck list asked octets content sha1 said status before size after
+      → IfSome list
+      (λ l. IfSome asked (λ a. (vouches : Asked → Bool) → AnswersAsked (terms_under l a sha1) octets content vouches
       → IsChecked (with_answers (terms_under l a sha1) vouches) octets content said status before size after))
-  asked_held (Some l) (Some a) h = checked_by_asked (terms_under l a sha1) octets content said status before size after h
+  asked_held (Some l) (Some a) h =
+      checked_by_asked (terms_under l a sha1) octets content said status before size after h
   asked_held (Some l) None h = tt
   asked_held None asked h = tt
 
-pub passes_held : (token stamped : List ℕ) (sha1 : Bool) (said : Answer) (status : ℕ) (list : Option (List EntryValue)) (asked : Option (List Asked))
+pub passes_held : (token stamped : List ℕ) (sha1 : Bool) (said : Answer) (status : ℕ) (list : Option (List EntryValue))
+    (asked : Option (List Asked))
     → IsTokenCheck list asked token stamped sha1 said status
     → IfSome list (λ l. IfSome asked (λ a. (m : ℕ) → SaysPasses (terms_under l a sha1) token stamped said m))
-passes_held token stamped sha1 said status (Some l) (Some a) h = says_passes (terms_under l a sha1) token stamped said status h
+passes_held token stamped sha1 said status (Some l) (Some a) h =
+    says_passes (terms_under l a sha1) token stamped said status h
 passes_held token stamped sha1 said status (Some l) None h = tt
 passes_held token stamped sha1 said status None asked h = tt
 
 module _ (octets : List ℕ) (said : Answer) (status : ℕ) (before : List ℕ) (size : ℕ) (after : List ℕ) where
   pub only_held : (list : Option (List EntryValue)) → AsksFile list octets said status before size after
-      → IfSome list (λ l. (qs : List Asked) → AreQuestionsOf l octets qs → IsAskedIfMemory (questions_text qs) said status before size after)
+      → IfSome list (λ l. (qs : List Asked) → AreQuestionsOf l octets qs
+      → IsAskedIfMemory (questions_text qs) said status before size after)
   only_held (Some l) h = h.only
   only_held None h = tt
 

@@ -5,34 +5,42 @@ use Rattle.check_fit.specs.declared.rules.TokenRefused.TheVariants as refused
 use Rattle.check_verdict.specs.Passing.{Terms, Passes}
 use Rattle.check_verdict.specs.TokenVerdicts.{IsTokenVerdict, PassesOrDevice, CountsAsks}
 use Rattle.library_answers.specs.declared.answer.Answer.{Answer}
-use Rattle.library_calls.specs.CheckedTokens.{IsKnownTokenVerdict, IsTokenJudged, IsTokenChecked, SaysPasses, token_answer_numbers}
+use Rattle.library_calls.specs.CheckedTokens.{IsKnownTokenVerdict, IsTokenJudged, IsTokenChecked, SaysPasses}
+use Rattle.library_calls.specs.CheckedTokens.{token_answer_numbers}
 use Rattle.library_calls.proofs.InMemory.{never_raised}
 use Rattle.library_calls.proofs.Moments.{passed_is}
 
-known : (t : Terms) (token stamped : List ℕ) (answer : Result ℕ TokenRefused) → IsTokenVerdict t token stamped answer → CountsAsks answer 0 0
+known : (t : Terms) (token stamped : List ℕ) (answer : Result ℕ TokenRefused) → IsTokenVerdict t token stamped answer
+    → CountsAsks answer 0 0
     → IsKnownTokenVerdict t token stamped answer
 known t token stamped (Ok m) verdict count = verdict
 known t token stamped (Err (refused.Rule failed)) verdict count = verdict
 known t token stamped (Err (refused.Device fault)) verdict count = absurd (never_raised count)
 
-passes_or_not : (answer : Result ℕ TokenRefused) (m : ℕ) → CountsAsks answer 0 0 → PassesOrDevice m answer → answer ≡ Ok m
+passes_or_not : (answer : Result ℕ TokenRefused) (m : ℕ) → CountsAsks answer 0 0 → PassesOrDevice m answer
+    → answer ≡ Ok m
 passes_or_not answer m count (inl is) = is
 passes_or_not (Ok n) m count (inr device) = absurd device
 passes_or_not (Err (refused.Rule failed)) m count (inr device) = absurd device
 passes_or_not (Err (refused.Device fault)) m count (inr device) = absurd (never_raised count)
 
-pub token_judged : (t : Terms) (token stamped : List ℕ) (answer : Result ℕ TokenRefused) → IsTokenVerdict t token stamped answer
-    → ((m : ℕ) → Passes t token stamped m → PassesOrDevice m answer) → CountsAsks answer 0 0 → IsTokenJudged t token stamped answer
+pub token_judged : (t : Terms) (token stamped : List ℕ) (answer : Result ℕ TokenRefused)
+    → IsTokenVerdict t token stamped answer
+    → ((m : ℕ) → Passes t token stamped m → PassesOrDevice m answer) → CountsAsks answer 0 0
+    → IsTokenJudged t token stamped answer
 token_judged t token stamped answer verdict complete count = record {
   verdict = known t token stamped answer verdict count;
   complete = λ m passes. passes_or_not answer m count (complete m passes);
 }
 
-passing : (t : Terms) (token stamped : List ℕ) (answer : Result ℕ TokenRefused) (m : ℕ) → IsKnownTokenVerdict t token stamped answer → answer ≡ Ok m
+passing : (t : Terms) (token stamped : List ℕ) (answer : Result ℕ TokenRefused) (m : ℕ)
+    → IsKnownTokenVerdict t token stamped answer → answer ≡ Ok m
     → Passes t token stamped m
-passing t token stamped answer m verdict e = subst (λ (r : Result ℕ TokenRefused). IsKnownTokenVerdict t token stamped r) e verdict
+passing t token stamped answer m verdict e =
+    subst (λ (r : Result ℕ TokenRefused). IsKnownTokenVerdict t token stamped r) e verdict
 
-pub says_passes : (t : Terms) (token stamped : List ℕ) (said : Answer) (status : ℕ) → IsTokenChecked t token stamped said status → (m : ℕ)
+pub says_passes : (t : Terms) (token stamped : List ℕ) (said : Answer) (status : ℕ)
+    → IsTokenChecked t token stamped said status → (m : ℕ)
     → SaysPasses t token stamped said m
 says_passes t token stamped said status (answer, judged, e, is) m = (
   (λ one. passing t token stamped answer m judged.verdict (passed_is answer m (sym e ∙ one))),

@@ -64,7 +64,8 @@ same_seconds n m e = same_pos n m (sym (-ℤ-+ℤ_cancel (pos n) (pos 6216721920
 
 -- the moment is that of the numbers
 pub one_moment_in : (n m : ℕ) → accepted_numbers n ≡ accepted_numbers m → n ≡ m
-one_moment_in n m e = by_parts n m (same_seconds (n / 10 ^ 9) (m / 10 ^ 9) (ap (λ (a : Answer). a.seconds) e)) (ap (λ (a : Answer). a.nanoseconds) e)
+one_moment_in n m e = by_parts n m (same_seconds (n / 10 ^ 9) (m / 10 ^ 9) (ap (λ (a : Answer). a.seconds) e))
+    (ap (λ (a : Answer). a.nanoseconds) e)
 
 pub accepted_is : (r : Result ℕ Refused) (m : ℕ) → numbers_of r ≡ accepted_numbers m → r ≡ Ok m
 accepted_is (Ok n) m e = ap (λ (k : ℕ). moments k) (one_moment_in n m e)

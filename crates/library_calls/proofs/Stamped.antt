@@ -11,19 +11,23 @@ use Rattle.cli_failures.specs.declared.failure.Failure.TheVariants as failure
 use Rattle.library_answers.specs.declared.answer.Answer.{Answer}
 use Rattle.library_answers.specs.Failures.{IsMade, IsUnmade}
 use Rattle.library_calls.specs.Signatures.{IsSignatureDigest, HasNoSigner}
-use Rattle.library_calls.specs.Requests.{Names, longer, AreValues, RefusesPolicy, IsRequestOfSignature, RefusesSignature, IsSignatureRequested}
+use Rattle.library_calls.specs.Requests.{Names, longer, AreValues, RefusesPolicy, IsRequestOfSignature}
+use Rattle.library_calls.specs.Requests.{RefusesSignature, IsSignatureRequested}
 
 module _ (name file : List ℕ) (number : ℕ) (policy nonce : List ℕ) (certificate : Bool) where
   module _ (alg : Alg) (named : name ≡ name_of alg) where
-    pub policy_refused : (f : Failure) → (f ≡ failure.Memory) ⊎ RefusesPolicy policy f → RefusesSignature name file number policy nonce certificate f
+    pub policy_refused : (f : Failure) → (f ≡ failure.Memory) ⊎ RefusesPolicy policy f
+        → RefusesSignature name file number policy nonce certificate f
     policy_refused f (inl memory) = inr (alg, named, inl memory)
     policy_refused f (inr refused) = inr (alg, named, inr (inl refused))
 
     module _ (are : AreValues policy nonce) where
-      pub signer_refused : (f : Failure) → HasNoSigner file number f → RefusesSignature name file number policy nonce certificate f
+      pub signer_refused : (f : Failure) → HasNoSigner file number f
+          → RefusesSignature name file number policy nonce certificate f
       signer_refused f has = inr (alg, named, inr (inr (inr (are, inl has))))
 
-      pub signature_too_long : {T : Type 0} (digest : Digest) (oid : Option (List ℕ)) (r : Result T Failure) → oid ≡ are.oid
+      pub signature_too_long : {T : Type 0} (digest : Digest) (oid : Option (List ℕ)) (r : Result T Failure)
+          → oid ≡ are.oid
           → IsSignatureDigest alg file number digest → IfErr r (λ f. (f ≡ failure.Memory) ⊎ (Names (longer oid) f
           × (2 ^ 32 ≤ length (request_parts (asked digest oid are.number certificate)))))
           → IfErr r (RefusesSignature name file number policy nonce certificate)
@@ -42,15 +46,18 @@ module _ (name file : List ℕ) (number : ℕ) (policy nonce : List ℕ) (certif
               is_policy = are.is_policy;
               number = are.number;
               is_nonce = are.is_nonce;
-              size = subst (λ (p : Option (List ℕ)). 2 ^ 32 ≤ length (request_parts (asked digest p are.number certificate))) e size;
+              size = subst (λ (p : Option (List ℕ)).
+                  2 ^ 32 ≤ length (request_parts (asked digest p are.number certificate))) e size;
               names = subst (λ (p : Option (List ℕ)). Names (longer p) f) e names;
             },
           ),
         ))),
       )
 
-      pub signature_asked : {T : Type 0} (bytes : T → List ℕ) (digest : Digest) (oid : Option (List ℕ)) (r : Result T Failure) → oid ≡ are.oid
-          → IsSignatureDigest alg file number digest → IfOk r (λ o. EncodesRequest (bytes o) (asked digest oid are.number certificate))
+      pub signature_asked : {T : Type 0} (bytes : T → List ℕ) (digest : Digest) (oid : Option (List ℕ))
+          (r : Result T Failure) → oid ≡ are.oid
+          → IsSignatureDigest alg file number digest
+          → IfOk r (λ o. EncodesRequest (bytes o) (asked digest oid are.number certificate))
           → IfOk r (λ o. IsRequestOfSignature name file number policy nonce certificate (bytes o))
       signature_asked bytes digest oid (Ok o) e is encoded = (
         alg,
@@ -63,17 +70,20 @@ module _ (name file : List ℕ) (number : ℕ) (policy nonce : List ℕ) (certif
             is_policy = are.is_policy;
             number = are.number;
             is_nonce = are.is_nonce;
-            encoded = subst (λ (p : Option (List ℕ)). EncodesRequest (bytes o) (asked digest p are.number certificate)) e encoded;
+            encoded = subst
+                (λ (p : Option (List ℕ)). EncodesRequest (bytes o) (asked digest p are.number certificate)) e encoded;
           },
         ),
       )
       signature_asked bytes digest oid (Err f) e is encoded = tt
 
-  pub signature_requested : {V : Type 0} (items : V → List ℕ) (made : Result V Failure) (said : Answer) (status : ℕ) (before : List ℕ) (size : ℕ)
+  pub signature_requested : {V : Type 0} (items : V → List ℕ) (made : Result V Failure) (said : Answer) (status : ℕ)
+      (before : List ℕ) (size : ℕ)
       (after : List ℕ)
       → IfOk made (λ v. IsRequestOfSignature name file number policy nonce certificate (items v))
       → IfErr made (RefusesSignature name file number policy nonce certificate)
-      → MatchResult made (λ v. IsMade (items v) said status before size after) (λ f. IsUnmade f said status before size after)
+      → MatchResult made (λ v. IsMade (items v) said status before size after)
+      (λ f. IsUnmade f said status before size after)
       → IsSignatureRequested name file number policy nonce certificate said status before size after
   signature_requested items (Ok v) said status before size after is refused told = inl (items v, is, told)
   signature_requested items (Err f) said status before size after is refused told = inr (f, refused, told)

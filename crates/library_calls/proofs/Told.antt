@@ -7,15 +7,18 @@ use Rattle.cli_failures.specs.declared.failure.Failure.{Failure}
 use Rattle.library_answers.specs.declared.answer.Answer.{Answer}
 use Rattle.library_answers.specs.Failures.{IsLine, IsMade, IsUnmade}
 
-pub made_as : (a b : List ℕ) (said : Answer) (status : ℕ) (before : List ℕ) (size : ℕ) (after : List ℕ) → a ≡ b → IsMade a said status before size after
+pub made_as : (a b : List ℕ) (said : Answer) (status : ℕ) (before : List ℕ) (size : ℕ) (after : List ℕ) → a ≡ b
+    → IsMade a said status before size after
     → IsMade b said status before size after
 made_as a b said status before size after e h = subst (λ (x : List ℕ). IsMade x said status before size after) e h
 
-pub unmade_as : (f g : Failure) (said : Answer) (status : ℕ) (before : List ℕ) (size : ℕ) (after : List ℕ) → f ≡ g → IsUnmade f said status before size after
+pub unmade_as : (f g : Failure) (said : Answer) (status : ℕ) (before : List ℕ) (size : ℕ) (after : List ℕ) → f ≡ g
+    → IsUnmade f said status before size after
     → IsUnmade g said status before size after
 unmade_as f g said status before size after e h = subst (λ (x : Failure). IsUnmade x said status before size after) e h
 
-pub line_as : (a b : List ℕ) (m n status : ℕ) (before : List ℕ) (size : ℕ) (after : List ℕ) → a ≡ b → m ≡ n → IsLine a m status before size after
+pub line_as : (a b : List ℕ) (m n status : ℕ) (before : List ℕ) (size : ℕ) (after : List ℕ) → a ≡ b → m ≡ n
+    → IsLine a m status before size after
     → IsLine b n status before size after
 line_as a b m n status before size after e i h = subst (λ (x : ℕ). IsLine b x status before size after) i
     (subst (λ (x : List ℕ). IsLine x m status before size after) e h)

@@ -39,7 +39,8 @@ fn alg_of(name: &[u8]) -> Result<Alg, Failure<'static>>
 /// The digest by the algorithm of this name that has these octets.
 fn given(name: &[u8], octets: &[u8]) -> Result<Digest, Failure<'static>>
     ensures found { IfOk result (IsGiven name.now octets.now) }
-    ensures refused { IfErr result (λ f. RefusesAlg name.now f ⊎ RefusesDigest name.now (IsGiven name.now octets.now) f) }
+    ensures refused { IfErr result
+        (λ f. RefusesAlg name.now f ⊎ RefusesDigest name.now (IsGiven name.now octets.now) f) }
 {
     let alg = alg_of(name)?;
     match Digest::given(alg, octets) {

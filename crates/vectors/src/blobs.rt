@@ -44,12 +44,12 @@ impl Blobs {
         None
     }
 
-    /// Adds the octet strings of a file. A line `NAME = PARTS` begins one, lines that begin with a space go on with it; empty
-    /// lines and those that begin with `#` say nothing. PARTS are as `octets_of` reads them, divided by spaces, and may have
-    /// the names of earlier ones.
+    /// Adds the octet strings of a file. A line `NAME = PARTS` begins one, lines that begin with a space go on with it;
+    /// empty lines and those that begin with `#` say nothing. PARTS are as `octets_of` reads them, divided by spaces,
+    /// and may have the names of earlier ones.
     ///
-    /// Errors: which line, counted from 1, is the first that isn't so, has a name that was given before, or parts that can't be
-    /// read, or for which there is no memory; and why.
+    /// Errors: which line, counted from 1, is the first that isn't so, has a name that was given before, or parts that
+    /// can't be read, or for which there is no memory; and why.
     pub fn read(&mut self, alloc: Global, text: &str) -> Result<(), (usize, Bad)> {
         let mut begun: Option<(&str, Octets)> = None;
         let mut number: usize = 0;

@@ -15,8 +15,8 @@ pub trait Judge {
     fn said(&self, row: &Row<'_>) -> Result<String, Bad>;
 }
 
-/// Takes the octet strings of a file whose name ends in `.blobs`; of any other file judges the rows, prints those that don't
-/// agree, with the number of their line, and how many do.
+/// Takes the octet strings of a file whose name ends in `.blobs`; of any other file judges the rows, prints those that
+/// don't agree, with the number of their line, and how many do.
 ///
 /// A line of octet strings that is bad is printed, and those after it in the file are not taken.
 ///
@@ -38,8 +38,9 @@ pub fn judge_file<R: Files + AllocGlobal, J: Judge, O: Write>(
     Ok(())
 }
 
-/// Compares each row of a text with what is said, and prints the others with the number of their line, counted from 1; then how
-/// many rows there are, bad ones too, and how many agree. Empty lines and those that begin with `#` are no rows.
+/// Compares each row of a text with what is said, and prints the others with the number of their line, counted from 1;
+/// then how many rows there are, bad ones too, and how many agree. Empty lines and those that begin with `#` are no
+/// rows.
 ///
 /// Errors: no memory, or `out` failed.
 fn judge_rows<J: Judge, O: Write>(

@@ -1,5 +1,5 @@
-//! Tests as data: files of octet strings that have names, files of rows that say what is answered, and how they are read and
-//! compared. `docs/CONTRIBUTING.md`, section 10, says how a row is added.
+//! Tests as data: files of octet strings that have names, files of rows that say what is answered, and how they are
+//! read and compared. `docs/CONTRIBUTING.md`, section 10, says how a row is added.
 #![tactic(auto)]
 
 mod bad;

@@ -23,8 +23,10 @@ pub struct Octets {
 ///
 /// - `3003020105`: octets in hexadecimal; `-`: none;
 /// - `'text`: the octets of a text without a space or `+`;
-/// - `$name`: the octet string of this name; `$name:3..7`, `$name:3..` and `$name:..7` some of its octets, counted from 0;
-/// - `30{` and `}`: an element in DER (X.690 8.1, 10.1) with this identifier octet, and the parts between them as its contents;
+/// - `$name`: the octet string of this name; `$name:3..7`, `$name:3..` and `$name:..7` some of its octets, counted from
+/// 0;
+/// - `30{` and `}`: an element in DER (X.690 8.1, 10.1) with this identifier octet, and the parts between them as its
+/// contents;
 /// - `9*00`: octets in hexadecimal, so many times.
 ///
 /// Errors: a part that is none of these, or no memory.

@@ -64,8 +64,8 @@ impl<'a> Row<'a> {
         None
     }
 
-    /// Refuses a row that has values of other names than these, which spaces divide. `case`, which says what the row is about, is
-    /// always allowed.
+    /// Refuses a row that has values of other names than these, which spaces divide. `case`, which says what the row is
+    /// about, is always allowed.
     pub fn takes(&self, names: &str) -> Result<(), Bad> {
         for (name, _) in &self.values {
             if *name != "case" && !has_part(names, ' ', name) {
@@ -128,8 +128,8 @@ impl<'a> Row<'a> {
         self.made(self.value(name).unwrap_or(parts))
     }
 
-    /// The text that a value spells: `end` ends a line, `^` before it is a carriage return, `,` is a space, and a word `$name` is
-    /// the octet string of this name in hexadecimal.
+    /// The text that a value spells: `end` ends a line, `^` before it is a carriage return, `,` is a space, and a word
+    /// `$name` is the octet string of this name in hexadecimal.
     ///
     /// Errors: a name that isn't known, or no memory.
     pub fn spelled(&self, value: &str, end: &str) -> Result<String, Bad> {

@@ -6,10 +6,10 @@ use std::os::fd::AsRawFd;
 use std::rt::Files;
 use vectors::{Bad, Row, has_part, needed};
 
-/// Says how `check` ends and what it prints of `file=`. The trust list is `trust=`, without its first two words. The answers
-/// list has each question of the file, or of `of=`, except those that have the word `silent=`. The content beside the file
-/// is `content=`, if the row has it, and `words=` are further words. With `piped=yes` the file is a pipe, which can be read only
-/// once.
+/// Says how `check` ends and what it prints of `file=`. The trust list is `trust=`, without its first two words. The
+/// answers list has each question of the file, or of `of=`, except those that have the word `silent=`. The content
+/// beside the file is `content=`, if the row has it, and `words=` are further words. With `piped=yes` the file is a
+/// pipe, which can be read only once.
 pub fn said_of_check(rt: &HostRuntime, row: &Row<'_>) -> Result<String, Bad> {
     row.takes("trust file of silent content words piped")?;
     put_lists(rt, row)?;
@@ -27,8 +27,8 @@ pub fn said_of_ask(rt: &HostRuntime, row: &Row<'_>) -> Result<String, Bad> {
     Ok(said)
 }
 
-/// Says of the file, cut to each number of octets from `from=` to below `to=`, how many were checked, and what is said of
-/// all of them, or of the first that differs.
+/// Says of the file, cut to each number of octets from `from=` to below `to=`, how many were checked, and what is said
+/// of all of them, or of the first that differs.
 pub fn said_of_cuts(rt: &HostRuntime, row: &Row<'_>) -> Result<String, Bad> {
     row.takes("trust file from to words")?;
     put_lists(rt, row)?;

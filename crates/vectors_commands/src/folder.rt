@@ -10,7 +10,8 @@ struct Given<'a> {
     octets: Vec<u8>,
 }
 
-/// The files that a row has as `PATH:OCTETS;..` by one name and as `PATH:TEXT;..`, with `\n` for a line feed, by the other.
+/// The files that a row has as `PATH:OCTETS;..` by one name and as `PATH:TEXT;..`, with `\n` for a line feed, by the
+/// other.
 fn files_of<'a>(row: &Row<'a>, octets: &str, texts: &str) -> Result<Vec<Given<'a>>, Bad> {
     let mut files = Vec::new(row.alloc);
     for part in row.value(octets).unwrap_or("").split(';') {

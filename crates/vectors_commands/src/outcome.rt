@@ -30,7 +30,8 @@ impl Outcome {
     }
 }
 
-/// The words of a command line: the program's name, and those that a value has with a `+` between them; an empty value has none.
+/// The words of a command line: the program's name, and those that a value has with a `+` between them; an empty value
+/// has none.
 pub fn words_of<'a>(alloc: Global, value: &'a str) -> Result<Vec<&'a str>, Bad> {
     let mut words = Vec::new(alloc);
     words.push("cmsproof")?;
@@ -56,8 +57,8 @@ pub fn outcome_of(rt: &HostRuntime, words: &str) -> Result<Outcome, Bad> {
     })
 }
 
-/// The status of these words, whose command prints into these. It is a function of its own, because the contract of `run`
-/// makes each step after its call slow to check.
+/// The status of these words, whose command prints into these. It is a function of its own, because the contract of
+/// `run` makes each step after its call slow to check.
 fn status_of(rt: &HostRuntime, words: &[&str], out: &mut Vec<u8>, err: &mut Vec<u8>) -> u8 {
     match meaning_of(rt.alloc(), words) {
         Ok(Meaning::Task(task)) => cli_commands::run(rt, task, out, err).code(),

@@ -43,8 +43,8 @@ pub fn said_of_task(row: &Row<'_>) -> Result<String, Bad> {
     }
 }
 
-/// Says how many octets a digest by `alg=` may have, of all numbers up to 65: those of which a request is made. Of all others
-/// it is the digest that is wrong.
+/// Says how many octets a digest by `alg=` may have, of all numbers up to 65: those of which a request is made. Of all
+/// others it is the digest that is wrong.
 pub fn said_of_lengths(rt: &HostRuntime, row: &Row<'_>) -> Result<String, Bad> {
     row.takes("alg")?;
     let alg = row.text("alg")?;

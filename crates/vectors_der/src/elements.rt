@@ -5,7 +5,8 @@ use der_oid_text::oid_text;
 use lines_shown::{show_certificate, show_request, show_signed};
 use vectors::{Bad, Done, Row, Said};
 
-/// `cursor of=OCTETS at=POSITION calls=METHOD,METHOD:IDENTIFIER,again.METHOD,..` answers what each call of `Cursor` gives.
+/// `cursor of=OCTETS at=POSITION calls=METHOD,METHOD:IDENTIFIER,again.METHOD,..` answers what each call of `Cursor`
+/// gives.
 pub fn cursor(said: &mut Said, row: &Row<'_>) -> Done {
     row.takes("of at calls")?;
     let octets = row.octets("of")?;

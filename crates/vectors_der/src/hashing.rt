@@ -107,7 +107,8 @@ fn ways_agree(message: &[u8], one: Digest) -> bool {
         && read.give(one)
 }
 
-/// `digest by=NAME of=MESSAGE is=OCTETS,..` answers the digest's algorithm, and of each of the octets whether it is them.
+/// `digest by=NAME of=MESSAGE is=OCTETS,..` answers the digest's algorithm, and of each of the octets whether it is
+/// them.
 pub fn digests(said: &mut Said, row: &Row<'_>) -> Done {
     row.takes("by of is")?;
     let message = row.octets("of")?;
@@ -129,7 +130,8 @@ pub fn digests(said: &mut Said, row: &Row<'_>) -> Done {
     Ok(())
 }
 
-/// `hashers of=MESSAGE piece=LENGTH times=NUMBER digests=TABLE`; `hasher_cuts` cuts at each place, `sets` takes each set.
+/// `hashers of=MESSAGE piece=LENGTH times=NUMBER digests=TABLE`; `hasher_cuts` cuts at each place, `sets` takes each
+/// set.
 pub fn hashers(said: &mut Said, row: &Row<'_>) -> Done {
     row.takes("of piece times digests")?;
     let message = row.octets("of")?;
@@ -187,7 +189,8 @@ fn read_as(said: &mut Said, both: &mut Both, from: &str, message: &[u8]) -> Done
     }
 }
 
-/// `read by=NAME of=MESSAGE from=SOURCE,.. digests=TABLE` answers how many octets are read by `all`, a set of `every` or one.
+/// `read by=NAME of=MESSAGE from=SOURCE,.. digests=TABLE` answers how many octets are read by `all`, a set of `every`
+/// or one.
 pub fn read(said: &mut Said, row: &Row<'_>) -> Done {
     row.takes("by of from digests")?;
     let by = row.text("by")?;
@@ -207,7 +210,8 @@ pub fn read(said: &mut Said, row: &Row<'_>) -> Done {
     Ok(())
 }
 
-/// `read_behind fed=OCTETS from=OCTETS,.. digests=TABLE` answers what hashers that were fed octets read from each slice.
+/// `read_behind fed=OCTETS from=OCTETS,.. digests=TABLE` answers what hashers that were fed octets read from each
+/// slice.
 pub fn behind(said: &mut Said, row: &Row<'_>) -> Done {
     row.takes("fed from digests")?;
     let fed = row.octets("fed")?;

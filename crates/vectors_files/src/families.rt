@@ -18,7 +18,8 @@ fn given<'r, 'a>(row: &'r Row<'a>) -> Result<(Vec<u8>, Terms<'r, 'a>, Vec<u8>), 
     Ok((file, Terms::of(row)?, vec![in row.alloc; 0u8; count]?))
 }
 
-/// What the calls `by`, or `JUDGES` without it, say of octets: once if all say the same. Of changes, a fault of form is ` M` alone.
+/// What the calls `by`, or `JUDGES` without it, say of octets: once if all say the same. Of changes, a fault of form is
+/// ` M` alone.
 fn said(terms: &Terms<'_, '_>, octets: &[u8], room: &mut [u8], calls: u64) -> Result<String, Bad> {
     let changes = terms.row.kind == "changes";
     let mut runs = Runs::new(terms.row.alloc);
@@ -32,8 +33,8 @@ fn said(terms: &Terms<'_, '_>, octets: &[u8], room: &mut [u8], calls: u64) -> Re
     runs.same()
 }
 
-/// `check of=FILE` and terms: what the calls say; with `fails`, a device (`source`, `content` or `verifier`) that fails after none
-/// of its calls, after one, and so on up to one less than `calls`.
+/// `check of=FILE` and terms: what the calls say; with `fails`, a device (`source`, `content` or `verifier`) that fails
+/// after none of its calls, after one, and so on up to one less than `calls`.
 pub fn check(row: &Row<'_>) -> Result<String, Bad> {
     let (file, terms, mut room) = given(row)?;
     if row.value("fails").is_none() {
@@ -57,8 +58,8 @@ pub fn cuts(row: &Row<'_>) -> Result<String, Bad> {
     runs.counted()
 }
 
-/// `changes of=FILE` and terms, with `places=N..N` if not all octets are changed: how often the calls say what of the file with one
-/// octet changed by exclusive or with 01, 80 or ff, in the order of the lines.
+/// `changes of=FILE` and terms, with `places=N..N` if not all octets are changed: how often the calls say what of the
+/// file with one octet changed by exclusive or with 01, 80 or ff, in the order of the lines.
 pub fn changes(row: &Row<'_>) -> Result<String, Bad> {
     let (file, terms, mut room) = given(row)?;
     let (first, end) = range_of(row.value("places").unwrap_or(".."), file.len())?;

@@ -19,8 +19,8 @@ impl Taker for Held {
     }
 }
 
-/// `found of=OCTETS type=OCTETS signatures=OCTETS,OCTETS`, with `content=OCTETS` if it is attached, in pieces of 1 to 7 octets and
-/// a buffer of 1,024: how many signers a pass finds, or that parts differ.
+/// `found of=OCTETS type=OCTETS signatures=OCTETS,OCTETS`, with `content=OCTETS` if it is attached, in pieces of 1 to 7
+/// octets and a buffer of 1,024: how many signers a pass finds, or that parts differ.
 pub fn found(row: &Row<'_>) -> Result<String, Bad> {
     row.takes("of type content signatures")?;
     let (octets, mut room) = (row.octets("of")?, [0; 1024]);
@@ -32,7 +32,8 @@ pub fn found(row: &Row<'_>) -> Result<String, Bad> {
     runs.same()
 }
 
-/// How many signers a pass finds, that the file is of another type, or the fault; in a row of `found` whether the parts differ.
+/// How many signers a pass finds, that the file is of another type, or the fault; in a row of `found` whether the parts
+/// differ.
 pub fn pass<S: Source>(row: &Row<'_>, file: &mut S, room: &mut [u8]) -> Result<String, Bad> {
     let mut held = Held(Vec::new(row.alloc));
     match open_stream(file, room, &mut held) {

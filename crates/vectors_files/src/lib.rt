@@ -1,5 +1,6 @@
-//! The judge of the rows in the folder `files`: what calls say of signed files under trust lists and answers lists, as a whole and
-//! in pieces, with devices that fail, and of whole families of octets. The functions say which values each kind of row takes.
+//! The judge of the rows in the folder `files`: what calls say of signed files under trust lists and answers lists, as
+//! a whole and in pieces, with devices that fail, and of whole families of octets. The functions say which values each
+//! kind of row takes.
 #![tactic(auto)]
 
 mod calls;

@@ -11,9 +11,9 @@ use ess_types::SigningCert;
 use tsp_types::TstInfo;
 use vectors::{Bad, Row, needed};
 
-/// `written what=WHAT octets=OCTETS rooms=N`, and for a trust list and questions the terms and `of=FILE`: what is written of the
-/// octets, at most five at each call, into a sink that has room for none, for one, and so on up to one less than `rooms`: `all`, or
-/// the fault, and how often the sink failed.
+/// `written what=WHAT octets=OCTETS rooms=N`, and for a trust list and questions the terms and `of=FILE`: what is
+/// written of the octets, at most five at each call, into a sink that has room for none, for one, and so on up to one
+/// less than `rooms`: `all`, or the fault, and how often the sink failed.
 pub fn written(row: &Row<'_>) -> Result<String, Bad> {
     let octets = row.octets("octets")?;
     row.takes("what octets rooms of trust vouched token moment")?;

@@ -1,5 +1,5 @@
-//! Which certificate a signer means, which response answers a request, and which rule a token, one of two files, a signer or a
-//! file fails first.
+//! Which certificate a signer means, which response answers a request, and which rule a token, one of two files, a
+//! signer or a file fails first.
 use crate::lists::{answers_in, trust_in};
 use cert_types::Certificate;
 use check_fit::{Policy, fits, signer_fits};
@@ -14,8 +14,9 @@ use tsp_requester::answers;
 use tsp_types::{Request, Response};
 use vectors::{Bad, Row, needed};
 
-/// The file of a row; or one with the content `abc` and one signer (RFC 5652 5.1, 5.3) with the row's identifier, or the issuer
-/// `CN=A` and the serial number 5; its digest algorithm, or SHA-256; and its signed attributes, or none if they are `-`.
+/// The file of a row; or one with the content `abc` and one signer (RFC 5652 5.1, 5.3) with the row's identifier, or
+/// the issuer `CN=A` and the serial number 5; its digest algorithm, or SHA-256; and its signed attributes, or none if
+/// they are `-`.
 fn file_in(row: &Row<'_>) -> Result<Vec<u8>, Bad> {
     if row.value("file").is_some() {
         return row.octets("file");
@@ -38,8 +39,8 @@ fn file_in(row: &Row<'_>) -> Result<Vec<u8>, Bad> {
     row.made(file.as_str())
 }
 
-/// Whether the first signer of a file means a certificate by its identifier, by each signing-certificate attribute that is
-/// there, and by one that has to be there.
+/// Whether the first signer of a file means a certificate by its identifier, by each signing-certificate attribute that
+/// is there, and by one that has to be there.
 pub fn names(row: &Row<'_>) -> Result<String, Bad> {
     row.takes("file sid signed of")?;
     let octets = file_in(row)?;
@@ -64,8 +65,8 @@ pub fn answers_request(row: &Row<'_>) -> Result<String, Bad> {
     row.ended("answers", answers(&request, &response))
 }
 
-/// The moment of a token that passes, the rule that it fails first, or the failure of the verifier, which fails after so many
-/// questions.
+/// The moment of a token that passes, the rule that it fails first, or the failure of the verifier, which fails after
+/// so many questions.
 pub fn token(row: &Row<'_>) -> Result<String, Bad> {
     row.takes("of stamps trust answers asks sha1")?;
     let (token, stamped) = (row.octets("of")?, row.octets("stamps")?);
@@ -78,8 +79,8 @@ pub fn token(row: &Row<'_>) -> Result<String, Bad> {
     }
 }
 
-/// Whether a signer of one file and a signer of another one have the same content and the same signed attributes, or the
-/// first rule that fails.
+/// Whether a signer of one file and a signer of another one have the same content and the same signed attributes, or
+/// the first rule that fails.
 pub fn compared(row: &Row<'_>) -> Result<String, Bad> {
     row.takes("first by second and")?;
     let (first, second) = (row.octets("first")?, row.octets("second")?);
@@ -110,8 +111,8 @@ pub fn made(row: &Row<'_>) -> Result<String, Bad> {
     row.shown(&same)
 }
 
-/// How many signers of a file fit its content, or its first rule that fails; and how many octets the content that was handed
-/// in still gives, or how often it failed.
+/// How many signers of a file fit its content, or its first rule that fails; and how many octets the content that was
+/// handed in still gives, or how often it failed.
 pub fn file(row: &Row<'_>) -> Result<String, Bad> {
     row.takes("of content source sha1")?;
     let content = row.octets_or("content", "-")?;

@@ -1,5 +1,5 @@
-//! The judge of the rows in the folder `rules`: what is said of signers, responses, files, tokens and lists, and what three
-//! calls write. The files of rows say which values each kind of row takes.
+//! The judge of the rows in the folder `rules`: what is said of signers, responses, files, tokens and lists, and what
+//! three calls write. The files of rows say which values each kind of row takes.
 #![tactic(auto)]
 
 mod checks;

@@ -1,6 +1,6 @@
 //! The texts of rules, and the lines of refusals. A refusal is named `file/RULE`, `signer/RULE` (of the second signer),
-//! `token/RULE` (of the first token of the second signer) or `device/FAULT`, with the names of `check_fit`. A fault, where one
-//! belongs to it, is M14 at 148 of a file, M6 at 0 of a token, and M12 at 66 of its TSTInfo.
+//! `token/RULE` (of the first token of the second signer) or `device/FAULT`, with the names of `check_fit`. A fault,
+//! where one belongs to it, is M14 at 148 of a file, M6 at 0 of a token, and M12 at 66 of its TSTInfo.
 use check_fit::{DeviceFault, FileRule, Refused, SignerRule, TokenRule};
 use cms_types::CmsFault;
 use der_core::{Fault, Kind};

@@ -29,8 +29,8 @@ fn fault_of<S: Sink>(row: &Row<'_>, sink: &mut S) -> Result<String, Bad> {
     }
 }
 
-/// What is said of the call of a row: `written` if it writes what it is to, the other octets, or the fault, how often the sink
-/// failed, and how many octets were written.
+/// What is said of the call of a row: `written` if it writes what it is to, the other octets, or the fault, how often
+/// the sink failed, and how many octets were written.
 pub fn written(row: &Row<'_>) -> Result<String, Bad> {
     let whole = match row.kind {
         "attach" => row.octets_or("new", "-")?,

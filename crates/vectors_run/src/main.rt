@@ -1,6 +1,6 @@
-//! Answers rows: what must be said of octets that stand in the standards, that other programs made, or that were written by
-//! hand. The words are names of files: of octet strings that all areas use, then for each area, which has a folder, those of
-//! its octet strings and of its rows. It prints each row that doesn't agree, and how many do.
+//! Answers rows: what must be said of octets that stand in the standards, that other programs made, or that were
+//! written by hand. The words are names of files: of octet strings that all areas use, then for each area, which has a
+//! folder, those of its octet strings and of its rows. It prints each row that doesn't agree, and how many do.
 #![tactic(auto)]
 
 use std::env;

@@ -9,7 +9,8 @@ use vectors::{Bad, Done, Row, Said};
 
 /// How many values the attributes of a type have, or `None` if a `usize` can't count them.
 fn count_of(attributes: &Attributes, id: &[u8]) -> Option<usize>
-    ensures { let count = length (flat_map (λ a. a.values) (filter (λ a. is_same a.id id.now) attributes.now)) in MatchOption result (2 ^ 64 ≤ count) (λ n. n ≡ count) }
+    ensures { let count = length (flat_map (λ a. a.values) (filter (λ a. is_same a.id id.now) attributes.now)) in
+        MatchOption result (2 ^ 64 ≤ count) (λ n. n ≡ count) }
 {
     let mut count = 0usize;
     let mut left = attributes.again();

@@ -1,4 +1,5 @@
-//! Answers rows about lists, times, SignedData, certificates, time-stamp requests, time-stamps and signing certificates.
+//! Answers rows about lists, times, SignedData, certificates, time-stamp requests, time-stamps and signing
+//! certificates.
 #![tactic(auto)]
 
 /// What was read; of octets that are refused, what the fault prints ends the answer.

@@ -139,8 +139,8 @@ pub fn place(row: &Row<'_>) -> Result<u32, Bad> {
     u32::try_from(row.number("at")?).map_err(|_| Bad::Text("a position that is too far"))
 }
 
-/// `elements of at`, `ordered_elements of at`, `tagged_elements of at tags`, `algorithms of at`, `signers of at` (the contents of
-/// signerInfos alone), `element of at` (one alone).
+/// `elements of at`, `ordered_elements of at`, `tagged_elements of at tags`, `algorithms of at`, `signers of at` (the
+/// contents of signerInfos alone), `element of at` (one alone).
 pub fn alone(said: &mut Said, row: &Row<'_>, octets: &[u8]) -> Done {
     let tags = row.octets_or("tags", "-")?;
     let tags = tags.as_slice();

@@ -10,7 +10,8 @@ use ess_types::{CertId, HashAlgorithm, SigningCert};
 use tsp_types::{MakeFault, Request, Response, TstInfo};
 use vectors::{Bad, Done, Row, Said};
 
-/// `signed_data of`: all but what the signers say. `versions of`: those that are stated and those that the standard asks for.
+/// `signed_data of`: all but what the signers say. `versions of`: those that are stated and those that the standard
+/// asks for.
 /// `signer of number known`: all that the signer of this number, counted from 0, says.
 pub fn signed_data(said: &mut Said, row: &Row<'_>, octets: &[u8]) -> Done {
     let file = read!(said, SignedData::read(octets));
@@ -59,7 +60,8 @@ fn tell_signer(said: &mut Said, file: &SignedData<'_>, number: usize) -> Done {
     tell_list(said, "tokens", &signer.tokens())
 }
 
-/// `certificate of`: all that is read of it. `extensions_say of`: whether it is for time-stamping alone, and its key identifier.
+/// `certificate of`: all that is read of it. `extensions_say of`: whether it is for time-stamping alone, and its key
+/// identifier.
 pub fn certificate(said: &mut Said, row: &Row<'_>, octets: &[u8]) -> Done {
     let certificate = read!(said, Certificate::read(octets));
     if row.kind == "extensions_say" {
@@ -126,8 +128,8 @@ pub fn request(said: &mut Said, octets: &[u8]) -> Done {
     said.written(request.write(&mut out), out.into_inner(), octets)
 }
 
-/// A request of `alg digest policy nonce certificate`. `make`: its octets. `make_room`: for how many there is room. `made`: what
-/// is read of it. A policy or nonce that is none counts as absent.
+/// A request of `alg digest policy nonce certificate`. `make`: its octets. `make_room`: for how many there is room.
+/// `made`: what is read of it. A policy or nonce that is none counts as absent.
 pub fn make(said: &mut Said, row: &Row<'_>) -> Done {
     row.takes("alg digest policy nonce certificate known")?;
     let digest = row.octets("digest")?;
@@ -203,7 +205,8 @@ pub fn time(said: &mut Said, row: &Row<'_>, octets: &[u8]) -> Done {
     }
 }
 
-/// `moments long short`: whether one comes before the other or itself, is itself or the other, and the nanoseconds between them.
+/// `moments long short`: whether one comes before the other or itself, is itself or the other, and the nanoseconds
+/// between them.
 pub fn moments(said: &mut Said, row: &Row<'_>) -> Done {
     row.takes("long short")?;
     let long = row.octets("long")?;
@@ -236,8 +239,9 @@ fn refusal(kind: &str, octets: &[u8]) -> Result<Option<ReadFault>, Bad> {
     }
 }
 
-/// `cuts as of header`: whether octets are accepted; how many beginnings are refused (`End` within the identifier and the length,
-/// the first `header` octets, elsewhere `Overrun` at 0), or the first that isn't; and the refusal with an octet 0 after them.
+/// `cuts as of header`: whether octets are accepted; how many beginnings are refused (`End` within the identifier and
+/// the length, the first `header` octets, elsewhere `Overrun` at 0), or the first that isn't; and the refusal with an
+/// octet 0 after them.
 pub fn cuts(said: &mut Said, row: &Row<'_>, octets: &[u8]) -> Done {
     let (kind, header) = (row.text("as")?, row.number("header")?);
     if refusal(kind, octets)?.is_none() {

@@ -1,5 +1,5 @@
-//! The jobs that users wait for, on files that the program makes itself: `workloads JOB COUNT PARTS SEED`. It prints how
-//! many answers there were, how many files were accepted, and a digest of all answers, the same at each run.
+//! The jobs that users wait for, on files that the program makes itself: `workloads JOB COUNT PARTS SEED`. It prints
+//! how many answers there were, how many files were accepted, and a digest of all answers, the same at each run.
 //!
 //! The files are made of the parts in PARTS and of octets that follow from SEED. Signatures are any octets, for which a
 //! verifier vouches; all digests are true. `bench/make_inputs.py` says what the parts are, and `docs/PERF.md` what the

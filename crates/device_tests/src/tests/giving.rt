@@ -37,8 +37,8 @@ fn slow_reader<'a>(most: usize, fails_from: u64, kind: io::ErrorKind) -> Slow<'a
     }
 }
 
-/// Calls the source with a buffer of `room` octets, 16 at most, until it hands out none or fails. Gives the octets, the number
-/// of calls that handed out some, and what the last call gave.
+/// Calls the source with a buffer of `room` octets, 16 at most, until it hands out none or fails. Gives the octets, the
+/// number of calls that handed out some, and what the last call gave.
 fn drain<S: Source>(
     alloc: Global,
     source: &mut S,

@@ -87,7 +87,8 @@ fn sinks_are_put_into_in_turn(rt: HostRuntime) -> Result<(), Fail> {
     Ok(())
 }
 
-/// What a sink with this room holds of the octets, written in pieces of three in so many calls, and its count of failures.
+/// What a sink with this room holds of the octets, written in pieces of three in so many calls, and its count of
+/// failures.
 fn put_into(alloc: Global, room: usize, calls: u64) -> (Vec<u8>, u64) {
     let mut held = Vec::new(alloc);
     let mut sink = Fused::new(Limited::new(FromWrite::new(&mut held), 3, room), calls);

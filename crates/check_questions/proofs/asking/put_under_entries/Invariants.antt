@@ -9,8 +9,10 @@ abbrev pub invariant-loop-at : goal.invariant-loop-at
 invariant-loop-at g l = record {
   within : l.from ≤ length l.trust;
   goes : (r : Result (Unit {0}) SinkFault) (t : List ℕ) (c : ℕ)
-      → PutsLines (InOrder (OfEntry l.role l.signer) (drop l.from l.trust)) r (g.S.Sink.tells l.sink) (g.S.Sink.taken l.sink) t (g.S.Sink.failures l.sink) c
-      → PutsLines (InOrder (OfEntry l.role l.signer) l.trust) r (g.S.Sink.tells l.fn.sink) (g.S.Sink.taken l.fn.sink) t (g.S.Sink.failures l.fn.sink) c;
+      → PutsLines (InOrder (OfEntry l.role l.signer) (drop l.from l.trust)) r (g.S.Sink.tells l.sink)
+      (g.S.Sink.taken l.sink) t (g.S.Sink.failures l.sink) c
+      → PutsLines (InOrder (OfEntry l.role l.signer) l.trust) r (g.S.Sink.tells l.fn.sink) (g.S.Sink.taken l.fn.sink) t
+      (g.S.Sink.failures l.fn.sink) c;
   telling : g.S.Sink.tells l.fn.sink → g.S.Sink.tells l.sink;
 }
 

@@ -9,8 +9,10 @@ use Rattle.check_questions.proofs.asking.put_under_tokens.Given as goal
 abbrev pub invariant-loop-first : goal.invariant-loop-first
 invariant-loop-first g l = record {
   goes : (r : Result (Unit {0}) SinkFault) (t : List ℕ) (c : ℕ)
-      → PutsLines (InOrder (OfToken l.trust) l.left) r (g.S.Sink.tells l.sink) (g.S.Sink.taken l.sink) t (g.S.Sink.failures l.sink) c
-      → PutsLines (InOrder (OfToken l.trust) (tokens l.signer)) r (g.S.Sink.tells l.fn.sink) (g.S.Sink.taken l.fn.sink) t (g.S.Sink.failures l.fn.sink) c;
+      → PutsLines (InOrder (OfToken l.trust) l.left) r (g.S.Sink.tells l.sink) (g.S.Sink.taken l.sink) t
+      (g.S.Sink.failures l.sink) c
+      → PutsLines (InOrder (OfToken l.trust) (tokens l.signer)) r (g.S.Sink.tells l.fn.sink)
+      (g.S.Sink.taken l.fn.sink) t (g.S.Sink.failures l.fn.sink) c;
   telling : g.S.Sink.tells l.fn.sink → g.S.Sink.tells l.sink;
 }
 

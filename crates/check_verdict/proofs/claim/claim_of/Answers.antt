@@ -14,17 +14,22 @@ returns-in_err-content c =
 pub returns-in_err-signer : goal.returns-in_err-signer
 returns-in_err-signer c =
     let r : c.from_residual-in_err-signer.result ≡ Err c.in_err-signer.field-0.0 = search rules in
-    rw (r) (not_signed c.args.policy c.args.stamped.now c.args.token.now c.in-Ok.signed c.in-Ok.ensures (λ i. omega (arith, c.type_inv.token i))
+    rw (r) (not_signed c.args.policy c.args.stamped.now c.args.token.now c.in-Ok.signed c.in-Ok.ensures
+    (λ i. omega (arith, c.type_inv.token i))
     c.in_ok-content.content.now c.in_ok-content.ensures c.in_err-signer.field-0.0 (sym c.in_err-signer.ensures))
 
 pub returns-in_err-stamp_verdict : goal.returns-in_err-stamp_verdict
 returns-in_err-stamp_verdict c =
     let r : c.from_residual-in_err-stamp_verdict.result ≡ Err c.in_err-stamp_verdict.field-0.0 = search rules in
-    rw (r) (not_genuine c.args.policy c.args.stamped.now c.args.token.now c.in-Ok.signed c.in-Ok.ensures c.in_ok-content.content.now
+    rw (r) (not_genuine c.args.policy c.args.stamped.now c.args.token.now c.in-Ok.signed c.in-Ok.ensures
+    c.in_ok-content.content.now
     c.in_ok-content.ensures c.in_ok-signer.signer (sym c.in_ok-signer.ensures)
-    c.in-Ok-stamp_of.stamp c.in-Ok-stamp_of.ensures c.in_err-stamp_verdict.field-0.0 (sym c.in_err-stamp_verdict.ensures))
+    c.in-Ok-stamp_of.stamp c.in-Ok-stamp_of.ensures c.in_err-stamp_verdict.field-0.0
+    (sym c.in_err-stamp_verdict.ensures))
 
 pub returns : goal.returns
-returns c = genuine c.args.policy c.args.stamped.now c.args.token.now c.in-Ok.signed c.in-Ok.ensures c.in_ok-content.content.now
+returns c =
+    genuine c.args.policy c.args.stamped.now c.args.token.now c.in-Ok.signed c.in-Ok.ensures c.in_ok-content.content.now
     c.in_ok-content.ensures c.in_ok-signer.signer (sym c.in_ok-signer.ensures)
-    c.in-Ok-stamp_of.stamp c.in-Ok-stamp_of.ensures tt (sym c.in_ok-stamp_verdict.ensures) c.time-moment.result c.time-moment.ensures
+    c.in-Ok-stamp_of.stamp c.in-Ok-stamp_of.ensures tt
+    (sym c.in_ok-stamp_verdict.ensures) c.time-moment.result c.time-moment.ensures

@@ -20,8 +20,10 @@ returns-in_err-signed-clause-asked g c =
       opened.0,
       opened.1,
       rw (r) (refused_open (facts_of g.S.Source.tells g.S.Source.rest g.S.Source.failures) c.args.checker.now.policy
-          (JudgesAsking u (λ test. g.V.Verifier.asked_only test c.args.verifier.now c.args.verifier.now)) opened.0 c.args.content.now
-          c.open_file.new.content c.in_err-signed.field-0.0 (subst (λ (p : Policy). OfFile (facts_of g.S.Source.tells g.S.Source.rest g.S.Source.failures) (Opens p) opened.0
+          (JudgesAsking u (λ test. g.V.Verifier.asked_only test c.args.verifier.now c.args.verifier.now)) opened.0
+          c.args.content.now
+          c.open_file.new.content c.in_err-signed.field-0.0 (subst
+          (λ (p : Policy). OfFile (facts_of g.S.Source.tells g.S.Source.rest g.S.Source.failures) (Opens p) opened.0
           c.args.content.now c.open_file.new.content (Err c.in_err-signed.field-0.0)) c.policy.ensures opened.2)),
     )
 
@@ -33,18 +35,26 @@ returns-in_err-moment-clause-asked g c =
       opened.0,
       opened.1,
       rw (r) (judged_open (facts_of g.S.Source.tells g.S.Source.rest g.S.Source.failures) c.args.checker.now.policy
-          (JudgesAsking u (λ test. g.V.Verifier.asked_only test c.args.verifier.now c.judge_signers.new.verifier)) opened.0 c.args.content.now
-          c.open_file.new.content c.in_ok-signed.signed c.in_ok-signed.digests (Err c.in_err-moment.field-0.0) (subst (λ (p : Policy). OfFile (facts_of g.S.Source.tells g.S.Source.rest g.S.Source.failures) (Opens p) opened.0
-          c.args.content.now c.open_file.new.content (Ok (c.in_ok-signed.signed, c.in_ok-signed.digests))) c.policy.ensures opened.2)
+          (JudgesAsking u (λ test. g.V.Verifier.asked_only test c.args.verifier.now c.judge_signers.new.verifier))
+          opened.0 c.args.content.now
+          c.open_file.new.content c.in_ok-signed.signed c.in_ok-signed.digests (Err c.in_err-moment.field-0.0) (subst
+          (λ (p : Policy). OfFile (facts_of g.S.Source.tells g.S.Source.rest g.S.Source.failures) (Opens p) opened.0
+          c.args.content.now c.open_file.new.content (Ok (c.in_ok-signed.signed, c.in_ok-signed.digests)))
+          c.policy.ensures opened.2)
           (λ some content has.
           let digests : HasDigests c.args.checker.now.policy content c.signers.result.now c.in_ok-signed.digests =
-          subst (λ (xs : List SignerValue). HasDigests c.args.checker.now.policy content xs c.in_ok-signed.digests) (sym c.signers.ensures) has in
+          subst (λ (xs : List SignerValue). HasDigests c.args.checker.now.policy content xs c.in_ok-signed.digests)
+          (sym c.signers.ensures) has in
           let kind = c.bytes.ensures.octets ∙ c.content_type.ensures in (
-            of_signed u content c.bytes.result.now c.signers.result.now c.in_ok-signed.signed (Err c.in_err-moment.field-0.0) kind c.signers.ensures
-                (c.in_err-moment.ensures.judged (subst (λ (xs : List SignerValue). 0 < length xs) (sym c.signers.ensures) some)
+            of_signed u content c.bytes.result.now c.signers.result.now c.in_ok-signed.signed
+                (Err c.in_err-moment.field-0.0) kind c.signers.ensures
+                (c.in_err-moment.ensures.judged
+                (subst (λ (xs : List SignerValue). 0 < length xs) (sym c.signers.ensures) some)
                 u refl content digests),
-            of_signed_data u content c.bytes.result.now c.signers.result.now c.in_ok-signed.signed (λ test. g.V.Verifier.asked_only test
-                c.args.verifier.now c.judge_signers.new.verifier) kind c.signers.ensures (c.judge_signers.ensures.only u refl content digests),
+            of_signed_data u content c.bytes.result.now c.signers.result.now c.in_ok-signed.signed
+                (λ test. g.V.Verifier.asked_only test
+                c.args.verifier.now c.judge_signers.new.verifier) kind c.signers.ensures
+                (c.judge_signers.ensures.only u refl content digests),
           ))),
     )
 
@@ -55,18 +65,26 @@ returns-clause-asked g c =
       opened.0,
       opened.1,
       judged_open (facts_of g.S.Source.tells g.S.Source.rest g.S.Source.failures) c.args.checker.now.policy
-          (JudgesAsking u (λ test. g.V.Verifier.asked_only test c.args.verifier.now c.judge_signers.new.verifier)) opened.0 c.args.content.now
-          c.open_file.new.content c.in_ok-signed.signed c.in_ok-signed.digests (Ok c.in_ok-moment.moment) (subst (λ (p : Policy). OfFile (facts_of g.S.Source.tells g.S.Source.rest g.S.Source.failures) (Opens p) opened.0
-          c.args.content.now c.open_file.new.content (Ok (c.in_ok-signed.signed, c.in_ok-signed.digests))) c.policy.ensures opened.2)
+          (JudgesAsking u (λ test. g.V.Verifier.asked_only test c.args.verifier.now c.judge_signers.new.verifier))
+          opened.0 c.args.content.now
+          c.open_file.new.content c.in_ok-signed.signed c.in_ok-signed.digests (Ok c.in_ok-moment.moment) (subst
+          (λ (p : Policy). OfFile (facts_of g.S.Source.tells g.S.Source.rest g.S.Source.failures) (Opens p) opened.0
+          c.args.content.now c.open_file.new.content (Ok (c.in_ok-signed.signed, c.in_ok-signed.digests)))
+          c.policy.ensures opened.2)
           (λ some content has.
           let digests : HasDigests c.args.checker.now.policy content c.signers.result.now c.in_ok-signed.digests =
-          subst (λ (xs : List SignerValue). HasDigests c.args.checker.now.policy content xs c.in_ok-signed.digests) (sym c.signers.ensures) has in
+          subst (λ (xs : List SignerValue). HasDigests c.args.checker.now.policy content xs c.in_ok-signed.digests)
+          (sym c.signers.ensures) has in
           let kind = c.bytes.ensures.octets ∙ c.content_type.ensures in (
-            of_signed u content c.bytes.result.now c.signers.result.now c.in_ok-signed.signed (Ok c.in_ok-moment.moment) kind c.signers.ensures
-                (c.in_ok-moment.ensures.judged (subst (λ (xs : List SignerValue). 0 < length xs) (sym c.signers.ensures) some)
+            of_signed u content c.bytes.result.now c.signers.result.now c.in_ok-signed.signed
+                (Ok c.in_ok-moment.moment) kind c.signers.ensures
+                (c.in_ok-moment.ensures.judged
+                (subst (λ (xs : List SignerValue). 0 < length xs) (sym c.signers.ensures) some)
                 u refl content digests),
-            of_signed_data u content c.bytes.result.now c.signers.result.now c.in_ok-signed.signed (λ test. g.V.Verifier.asked_only test
-                c.args.verifier.now c.judge_signers.new.verifier) kind c.signers.ensures (c.judge_signers.ensures.only u refl content digests),
+            of_signed_data u content c.bytes.result.now c.signers.result.now c.in_ok-signed.signed
+                (λ test. g.V.Verifier.asked_only test
+                c.args.verifier.now c.judge_signers.new.verifier) kind c.signers.ensures
+                (c.judge_signers.ensures.only u refl content digests),
           )),
     )
 
@@ -77,14 +95,20 @@ pub returns-in_err-moment-clause-unasked : goal.returns-in_err-moment-clause-una
 returns-in_err-moment-clause-unasked g c = λ unread test.
     let u : Terms = terms_for c.args.checker.now (g.V.Verifier.vouches c.args.verifier.now) in
     let opened = c.in_ok-signed.ensures in
-    let (read, some, (content, has)) = is_opened (facts_of g.S.Source.tells g.S.Source.rest g.S.Source.failures) c.args.checker.now.policy
-    c.in_ok-signed.signed c.in_ok-signed.digests opened.0 c.args.content.now c.open_file.new.content (subst (λ (p : Policy). OfFile (facts_of g.S.Source.tells g.S.Source.rest g.S.Source.failures) (Opens p) opened.0
-    c.args.content.now c.open_file.new.content (Ok (c.in_ok-signed.signed, c.in_ok-signed.digests))) c.policy.ensures opened.2) in
+    let (read, some, (content, has)) =
+    is_opened (facts_of g.S.Source.tells g.S.Source.rest g.S.Source.failures) c.args.checker.now.policy
+    c.in_ok-signed.signed c.in_ok-signed.digests opened.0 c.args.content.now c.open_file.new.content (subst
+    (λ (p : Policy). OfFile (facts_of g.S.Source.tells g.S.Source.rest g.S.Source.failures) (Opens p) opened.0
+    c.args.content.now c.open_file.new.content (Ok (c.in_ok-signed.signed, c.in_ok-signed.digests))) c.policy.ensures
+    opened.2) in
     let digests : HasDigests c.args.checker.now.policy content c.signers.result.now c.in_ok-signed.digests =
-    subst (λ (xs : List SignerValue). HasDigests c.args.checker.now.policy content xs c.in_ok-signed.digests) (sym c.signers.ensures) has in
+    subst (λ (xs : List SignerValue). HasDigests c.args.checker.now.policy content xs c.in_ok-signed.digests)
+    (sym c.signers.ensures) has in
     let r : c.from_residual-in_err-moment.result ≡ Err c.in_err-moment.field-0.0 = search rules in
-    absurd (not_unread u content c.bytes.result.now c.signers.result.now (Err c.in_err-moment.field-0.0) (c.in_err-moment.ensures.judged
-    (subst (λ (xs : List SignerValue). 0 < length xs) (sym c.signers.ensures) some) u refl content digests) (subst IsUnread r unread))
+    absurd (not_unread u content c.bytes.result.now c.signers.result.now (Err c.in_err-moment.field-0.0)
+    (c.in_err-moment.ensures.judged
+    (subst (λ (xs : List SignerValue). 0 < length xs) (sym c.signers.ensures) some) u refl content digests)
+    (subst IsUnread r unread))
 
 pub returns-in_err-signed-clause-only : goal.returns-in_err-signed-clause-only
 returns-in_err-signed-clause-only g c = λ test asks. g.V.Verifier.asked_nothing test _
@@ -93,26 +117,38 @@ pub returns-in_err-moment-clause-only : goal.returns-in_err-moment-clause-only
 returns-in_err-moment-clause-only g c = λ test asks.
     let u : Terms = terms_for c.args.checker.now (g.V.Verifier.vouches c.args.verifier.now) in
     let opened = c.in_ok-signed.ensures in
-    let (read, some, (content, has)) = is_opened (facts_of g.S.Source.tells g.S.Source.rest g.S.Source.failures) c.args.checker.now.policy
-    c.in_ok-signed.signed c.in_ok-signed.digests opened.0 c.args.content.now c.open_file.new.content (subst (λ (p : Policy). OfFile (facts_of g.S.Source.tells g.S.Source.rest g.S.Source.failures) (Opens p) opened.0
-    c.args.content.now c.open_file.new.content (Ok (c.in_ok-signed.signed, c.in_ok-signed.digests))) c.policy.ensures opened.2) in
+    let (read, some, (content, has)) =
+    is_opened (facts_of g.S.Source.tells g.S.Source.rest g.S.Source.failures) c.args.checker.now.policy
+    c.in_ok-signed.signed c.in_ok-signed.digests opened.0 c.args.content.now c.open_file.new.content (subst
+    (λ (p : Policy). OfFile (facts_of g.S.Source.tells g.S.Source.rest g.S.Source.failures) (Opens p) opened.0
+    c.args.content.now c.open_file.new.content (Ok (c.in_ok-signed.signed, c.in_ok-signed.digests))) c.policy.ensures
+    opened.2) in
     let digests : HasDigests c.args.checker.now.policy content c.signers.result.now c.in_ok-signed.digests =
-    subst (λ (xs : List SignerValue). HasDigests c.args.checker.now.policy content xs c.in_ok-signed.digests) (sym c.signers.ensures) has in
-    let encodes : EncodesSignedData c.args.file.now c.in_ok-signed.signed = subst (IsReading c.args.file.now) read opened.1 in
+    subst (λ (xs : List SignerValue). HasDigests c.args.checker.now.policy content xs c.in_ok-signed.digests)
+    (sym c.signers.ensures) has in
+    let encodes : EncodesSignedData c.args.file.now c.in_ok-signed.signed =
+    subst (IsReading c.args.file.now) read opened.1 in
     c.judge_signers.ensures.only u refl content digests test
-    (λ s among q a. asks q (question_of_file u c.args.file.now content c.bytes.result.now c.in_ok-signed.signed s q encodes
+    (λ s among q a.
+    asks q (question_of_file u c.args.file.now content c.bytes.result.now c.in_ok-signed.signed s q encodes
     (subst (λ (xs : List SignerValue). Contains xs s) c.signers.ensures among) a))
 
 pub returns-clause-only : goal.returns-clause-only
 returns-clause-only g c = λ test asks.
     let u : Terms = terms_for c.args.checker.now (g.V.Verifier.vouches c.args.verifier.now) in
     let opened = c.in_ok-signed.ensures in
-    let (read, some, (content, has)) = is_opened (facts_of g.S.Source.tells g.S.Source.rest g.S.Source.failures) c.args.checker.now.policy
-    c.in_ok-signed.signed c.in_ok-signed.digests opened.0 c.args.content.now c.open_file.new.content (subst (λ (p : Policy). OfFile (facts_of g.S.Source.tells g.S.Source.rest g.S.Source.failures) (Opens p) opened.0
-    c.args.content.now c.open_file.new.content (Ok (c.in_ok-signed.signed, c.in_ok-signed.digests))) c.policy.ensures opened.2) in
+    let (read, some, (content, has)) =
+    is_opened (facts_of g.S.Source.tells g.S.Source.rest g.S.Source.failures) c.args.checker.now.policy
+    c.in_ok-signed.signed c.in_ok-signed.digests opened.0 c.args.content.now c.open_file.new.content (subst
+    (λ (p : Policy). OfFile (facts_of g.S.Source.tells g.S.Source.rest g.S.Source.failures) (Opens p) opened.0
+    c.args.content.now c.open_file.new.content (Ok (c.in_ok-signed.signed, c.in_ok-signed.digests))) c.policy.ensures
+    opened.2) in
     let digests : HasDigests c.args.checker.now.policy content c.signers.result.now c.in_ok-signed.digests =
-    subst (λ (xs : List SignerValue). HasDigests c.args.checker.now.policy content xs c.in_ok-signed.digests) (sym c.signers.ensures) has in
-    let encodes : EncodesSignedData c.args.file.now c.in_ok-signed.signed = subst (IsReading c.args.file.now) read opened.1 in
+    subst (λ (xs : List SignerValue). HasDigests c.args.checker.now.policy content xs c.in_ok-signed.digests)
+    (sym c.signers.ensures) has in
+    let encodes : EncodesSignedData c.args.file.now c.in_ok-signed.signed =
+    subst (IsReading c.args.file.now) read opened.1 in
     c.judge_signers.ensures.only u refl content digests test
-    (λ s among q a. asks q (question_of_file u c.args.file.now content c.bytes.result.now c.in_ok-signed.signed s q encodes
+    (λ s among q a.
+    asks q (question_of_file u c.args.file.now content c.bytes.result.now c.in_ok-signed.signed s q encodes
     (subst (λ (xs : List SignerValue). Contains xs s) c.signers.ensures among) a))

@@ -13,7 +13,8 @@ use Rattle.check_verdict.specs.Checkers.{terms_for}
 use Rattle.check_verdict.proofs.Acceptance.{Passed}
 use Rattle.check_verdict.proofs.file.judge_signers.Given as goal
 
--- the signers before those that are left are good, each of their digests is at hand, this is their latest moment, and the verifier answered each question
+-- the signers before those that are left are good, each of their digests is at hand, this is their latest moment, and
+-- the verifier answered each question
 abbrev pub invariant-loop-signer : goal.invariant-loop-signer
 invariant-loop-signer g l = record {
   before : List SignerValue;
@@ -24,10 +25,12 @@ invariant-loop-signer g l = record {
   none : l.latest ≡ None → l.number ≡ 0;
   had : (alg : Alg) → WantedBy l.initial.checker.policy before alg → is_in alg (set_given l.digests) ≡ true;
   so_far : (t : Terms) → t ≡ terms_for l.initial.checker (g.V.Verifier.vouches l.initial.verifier) → (content : List ℕ)
-      → HasDigests l.initial.checker.policy content l.signers l.digests → Passed t content l.econtent_type before l.latest;
+      → HasDigests l.initial.checker.policy content l.signers l.digests
+      → Passed t content l.econtent_type before l.latest;
   only : (t : Terms) → t ≡ terms_for l.initial.checker (g.V.Verifier.vouches l.initial.verifier) → (content : List ℕ)
       → HasDigests l.initial.checker.policy content l.signers l.digests
-      → (test : Asked → Bool) → ((s : SignerValue) → Contains l.signers s → (q : Asked) → IsAskedOf t content l.econtent_type s q → test q ≡ true)
+      → (test : Asked → Bool) → ((s : SignerValue) → Contains l.signers s → (q : Asked)
+      → IsAskedOf t content l.econtent_type s q → test q ≡ true)
       → g.V.Verifier.asked_only test l.initial.verifier l.verifier;
   same : g.V.Verifier.vouches l.verifier ≡ g.V.Verifier.vouches l.initial.verifier;
   count : g.V.Verifier.failures l.verifier ≡ g.V.Verifier.failures l.initial.verifier;

@@ -15,11 +15,14 @@ use Rattle.check_verdict.proofs.signer_stages.signer_stages.Given as goal
 abbrev pub invariant-loop-at : goal.invariant-loop-at
 invariant-loop-at g l = record {
   within : l.from ≤ length l.trust;
-  so_far : (t : Terms) → t.vouches ≡ g.V.Verifier.vouches l.initial.verifier → (attributes : List AttributeValue) → l.signer.signed_attributes ≡ Some
+  so_far : (t : Terms) → t.vouches ≡ g.V.Verifier.vouches l.initial.verifier → (attributes : List AttributeValue)
+      → l.signer.signed_attributes ≡ Some
       attributes → Best (LeftAt t l.signer attributes l.moment) 3 (take l.from l.trust) (passed_for_signer l.best);
   only : (test : Asked → Bool) → (attributes : List AttributeValue) → l.signer.signed_attributes ≡ Some attributes
-      → ((e : EntryValue) → Contains l.initial.checker.trust e → IsSignersAt l.signer l.moment e → NamesIfAny attributes e.certificate
-      → test (asked e.certificate l.signer attributes) ≡ true) → g.V.Verifier.asked_only test l.initial.verifier l.verifier;
+      → ((e : EntryValue) → Contains l.initial.checker.trust e → IsSignersAt l.signer l.moment e
+      → NamesIfAny attributes e.certificate
+      → test (asked e.certificate l.signer attributes) ≡ true)
+      → g.V.Verifier.asked_only test l.initial.verifier l.verifier;
   same : g.V.Verifier.vouches l.verifier ≡ g.V.Verifier.vouches l.initial.verifier;
   count : g.V.Verifier.failures l.verifier ≡ g.V.Verifier.failures l.initial.verifier;
   stays : l.checker ≡ l.initial.checker;

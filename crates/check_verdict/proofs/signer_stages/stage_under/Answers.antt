@@ -17,7 +17,8 @@ any_terms = record { policy = record { sha1 = true }; trust = []; vouches = λ q
 pub returns-then-ne-clause-stage : goal.returns-then-ne-clause-stage
 returns-then-ne-clause-stage g c = λ t vouches attributes has.
     let stops : c.failed_unasked-failed.result ≡ SignatureFails → ⊥ = search rules in
-    signer_stops (LeftAt t c.args.signer.now attributes c.args.moment.now) c.args.entry.now c.failed_unasked-failed.result stops
+    signer_stops
+    (LeftAt t c.args.signer.now attributes c.args.moment.now) c.args.entry.now c.failed_unasked-failed.result stops
     (c.failed_unasked-failed.ensures.stage t c.requires.certificate attributes has)
 
 pub returns-then-ne-clause-only : goal.returns-then-ne-clause-only
@@ -25,7 +26,8 @@ returns-then-ne-clause-only g c = λ test attributes has asks. g.V.Verifier.aske
 
 pub returns-in_default-clause-stage : goal.returns-in_default-clause-stage
 returns-in_default-clause-stage g c = λ t vouches attributes has.
-    let z : None ≡ Some (asked c.args.certificate.now c.args.signer.now attributes) = sym c.in_default.is ∙ c.question_of.ensures
+    let z : None ≡ Some (asked c.args.certificate.now c.args.signer.now attributes) = sym c.in_default.is
+    ∙ c.question_of.ensures
     ∙ ap (λ (o : Option (List AttributeValue)). option_map (asked c.args.certificate.now c.args.signer.now) o) has in
     absurd cc
 
@@ -35,53 +37,66 @@ returns-in_default-clause-only g c = λ test attributes has asks. g.V.Verifier.a
 pub returns-in_err-ask-clause-only : goal.returns-in_err-ask-clause-only
 returns-in_err-ask-clause-only g c = λ test attributes has asks.
     let asks_now : c.failed_unasked-failed.result ≡ SignatureFails = search rules in
-    let p = signer_is_left (LeftAt any_terms c.args.signer.now attributes c.args.moment.now) c.args.entry.now c.failed_unasked-failed.result asks_now
+    let p = signer_is_left (LeftAt any_terms c.args.signer.now attributes c.args.moment.now) c.args.entry.now
+    c.failed_unasked-failed.result asks_now
     (c.failed_unasked-failed.ensures.stage any_terms c.requires.certificate attributes has) in
     let is : c.in-Some.question ≡ asked c.args.entry.now.certificate c.args.signer.now attributes =
-    question_of_some c.args.certificate.now c.args.signer.now attributes c.in-Some.question has (sym c.question_of.ensures ∙ c.in-Some.is)
+    question_of_some c.args.certificate.now c.args.signer.now attributes c.in-Some.question has
+    (sym c.question_of.ensures ∙ c.in-Some.is)
     ∙ ap (λ (x : CertificateValue). asked x c.args.signer.now attributes) c.requires.certificate in
     c.ask.ensures.only test (ap test is ∙ asks p.0 p.1)
 
 pub returns-then-branch-clause-only : goal.returns-then-branch-clause-only
 returns-then-branch-clause-only g c = λ test attributes has asks.
     let asks_now : c.failed_unasked-failed.result ≡ SignatureFails = search rules in
-    let p = signer_is_left (LeftAt any_terms c.args.signer.now attributes c.args.moment.now) c.args.entry.now c.failed_unasked-failed.result asks_now
+    let p = signer_is_left (LeftAt any_terms c.args.signer.now attributes c.args.moment.now) c.args.entry.now
+    c.failed_unasked-failed.result asks_now
     (c.failed_unasked-failed.ensures.stage any_terms c.requires.certificate attributes has) in
     let is : c.in-Some.question ≡ asked c.args.entry.now.certificate c.args.signer.now attributes =
-    question_of_some c.args.certificate.now c.args.signer.now attributes c.in-Some.question has (sym c.question_of.ensures ∙ c.in-Some.is)
+    question_of_some c.args.certificate.now c.args.signer.now attributes c.in-Some.question has
+    (sym c.question_of.ensures ∙ c.in-Some.is)
     ∙ ap (λ (x : CertificateValue). asked x c.args.signer.now attributes) c.requires.certificate in
     c.ask.ensures.only test (ap test is ∙ asks p.0 p.1)
 
 pub returns-else-branch-clause-only : goal.returns-else-branch-clause-only
 returns-else-branch-clause-only g c = λ test attributes has asks.
     let asks_now : c.failed_unasked-failed.result ≡ SignatureFails = search rules in
-    let p = signer_is_left (LeftAt any_terms c.args.signer.now attributes c.args.moment.now) c.args.entry.now c.failed_unasked-failed.result asks_now
+    let p = signer_is_left (LeftAt any_terms c.args.signer.now attributes c.args.moment.now) c.args.entry.now
+    c.failed_unasked-failed.result asks_now
     (c.failed_unasked-failed.ensures.stage any_terms c.requires.certificate attributes has) in
     let is : c.in-Some.question ≡ asked c.args.entry.now.certificate c.args.signer.now attributes =
-    question_of_some c.args.certificate.now c.args.signer.now attributes c.in-Some.question has (sym c.question_of.ensures ∙ c.in-Some.is)
+    question_of_some c.args.certificate.now c.args.signer.now attributes c.in-Some.question has
+    (sym c.question_of.ensures ∙ c.in-Some.is)
     ∙ ap (λ (x : CertificateValue). asked x c.args.signer.now attributes) c.requires.certificate in
     c.ask.ensures.only test (ap test is ∙ asks p.0 p.1)
 
 pub returns-then-branch-clause-stage : goal.returns-then-branch-clause-stage
 returns-then-branch-clause-stage g c = λ t vouches attributes has.
     let asks_now : c.failed_unasked-failed.result ≡ SignatureFails = search rules in
-    let p = signer_is_left (LeftAt t c.args.signer.now attributes c.args.moment.now) c.args.entry.now c.failed_unasked-failed.result asks_now
+    let p = signer_is_left (LeftAt t c.args.signer.now attributes c.args.moment.now) c.args.entry.now
+    c.failed_unasked-failed.result asks_now
     (c.failed_unasked-failed.ensures.stage t c.requires.certificate attributes has) in
     let is : c.in-Some.question ≡ asked c.args.entry.now.certificate c.args.signer.now attributes =
-    question_of_some c.args.certificate.now c.args.signer.now attributes c.in-Some.question has (sym c.question_of.ensures ∙ c.in-Some.is)
+    question_of_some c.args.certificate.now c.args.signer.now attributes c.in-Some.question has
+    (sym c.question_of.ensures ∙ c.in-Some.is)
     ∙ ap (λ (x : CertificateValue). asked x c.args.signer.now attributes) c.requires.certificate in
-    let vouched : t.vouches (asked c.args.entry.now.certificate c.args.signer.now attributes) ≡ true = ap t.vouches (sym is)
+    let vouched : t.vouches (asked c.args.entry.now.certificate c.args.signer.now attributes) ≡ true =
+    ap t.vouches (sym is)
     ∙ ap (λ (v : Asked → Bool). v c.in-Some.question) vouches ∙ sym c.in_ok-ask.ensures.answer ∙ c.if-branch.true in
     comes_through (LeftAt t c.args.signer.now attributes c.args.moment.now) 2 c.args.entry.now (p, vouched)
 
 pub returns-else-branch-clause-stage : goal.returns-else-branch-clause-stage
 returns-else-branch-clause-stage g c = λ t vouches attributes has.
     let asks_now : c.failed_unasked-failed.result ≡ SignatureFails = search rules in
-    let p = signer_is_left (LeftAt t c.args.signer.now attributes c.args.moment.now) c.args.entry.now c.failed_unasked-failed.result asks_now
+    let p = signer_is_left (LeftAt t c.args.signer.now attributes c.args.moment.now) c.args.entry.now
+    c.failed_unasked-failed.result asks_now
     (c.failed_unasked-failed.ensures.stage t c.requires.certificate attributes has) in
     let is : c.in-Some.question ≡ asked c.args.entry.now.certificate c.args.signer.now attributes =
-    question_of_some c.args.certificate.now c.args.signer.now attributes c.in-Some.question has (sym c.question_of.ensures ∙ c.in-Some.is)
+    question_of_some c.args.certificate.now c.args.signer.now attributes c.in-Some.question has
+    (sym c.question_of.ensures ∙ c.in-Some.is)
     ∙ ap (λ (x : CertificateValue). asked x c.args.signer.now attributes) c.requires.certificate in
     let unvouched : t.vouches (asked c.args.entry.now.certificate c.args.signer.now attributes) ≡ false =
-    ap t.vouches (sym is) ∙ ap (λ (v : Asked → Bool). v c.in-Some.question) vouches ∙ sym c.in_ok-ask.ensures.answer ∙ c.if-branch.false in
-    comes_short (LeftAt t c.args.signer.now attributes c.args.moment.now) 2 c.args.entry.now p (λ q. let z : false ≡ true = sym unvouched ∙ q.1 in absurd cc)
+    ap t.vouches (sym is) ∙ ap (λ (v : Asked → Bool). v c.in-Some.question) vouches ∙ sym c.in_ok-ask.ensures.answer
+    ∙ c.if-branch.false in
+    comes_short (LeftAt t c.args.signer.now attributes c.args.moment.now) 2 c.args.entry.now p
+    (λ q. let z : false ≡ true = sym unvouched ∙ q.1 in absurd cc)

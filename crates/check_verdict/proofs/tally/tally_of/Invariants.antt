@@ -13,11 +13,14 @@ abbrev pub invariant-loop-token : goal.invariant-loop-token
 invariant-loop-token g l = record {
   before : List (List ℕ);
   all : before ++ l.left ≡ tokens l.signer;
-  so_far : (t : Terms) → t ≡ terms_for l.initial.checker (g.V.Verifier.vouches l.initial.verifier) → (attributes : List AttributeValue)
+  so_far : (t : Terms) → t ≡ terms_for l.initial.checker (g.V.Verifier.vouches l.initial.verifier)
+      → (attributes : List AttributeValue)
       → l.signer.signed_attributes ≡ Some attributes → Tallied t l.signer attributes before l.tally;
-  only : (t : Terms) → t ≡ terms_for l.initial.checker (g.V.Verifier.vouches l.initial.verifier) → (content econtent_type : List ℕ)
+  only : (t : Terms) → t ≡ terms_for l.initial.checker (g.V.Verifier.vouches l.initial.verifier)
+      → (content econtent_type : List ℕ)
       → Fits t.policy content econtent_type l.signer
-      → AsksOnly (λ test. g.V.Verifier.asked_only test l.initial.verifier l.verifier) (IsAskedOf t content econtent_type l.signer);
+      → AsksOnly (λ test. g.V.Verifier.asked_only test l.initial.verifier l.verifier)
+      (IsAskedOf t content econtent_type l.signer);
   same : g.V.Verifier.vouches l.verifier ≡ g.V.Verifier.vouches l.initial.verifier;
   count : g.V.Verifier.failures l.verifier ≡ g.V.Verifier.failures l.initial.verifier;
   stays : l.checker ≡ l.initial.checker;

@@ -23,12 +23,16 @@ returns-in_ok-best-in-Ok-clause-tallied g c = λ t is attributes has before h.
     let passes : Passes t c.args.token.now c.args.signer.now.signature m =
     subst (λ (n : ℕ). Passes t c.args.token.now c.args.signer.now.signature n) (sym c.accepted.view_is)
     (subst (λ (b : List ℕ). Passes t c.args.token.now b c.in-Ok.accepted) c.signature.ensures
-    (subst (λ (x : Terms). Passes x c.args.token.now c.signature.result.now c.in-Ok.accepted) (sym is) c.in-Ok.ensures.judged)) in
-    let best : Best (LeftAt t c.args.signer.now attributes (Some m)) 3 t.trust (passed_for_signer c.in_ok-best-in-Ok.best) =
-    subst (λ (es : List EntryValue). Best (LeftAt t c.args.signer.now attributes (Some m)) 3 es (passed_for_signer c.in_ok-best-in-Ok.best))
+    (subst (λ (x : Terms). Passes x c.args.token.now c.signature.result.now c.in-Ok.accepted)
+    (sym is) c.in-Ok.ensures.judged)) in
+    let best :
+    Best (LeftAt t c.args.signer.now attributes (Some m)) 3 t.trust (passed_for_signer c.in_ok-best-in-Ok.best) =
+    subst (λ (es : List EntryValue).
+    Best (LeftAt t c.args.signer.now attributes (Some m)) 3 es (passed_for_signer c.in_ok-best-in-Ok.best))
     (ap (λ (k : CheckerValue). k.trust) c.in-Ok.ensures.stays ∙ sym (ap (λ (x : Terms). x.trust) is))
     (c.in_ok-best-in-Ok.ensures.stage t (ap (λ (x : Terms). x.vouches) is ∙ sym c.in-Ok.ensures.same) attributes has) in
-    tallied_passed t c.args.signer.now attributes before c.args.token.now m passes (passed_for_signer c.in_ok-best-in-Ok.best) best c.args.tally
+    tallied_passed t c.args.signer.now attributes before c.args.token.now m passes
+    (passed_for_signer c.in_ok-best-in-Ok.best) best c.args.tally
     c.passed.result h c.passed.ensures.stamped c.passed.ensures.best c.passed.ensures.left c.passed.ensures.earlier
 
 pub returns-in-Err-Rule-clause-tallied : goal.returns-in-Err-Rule-clause-tallied
@@ -36,61 +40,78 @@ returns-in-Err-Rule-clause-tallied g c = λ t is attributes has before h.
     let fails : TokenFails t c.args.token.now c.args.signer.now.signature c.in-Err-Rule.rule =
     subst (λ (b : List ℕ). TokenFails t c.args.token.now b c.in-Err-Rule.rule) c.signature.ensures
     (subst (λ (x : Terms). TokenFails x c.args.token.now c.signature.result.now c.in-Err-Rule.rule) (sym is)
-    (subst (λ (x : TokenRefused). IsTokenVerdict (terms_for c.args.checker.now (g.V.Verifier.vouches c.args.verifier.now)) c.args.token.now
+    (subst (λ (x : TokenRefused).
+    IsTokenVerdict (terms_for c.args.checker.now (g.V.Verifier.vouches c.args.verifier.now)) c.args.token.now
     c.signature.result.now (Err x)) c.in-Err-Rule.field-0-is
-    (subst (λ (r : Result ℕ TokenRefused). IsTokenVerdict (terms_for c.args.checker.now (g.V.Verifier.vouches c.args.verifier.now)) c.args.token.now
+    (subst (λ (r : Result ℕ TokenRefused).
+    IsTokenVerdict (terms_for c.args.checker.now (g.V.Verifier.vouches c.args.verifier.now)) c.args.token.now
     c.signature.result.now r) c.in-Err-Rule.is c.judge_token.ensures.judged))) in
-    subst (λ (x : Tally). Tallied t c.args.signer.now attributes (before ++ c.args.token.now ∷ []) x) (sym c.failed.ensures)
+    subst (λ (x : Tally). Tallied t c.args.signer.now attributes (before ++ c.args.token.now ∷ []) x)
+    (sym c.failed.ensures)
     (tallied_failed t c.args.signer.now attributes before c.args.token.now c.in-Err-Rule.rule fails c.args.tally h)
 
 pub returns-in_ok-best-in-Ok-clause-only : goal.returns-in_ok-best-in-Ok-clause-only
 returns-in_ok-best-in-Ok-clause-only g c = λ t is content econtent_type fits_t among test asks.
     let u : Terms = terms_for c.args.checker.now (g.V.Verifier.vouches c.args.verifier.now) in
-    let fits : Fits u.policy content econtent_type c.args.signer.now = subst (λ (x : Terms). Fits x.policy content econtent_type c.args.signer.now) is fits_t in
+    let fits : Fits u.policy content econtent_type c.args.signer.now =
+    subst (λ (x : Terms). Fits x.policy content econtent_type c.args.signer.now) is fits_t in
     let m : ℕ = c.accepted.inside.moment in
     let asks_u : (q : Asked) → IsAskedOf u content econtent_type c.args.signer.now q → test q ≡ true =
-    subst (λ (x : Terms). (q : Asked) → IsAskedOf x content econtent_type c.args.signer.now q → test q ≡ true) is asks in
+    subst
+    (λ (x : Terms). (q : Asked) → IsAskedOf x content econtent_type c.args.signer.now q → test q ≡ true) is asks in
     let passes : Passes u c.args.token.now c.args.signer.now.signature m =
     subst (λ (n : ℕ). Passes u c.args.token.now c.args.signer.now.signature n) (sym c.accepted.view_is)
     (subst (λ (b : List ℕ). Passes u c.args.token.now b c.in-Ok.accepted) c.signature.ensures c.in-Ok.ensures.judged) in
     g.V.Verifier.asked_further test _ _ _
-    (c.in-Ok.ensures.only test (λ q a. asks_u q (asked_token u content econtent_type c.args.signer.now fits c.args.token.now among q
+    (c.in-Ok.ensures.only test
+    (λ q a. asks_u q (asked_token u content econtent_type c.args.signer.now fits c.args.token.now among q
     (subst (λ (b : List ℕ). IsAskedOfToken u.policy u.trust b c.args.token.now q) c.signature.ensures a))))
     (c.in_ok-best-in-Ok.ensures.only test fits.attributes fits.present (λ e trusted p named. asks_u
-    _ (asked_at u content econtent_type c.args.signer.now fits e (subst (λ (k : CheckerValue). Contains k.trust e) c.in-Ok.ensures.stays trusted) named
+    _ (asked_at u content econtent_type c.args.signer.now fits e
+    (subst (λ (k : CheckerValue). Contains k.trust e) c.in-Ok.ensures.stays trusted) named
     m (stamped_by u c.args.signer.now c.args.token.now m among passes) p)))
 
 pub returns-in_err-best-in-Ok-clause-only : goal.returns-in_err-best-in-Ok-clause-only
 returns-in_err-best-in-Ok-clause-only g c = λ t is content econtent_type fits_t among test asks.
     let u : Terms = terms_for c.args.checker.now (g.V.Verifier.vouches c.args.verifier.now) in
-    let fits : Fits u.policy content econtent_type c.args.signer.now = subst (λ (x : Terms). Fits x.policy content econtent_type c.args.signer.now) is fits_t in
+    let fits : Fits u.policy content econtent_type c.args.signer.now =
+    subst (λ (x : Terms). Fits x.policy content econtent_type c.args.signer.now) is fits_t in
     let m : ℕ = c.accepted.inside.moment in
     let asks_u : (q : Asked) → IsAskedOf u content econtent_type c.args.signer.now q → test q ≡ true =
-    subst (λ (x : Terms). (q : Asked) → IsAskedOf x content econtent_type c.args.signer.now q → test q ≡ true) is asks in
+    subst
+    (λ (x : Terms). (q : Asked) → IsAskedOf x content econtent_type c.args.signer.now q → test q ≡ true) is asks in
     let passes : Passes u c.args.token.now c.args.signer.now.signature m =
     subst (λ (n : ℕ). Passes u c.args.token.now c.args.signer.now.signature n) (sym c.accepted.view_is)
     (subst (λ (b : List ℕ). Passes u c.args.token.now b c.in-Ok.accepted) c.signature.ensures c.in-Ok.ensures.judged) in
     g.V.Verifier.asked_further test _ _ _
-    (c.in-Ok.ensures.only test (λ q a. asks_u q (asked_token u content econtent_type c.args.signer.now fits c.args.token.now among q
+    (c.in-Ok.ensures.only test
+    (λ q a. asks_u q (asked_token u content econtent_type c.args.signer.now fits c.args.token.now among q
     (subst (λ (b : List ℕ). IsAskedOfToken u.policy u.trust b c.args.token.now q) c.signature.ensures a))))
     (c.in_err-best-in-Ok.ensures.only test fits.attributes fits.present (λ e trusted p named. asks_u
-    _ (asked_at u content econtent_type c.args.signer.now fits e (subst (λ (k : CheckerValue). Contains k.trust e) c.in-Ok.ensures.stays trusted) named
+    _ (asked_at u content econtent_type c.args.signer.now fits e
+    (subst (λ (k : CheckerValue). Contains k.trust e) c.in-Ok.ensures.stays trusted) named
     m (stamped_by u c.args.signer.now c.args.token.now m among passes) p)))
 
 pub returns-in-Err-Rule-clause-only : goal.returns-in-Err-Rule-clause-only
 returns-in-Err-Rule-clause-only g c = λ t is content econtent_type fits_t among test asks.
     let u : Terms = terms_for c.args.checker.now (g.V.Verifier.vouches c.args.verifier.now) in
-    let fits : Fits u.policy content econtent_type c.args.signer.now = subst (λ (x : Terms). Fits x.policy content econtent_type c.args.signer.now) is fits_t in
+    let fits : Fits u.policy content econtent_type c.args.signer.now =
+    subst (λ (x : Terms). Fits x.policy content econtent_type c.args.signer.now) is fits_t in
     let asks_u : (q : Asked) → IsAskedOf u content econtent_type c.args.signer.now q → test q ≡ true =
-    subst (λ (x : Terms). (q : Asked) → IsAskedOf x content econtent_type c.args.signer.now q → test q ≡ true) is asks in
-    c.judge_token.ensures.only test (λ q a. asks_u q (asked_token u content econtent_type c.args.signer.now fits c.args.token.now among q
+    subst
+    (λ (x : Terms). (q : Asked) → IsAskedOf x content econtent_type c.args.signer.now q → test q ≡ true) is asks in
+    c.judge_token.ensures.only test
+    (λ q a. asks_u q (asked_token u content econtent_type c.args.signer.now fits c.args.token.now among q
     (subst (λ (b : List ℕ). IsAskedOfToken u.policy u.trust b c.args.token.now q) c.signature.ensures a)))
 
 pub returns-in-Err-Device-clause-only : goal.returns-in-Err-Device-clause-only
 returns-in-Err-Device-clause-only g c = λ t is content econtent_type fits_t among test asks.
     let u : Terms = terms_for c.args.checker.now (g.V.Verifier.vouches c.args.verifier.now) in
-    let fits : Fits u.policy content econtent_type c.args.signer.now = subst (λ (x : Terms). Fits x.policy content econtent_type c.args.signer.now) is fits_t in
+    let fits : Fits u.policy content econtent_type c.args.signer.now =
+    subst (λ (x : Terms). Fits x.policy content econtent_type c.args.signer.now) is fits_t in
     let asks_u : (q : Asked) → IsAskedOf u content econtent_type c.args.signer.now q → test q ≡ true =
-    subst (λ (x : Terms). (q : Asked) → IsAskedOf x content econtent_type c.args.signer.now q → test q ≡ true) is asks in
-    c.judge_token.ensures.only test (λ q a. asks_u q (asked_token u content econtent_type c.args.signer.now fits c.args.token.now among q
+    subst
+    (λ (x : Terms). (q : Asked) → IsAskedOf x content econtent_type c.args.signer.now q → test q ≡ true) is asks in
+    c.judge_token.ensures.only test
+    (λ q a. asks_u q (asked_token u content econtent_type c.args.signer.now fits c.args.token.now among q
     (subst (λ (b : List ℕ). IsAskedOfToken u.policy u.trust b c.args.token.now q) c.signature.ensures a)))

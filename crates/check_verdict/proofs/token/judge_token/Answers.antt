@@ -13,33 +13,43 @@ use Rattle.check_verdict.proofs.token.judge_token.Goals as goal
 pub returns-in-Err-clause-complete : goal.returns-in-Err-clause-complete
 returns-in-Err-clause-complete g c =
     let t : Terms = terms_for c.args.checker.now (g.V.Verifier.vouches c.args.verifier.now) in
-    let k = subst (λ (p : Policy). IsClaim p c.args.stamped.now c.args.token.now (Err c.in-Err.rule)) c.policy.ensures c.in-Err.ensures in
+    let k = subst (λ (p : Policy). IsClaim p c.args.stamped.now c.args.token.now (Err c.in-Err.rule)) c.policy.ensures
+    c.in-Err.ensures in
     completes t c.args.token.now c.args.stamped.now (Err (refused.Rule c.in-Err.rule))
     (claim_fails t c.args.token.now c.args.stamped.now k.0 k.1 k.2 c.in-Err.rule (sym k.3))
 
 pub returns-in-Some-clause-judged : goal.returns-in-Some-clause-judged
 returns-in-Some-clause-judged g c =
     let t : Terms = terms_for c.args.checker.now (g.V.Verifier.vouches c.args.verifier.now) in
-    let k = subst (λ (p : Policy). IsClaim p c.args.stamped.now c.args.token.now (Ok c.in-Ok.claim)) c.policy.ensures c.in-Ok.ensures in
-    let best : Best (LeftForToken t c.in-Ok.claim) 5 c.args.checker.now.trust (passed_for_token c.in-Ok-token_stages.best) =
+    let k = subst (λ (p : Policy). IsClaim p c.args.stamped.now c.args.token.now (Ok c.in-Ok.claim)) c.policy.ensures
+    c.in-Ok.ensures in
+    let best :
+    Best (LeftForToken t c.in-Ok.claim) 5 c.args.checker.now.trust (passed_for_token c.in-Ok-token_stages.best) =
     c.in-Ok-token_stages.ensures.stage t refl in
-    rw (c.rule.ensures) (stage_fails t c.args.token.now c.args.stamped.now k.0 k.1 k.2 c.in-Ok.claim (sym k.3) c.in-Some.failed
-    (subst (λ (o : Option TokenFilter). Best (LeftForToken t c.in-Ok.claim) 5 c.args.checker.now.trust (passed_for_token o)) c.in-Some.is best))
+    rw (c.rule.ensures)
+    (stage_fails t c.args.token.now c.args.stamped.now k.0 k.1 k.2 c.in-Ok.claim (sym k.3) c.in-Some.failed
+    (subst (λ (o : Option TokenFilter).
+    Best (LeftForToken t c.in-Ok.claim) 5 c.args.checker.now.trust (passed_for_token o)) c.in-Some.is best))
 
 pub returns-in-Some-clause-complete : goal.returns-in-Some-clause-complete
 returns-in-Some-clause-complete g c =
     let t : Terms = terms_for c.args.checker.now (g.V.Verifier.vouches c.args.verifier.now) in
-    completes t c.args.token.now c.args.stamped.now (Err (refused.Rule c.rule.result)) (returns-in-Some-clause-judged g c)
+    completes t c.args.token.now c.args.stamped.now (Err (refused.Rule c.rule.result))
+    (returns-in-Some-clause-judged g c)
 
 pub returns-in-None-clause-judged : goal.returns-in-None-clause-judged
 returns-in-None-clause-judged g c =
     let t : Terms = terms_for c.args.checker.now (g.V.Verifier.vouches c.args.verifier.now) in
-    let k = subst (λ (p : Policy). IsClaim p c.args.stamped.now c.args.token.now (Ok c.in-Ok.claim)) c.policy.ensures c.in-Ok.ensures in
-    let best : Best (LeftForToken t c.in-Ok.claim) 5 c.args.checker.now.trust (passed_for_token c.in-Ok-token_stages.best) =
+    let k = subst (λ (p : Policy). IsClaim p c.args.stamped.now c.args.token.now (Ok c.in-Ok.claim)) c.policy.ensures
+    c.in-Ok.ensures in
+    let best :
+    Best (LeftForToken t c.in-Ok.claim) 5 c.args.checker.now.trust (passed_for_token c.in-Ok-token_stages.best) =
     c.in-Ok-token_stages.ensures.stage t refl in
     let is : c.in-Ok.claim.moment ≡ c.claim.inside.moment = sym (ap (λ (x : TokenClaim). x.moment) c.claim.view_is) in
-    subst (λ (m : ℕ). Passes t c.args.token.now c.args.stamped.now m) is (stage_passes t c.args.token.now c.args.stamped.now k.0 k.1 k.2 c.in-Ok.claim (sym k.3)
-    (subst (λ (o : Option TokenFilter). Best (LeftForToken t c.in-Ok.claim) 5 c.args.checker.now.trust (passed_for_token o)) c.in-None.is best))
+    subst (λ (m : ℕ). Passes t c.args.token.now c.args.stamped.now m) is
+    (stage_passes t c.args.token.now c.args.stamped.now k.0 k.1 k.2 c.in-Ok.claim (sym k.3)
+    (subst (λ (o : Option TokenFilter).
+    Best (LeftForToken t c.in-Ok.claim) 5 c.args.checker.now.trust (passed_for_token o)) c.in-None.is best))
 
 pub returns-in-None-clause-complete : goal.returns-in-None-clause-complete
 returns-in-None-clause-complete g c =
@@ -52,7 +62,8 @@ returns-in-Err-clause-only g c = λ test asks. g.V.Verifier.asked_nothing test _
 pub returns-in_default-clause-only : goal.returns-in_default-clause-only
 returns-in_default-clause-only g c = λ test asks. c.token_stages.ensures.only test (λ e trusted p. asks _ (record {
   claim = c.in-Ok.claim;
-  is_claim = subst (λ (p : Policy). IsClaim p c.args.stamped.now c.args.token.now (Ok c.in-Ok.claim)) c.policy.ensures c.in-Ok.ensures;
+  is_claim = subst (λ (p : Policy). IsClaim p c.args.stamped.now c.args.token.now (Ok c.in-Ok.claim)) c.policy.ensures
+      c.in-Ok.ensures;
   entry = e;
   trusted = trusted;
   passed = p;
@@ -62,7 +73,8 @@ returns-in_default-clause-only g c = λ test asks. c.token_stages.ensures.only t
 pub returns-in-Some-clause-only : goal.returns-in-Some-clause-only
 returns-in-Some-clause-only g c = λ test asks. c.token_stages.ensures.only test (λ e trusted p. asks _ (record {
   claim = c.in-Ok.claim;
-  is_claim = subst (λ (p : Policy). IsClaim p c.args.stamped.now c.args.token.now (Ok c.in-Ok.claim)) c.policy.ensures c.in-Ok.ensures;
+  is_claim = subst (λ (p : Policy). IsClaim p c.args.stamped.now c.args.token.now (Ok c.in-Ok.claim)) c.policy.ensures
+      c.in-Ok.ensures;
   entry = e;
   trusted = trusted;
   passed = p;
@@ -72,7 +84,8 @@ returns-in-Some-clause-only g c = λ test asks. c.token_stages.ensures.only test
 pub returns-in-None-clause-only : goal.returns-in-None-clause-only
 returns-in-None-clause-only g c = λ test asks. c.token_stages.ensures.only test (λ e trusted p. asks _ (record {
   claim = c.in-Ok.claim;
-  is_claim = subst (λ (p : Policy). IsClaim p c.args.stamped.now c.args.token.now (Ok c.in-Ok.claim)) c.policy.ensures c.in-Ok.ensures;
+  is_claim = subst (λ (p : Policy). IsClaim p c.args.stamped.now c.args.token.now (Ok c.in-Ok.claim)) c.policy.ensures
+      c.in-Ok.ensures;
   entry = e;
   trusted = trusted;
   passed = p;

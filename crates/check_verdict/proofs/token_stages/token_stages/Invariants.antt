@@ -16,7 +16,8 @@ invariant-loop-at g l = record {
   so_far : (t : Terms) → t.vouches ≡ g.V.Verifier.vouches l.initial.verifier
       → Best (LeftForToken t l.claim) 5 (take l.from l.trust) (passed_for_token l.best);
   only : (test : Asked → Bool) → ((e : EntryValue) → Contains l.initial.checker.trust e → IsInPeriod l.claim e
-      → test (asked e.certificate l.claim.signer l.claim.attributes) ≡ true) → g.V.Verifier.asked_only test l.initial.verifier l.verifier;
+      → test (asked e.certificate l.claim.signer l.claim.attributes) ≡ true)
+      → g.V.Verifier.asked_only test l.initial.verifier l.verifier;
   same : g.V.Verifier.vouches l.verifier ≡ g.V.Verifier.vouches l.initial.verifier;
   count : g.V.Verifier.failures l.verifier ≡ g.V.Verifier.failures l.initial.verifier;
   stays : l.checker ≡ l.initial.checker;

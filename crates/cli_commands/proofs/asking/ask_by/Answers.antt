@@ -8,6 +8,8 @@ pub returns-clause-refused : goal.returns-clause-refused
 returns-clause-refused g c = λ trusted.
     let (limit, (stated, states, bounds), (last, unread, pass)) = c.in_ok-asked_as_stated.ensures.asked in
     not_asked g.R.File.Read.remaining c.args.words.now c.args.trust.now last limit (is_some stated) trusted
-    bounds (g.O.Write.contents c.args.out.now) (g.O.Write.contents c.asked_as_stated.new.out) c.in-Err.fault c.failure_of.result
+    bounds (g.O.Write.contents c.args.out.now)
+    (g.O.Write.contents c.asked_as_stated.new.out) c.in-Err.fault c.failure_of.result
     (subst (λ (r : Attempt). AsksPass c.args.trust.now (g.R.File.Read.remaining last) limit r
-    (g.O.Write.contents c.args.out.now) (g.O.Write.contents c.asked_as_stated.new.out)) c.in-Err.is pass) c.failure_of.ensures
+    (g.O.Write.contents c.args.out.now) (g.O.Write.contents c.asked_as_stated.new.out)) c.in-Err.is pass)
+    c.failure_of.ensures

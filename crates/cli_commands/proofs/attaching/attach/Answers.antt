@@ -4,7 +4,8 @@ use Rattle.cli_commands.proofs.Held.{held_as}
 use Rattle.cli_commands.proofs.attaching.attach.Goals as goal
 
 pub returns-clause-attached : goal.returns-clause-attached
-returns-clause-attached g c = attached_when _ _ c.args.words.now.signer _ _ c.write_whole.result c.as_slice-3.ensures.value
+returns-clause-attached g c =
+    attached_when _ _ c.args.words.now.signer _ _ c.write_whole.result c.as_slice-3.ensures.value
     (record {
       file = c.as_slice.result.now;
       token = c.as_slice-2.result.now;
@@ -17,5 +18,6 @@ returns-clause-attached g c = attached_when _ _ c.args.words.now.signer _ _ c.wr
 pub returns-in_err-octets-clause-refused : goal.returns-in_err-octets-clause-refused
 returns-in_err-octets-clause-refused g c =
     let p = err_from_is_err_and c.from_residual-in_err-octets.result c.from_residual-in_err-octets.ensures.1 in
-    rw (p.1, p.2) (not_attached _ c.args.words.now _ _ _ (held_as _ _ _ c.as_slice.ensures.value c.in_ok-file.ensures.whole)
+    rw (p.1, p.2)
+    (not_attached _ c.args.words.now _ _ _ (held_as _ _ _ c.as_slice.ensures.value c.in_ok-file.ensures.whole)
     (held_as _ _ _ c.as_slice-2.ensures.value c.in_ok-token.ensures.whole) c.in_err-octets.ensures.refused)

@@ -10,9 +10,11 @@ returns-in_err-answers-clause-refused g c =
     rw (p.1, p.2) (inr (inl c.in_err-answers.ensures.refused))
 
 pub returns-clause-accepted : goal.returns-clause-accepted
-returns-clause-accepted g c = c.check_by.ensures.accepted (subst (λ (k : CheckerValue). IsCheckerOf g.R.File.Read.remaining c.args.words.now.sha1 k)
+returns-clause-accepted g c = c.check_by.ensures.accepted
+    (subst (λ (k : CheckerValue). IsCheckerOf g.R.File.Read.remaining c.args.words.now.sha1 k)
     (sym c.of-checker.ensures) (c.in_ok-trust.ensures.found, refl)) c.in_ok-answers.ensures.found
 
 pub returns-clause-refused : goal.returns-clause-refused
-returns-clause-refused g c = c.check_by.ensures.refused (subst (λ (k : CheckerValue). IsCheckerOf g.R.File.Read.remaining c.args.words.now.sha1 k)
+returns-clause-refused g c = c.check_by.ensures.refused
+    (subst (λ (k : CheckerValue). IsCheckerOf g.R.File.Read.remaining c.args.words.now.sha1 k)
     (sym c.of-checker.ensures) (c.in_ok-trust.ensures.found, refl)) c.in_ok-answers.ensures.found

@@ -9,14 +9,18 @@ use Rattle.cli_commands.proofs.checking.verdict_by_hint.Goals as goal
 use Rattle.check_fit.specs.FileFitting.{facts_of}
 
 pub returns-in-Some-clause-judged : goal.returns-in-Some-clause-judged
-returns-in-Some-clause-judged g c = read_again g.F.Seek.stream_position g.F.Read.remaining c.args.file.now.file c.listed.new.self.file
+returns-in-Some-clause-judged g c =
+    read_again g.F.Seek.stream_position g.F.Read.remaining c.args.file.now.file c.listed.new.self.file
     (length c.args.buffer.now) c.args.file.now.failed c.check_stream_by.new.file.failed c.check_stream_by.new.content
     (λ octets. ChecksStream (facts_of g.S.Source.tells g.S.Source.rest g.S.Source.failures)
-    (terms_for c.args.checker.now (λ q. is_among c.args.answers.now q)) octets c.args.content.now c.check_stream_by.new.content)
-    c.listed.new.self.failed c.args.content.now c.in-Some.verdict c.in-Ok.ensures.front c.in-Ok.ensures.count c.in-Some.ensures.promised.judged
+    (terms_for c.args.checker.now (λ q. is_among c.args.answers.now q)) octets c.args.content.now
+    c.check_stream_by.new.content)
+    c.listed.new.self.failed c.args.content.now c.in-Some.verdict c.in-Ok.ensures.front c.in-Ok.ensures.count
+    c.in-Some.ensures.promised.judged
 
 pub returns-in_default-clause-judged : goal.returns-in_default-clause-judged
-returns-in_default-clause-judged g c = not_again g.F.Seek.stream_position g.F.Read.remaining c.args.file.now.file c.args.file.now.file
+returns-in_default-clause-judged g c =
+    not_again g.F.Seek.stream_position g.F.Read.remaining c.args.file.now.file c.args.file.now.file
     (length c.args.buffer.now) c.args.file.now.failed c.listed.new.self.failed c.args.content.now
     (λ octets. ChecksStream (facts_of g.S.Source.tells g.S.Source.rest g.S.Source.failures)
     (terms_for c.args.checker.now (λ q. is_among c.args.answers.now q)) octets c.args.content.now c.args.content.now)
@@ -28,7 +32,8 @@ returns-in_default-rewind-clause-judged g c =
     not_again g.F.Seek.stream_position g.F.Read.remaining c.args.file.now.file c.args.file.now.file
     (length c.args.buffer.now) c.args.file.now.failed c.rewind.new.self.failed c.check_stream_by.new.content
     (λ octets. ChecksStream (facts_of g.S.Source.tells g.S.Source.rest g.S.Source.failures)
-    (terms_for c.args.checker.now (λ q. is_among c.args.answers.now q)) octets c.args.content.now c.check_stream_by.new.content)
+    (terms_for c.args.checker.now (λ q. is_among c.args.answers.now q)) octets c.args.content.now
+    c.check_stream_by.new.content)
     c.args.content.now (c.in_default-rewind.ensures.count ∙ ap raised (failed ∙ c.in-Ok.ensures.count)) content
 
 pub returns-clause-judged : goal.returns-clause-judged
@@ -37,13 +42,26 @@ returns-clause-judged g c =
     let unfailed = c.in-Ok-rewind.ensures.count ∙ failed ∙ c.in-Ok.ensures.count in
     read_after g.F.Seek.stream_position g.F.Read.remaining c.args.file.now.file c.rewind.new.self.file
     (length c.args.buffer.now) c.check_stream_with.new.file.failed c.check_stream_with.new.content
-    (λ (asked : _ × CheckerValue) before octets. ChecksStream (facts_of g.S.Source.tells g.S.Source.rest g.S.Source.failures)
+    (λ (asked : _ × CheckerValue) before octets.
+    ChecksStream (facts_of g.S.Source.tells g.S.Source.rest g.S.Source.failures)
     (terms_for asked.1 (λ q. is_among asked.0 q)) octets before c.check_stream_with.new.content)
     (length c.check_stream_by.new.buffer)
-    (record { asked = (c.args.answers.now, c.args.checker.now); content = c.args.content.now; failures = c.args.file.now.failed })
-    (record { asked = (c.check_stream_by.new.verifier, c.check_stream_by.new.checker); content = c.check_stream_by.new.content; failures = c.rewind.new.self.failed })
+    (record {
+      asked = (c.args.answers.now, c.args.checker.now);
+      content = c.args.content.now;
+      failures = c.args.file.now.failed;
+    })
+    (record {
+      asked = (c.check_stream_by.new.verifier, c.check_stream_by.new.checker);
+      content = c.check_stream_by.new.content;
+      failures = c.rewind.new.self.failed;
+    })
     c.check_stream_with.result c.in-Ok-rewind.ensures.front c.check_stream_by.auto.buffer
-    (λ i. record { asked = (verifier i, c.in_default-check_stream_by.ensures.stays i); content = content i; failures = unfailed i })
+    (λ i. record {
+      asked = (verifier i, c.in_default-check_stream_by.ensures.stays i);
+      content = content i;
+      failures = unfailed i;
+    })
     c.check_stream_with.ensures.promised.judged
 
 pub returns-in-Some-clause-untouched : goal.returns-in-Some-clause-untouched

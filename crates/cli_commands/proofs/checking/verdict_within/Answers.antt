@@ -14,32 +14,48 @@ returns-then-not-is_too_long-clause-judged g c =
     let h = c.loop-rooms.invariant in
     read_on g.F.Seek.stream_position g.F.Read.remaining c.args.file.now.file c.loop-rooms.file.file
     c.verdict_of-verdict.new.file.failed c.verdict_of-verdict.new.content
-    (λ (asked : Asked → Bool) before octets. ChecksStream (facts_of g.S.Source.tells g.S.Source.rest g.S.Source.failures)
+    (λ (asked : Asked → Bool) before octets.
+    ChecksStream (facts_of g.S.Source.tells g.S.Source.rest g.S.Source.failures)
     (terms_for c.args.checker.now asked) octets before c.verdict_of-verdict.new.content)
     c.args.limit
-    (record { asked = λ q. is_among c.args.answers.now q; content = c.args.content.now; failures = c.args.file.now.failed })
-    (record { asked = λ q. is_among c.loop-rooms.answers q; content = c.loop-rooms.content; failures = c.loop-rooms.file.failed })
+    (record {
+      asked = λ q. is_among c.args.answers.now q;
+      content = c.args.content.now;
+      failures = c.args.file.now.failed;
+    })
+    (record {
+      asked = λ q. is_among c.loop-rooms.answers q;
+      content = c.loop-rooms.content;
+      failures = c.loop-rooms.file.failed;
+    })
     c.verdict_of-verdict.result h.unread
     (λ i. record { asked = h.vouched i; content = h.content i; failures = h.failed i })
-    (read_within (length c.as_mut_slice.result.now) c.args.limit c.loop-rooms.file.failed c.verdict_of-verdict.new.file.failed
-    c.loop-rooms.content c.verdict_of-verdict.new.content g.F.Seek.stream_position g.F.Read.remaining c.loop-rooms.file.file
+    (read_within
+    (length c.as_mut_slice.result.now) c.args.limit c.loop-rooms.file.failed c.verdict_of-verdict.new.file.failed
+    c.loop-rooms.content c.verdict_of-verdict.new.content g.F.Seek.stream_position g.F.Read.remaining
+    c.loop-rooms.file.file
     (λ octets. ChecksStream (facts_of g.S.Source.tells g.S.Source.rest g.S.Source.failures)
-    (terms_for c.args.checker.now (λ q. is_among c.loop-rooms.answers q)) octets c.loop-rooms.content c.verdict_of-verdict.new.content)
+    (terms_for c.args.checker.now (λ q. is_among c.loop-rooms.answers q)) octets c.loop-rooms.content
+    c.verdict_of-verdict.new.content)
     c.verdict_of-verdict.result c.if-not-is_too_long.ensures
     (subst (λ (k : CheckerValue). OfReading g.F.Seek.stream_position g.F.Read.remaining
     (λ octets. ChecksStream (facts_of g.S.Source.tells g.S.Source.rest g.S.Source.failures)
     (terms_for k (λ q. is_among c.loop-rooms.answers q)) octets c.loop-rooms.content c.verdict_of-verdict.new.content)
-    c.loop-rooms.file.file (length c.as_mut_slice.result.now) c.loop-rooms.file.failed c.verdict_of-verdict.new.file.failed
-    c.loop-rooms.content c.verdict_of-verdict.new.content c.verdict_of-verdict.result) h.stays c.verdict_of-verdict.ensures.judged))
+    c.loop-rooms.file.file
+    (length c.as_mut_slice.result.now) c.loop-rooms.file.failed c.verdict_of-verdict.new.file.failed
+    c.loop-rooms.content c.verdict_of-verdict.new.content c.verdict_of-verdict.result) h.stays
+    c.verdict_of-verdict.ensures.judged))
 
 pub returns-in-Err-clause-judged : goal.returns-in-Err-clause-judged
 returns-in-Err-clause-judged g c =
     let h = c.loop-rooms.invariant in
     let (content, failed) = c.verdict_of-verdict.ensures.untouched c.if-not-is_too_long.ensures in
-    not_again g.F.Seek.stream_position g.F.Read.remaining c.args.file.now.file c.args.file.now.file c.args.limit c.args.file.now.failed
+    not_again g.F.Seek.stream_position g.F.Read.remaining c.args.file.now.file c.args.file.now.file c.args.limit
+    c.args.file.now.failed
     c.rewind.new.self.failed c.verdict_of-verdict.new.content
     (λ octets. ChecksStream (facts_of g.S.Source.tells g.S.Source.rest g.S.Source.failures)
-    (terms_for c.args.checker.now (λ q. is_among c.args.answers.now q)) octets c.args.content.now c.verdict_of-verdict.new.content)
+    (terms_for c.args.checker.now (λ q. is_among c.args.answers.now q)) octets c.args.content.now
+    c.verdict_of-verdict.new.content)
     c.args.content.now (c.in-Err.ensures.count ∙ ap raised (failed ∙ h.failed)) (content ∙ h.content)
 
 pub loop-rooms-preserved : goal.loop-rooms-preserved
@@ -61,17 +77,28 @@ returns-clause-judged g c =
     let room : length c.as_mut_slice-2.result.now ≡ c.args.limit = first_of (omega arith, (cc), search rules) in
     read_on g.F.Seek.stream_position g.F.Read.remaining c.args.file.now.file c.loop-rooms.file.file
     c.verdict_of.new.file.failed c.verdict_of.new.content
-    (λ (asked : Asked → Bool) before octets. ChecksStream (facts_of g.S.Source.tells g.S.Source.rest g.S.Source.failures)
+    (λ (asked : Asked → Bool) before octets.
+    ChecksStream (facts_of g.S.Source.tells g.S.Source.rest g.S.Source.failures)
     (terms_for c.args.checker.now asked) octets before c.verdict_of.new.content)
     c.args.limit
-    (record { asked = λ q. is_among c.args.answers.now q; content = c.args.content.now; failures = c.args.file.now.failed })
-    (record { asked = λ q. is_among c.loop-rooms.answers q; content = c.loop-rooms.content; failures = c.loop-rooms.file.failed })
+    (record {
+      asked = λ q. is_among c.args.answers.now q;
+      content = c.args.content.now;
+      failures = c.args.file.now.failed;
+    })
+    (record {
+      asked = λ q. is_among c.loop-rooms.answers q;
+      content = c.loop-rooms.content;
+      failures = c.loop-rooms.file.failed;
+    })
     c.verdict_of.result h.unread
     (λ i. record { asked = h.vouched i; content = h.content i; failures = h.failed i })
     (subst (λ (n : ℕ). OfReading g.F.Seek.stream_position g.F.Read.remaining
     (λ octets. ChecksStream (facts_of g.S.Source.tells g.S.Source.rest g.S.Source.failures)
-    (terms_for c.args.checker.now (λ q. is_among c.loop-rooms.answers q)) octets c.loop-rooms.content c.verdict_of.new.content)
-    c.loop-rooms.file.file n c.loop-rooms.file.failed c.verdict_of.new.file.failed c.loop-rooms.content c.verdict_of.new.content c.verdict_of.result)
+    (terms_for c.args.checker.now (λ q. is_among c.loop-rooms.answers q)) octets c.loop-rooms.content
+    c.verdict_of.new.content)
+    c.loop-rooms.file.file n c.loop-rooms.file.failed c.verdict_of.new.file.failed c.loop-rooms.content
+    c.verdict_of.new.content c.verdict_of.result)
     room (subst (λ (k : CheckerValue). OfReading g.F.Seek.stream_position g.F.Read.remaining
     (λ octets. ChecksStream (facts_of g.S.Source.tells g.S.Source.rest g.S.Source.failures)
     (terms_for k (λ q. is_among c.loop-rooms.answers q)) octets c.loop-rooms.content c.verdict_of.new.content)

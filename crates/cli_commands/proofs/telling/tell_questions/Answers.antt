@@ -2,7 +2,8 @@ use Rattle.cli_commands.proofs.Questioning.{questions_told, questions_malformed,
 use Rattle.cli_commands.proofs.telling.tell_questions.Goals as goal
 
 pub returns-in-Err-clause-told : goal.returns-in-Err-clause-told
-returns-in-Err-clause-told g c = questions_told c.in-Err.failure c.report.result _ _ _ c.report.ensures.status c.in-Err.ensures.kept _ _
+returns-in-Err-clause-told g c =
+    questions_told c.in-Err.failure c.report.result _ _ _ c.report.ensures.status c.in-Err.ensures.kept _ _
     c.in-Err.ensures.refused c.report.ensures.told c.report.ensures.refused
 
 pub returns-in-Err-clause-malformed : goal.returns-in-Err-clause-malformed
@@ -10,8 +11,10 @@ returns-in-Err-clause-malformed g c = questions_malformed c.in-Err.failure c.rep
     c.in-Err.ensures.kept c.report.ensures.told
 
 pub returns-in-Err-clause-refused : goal.returns-in-Err-clause-refused
-returns-in-Err-clause-refused g c = questions_refused c.in-Err.failure c.report.result _ _ _ c.report.ensures.status c.in-Err.ensures.kept
+returns-in-Err-clause-refused g c =
+    questions_refused c.in-Err.failure c.report.result _ _ _ c.report.ensures.status c.in-Err.ensures.kept
     c.report.ensures.refused
 
 pub returns-in-Err-clause-silent : goal.returns-in-Err-clause-silent
-returns-in-Err-clause-silent g c = never_usage _ _ c.in-Err.failure c.report.result c.in-Err.ensures.refused c.report.ensures.status
+returns-in-Err-clause-silent g c =
+    never_usage _ _ c.in-Err.failure c.report.result c.in-Err.ensures.refused c.report.ensures.status

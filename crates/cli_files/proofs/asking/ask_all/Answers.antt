@@ -14,22 +14,29 @@ returns-in_err-put-clause-refused g c =
     rw (p.1, p.2) (inr (lost, (0, first_line, status.Done, (_, [], c.in_ok-trust.ensures.found, none, refl), begun)))
 
 pub loop-path-init : goal.loop-path-init
-loop-path-init g c =
-    (g.O.Write.contents c.put.new.out, c.in_ok-put.ensures.all, ([], none, appends_none (g.O.Write.contents c.put.new.out)))
+loop-path-init g c = (
+  g.O.Write.contents c.put.new.out,
+  c.in_ok-put.ensures.all,
+  ([], none, appends_none (g.O.Write.contents c.put.new.out)),
+)
 
 pub loop-path-preserved : goal.loop-path-preserved
 loop-path-preserved g c =
     let (text, said, took) = c.in_ok-put_asked.ensures.put in
     let (headed, begun, told) = c.loop-path.invariant in
-    let path : Bor (List ℕ) = get_or c.args.paths.now c.loop-path.path-index (record { ref_ptr = (0, 0); now = [] }) in (
+    let path : Bor (List ℕ) =
+    get_or c.args.paths.now c.loop-path.path-index (record { ref_ptr = (0, 0); now = [] }) in (
       headed,
       begun,
-      told_next (IsAsked g.R.File.Read.remaining c.args.each.now) c.args.paths.now (record { ref_ptr = (0, 0); now = [] })
+      told_next (IsAsked g.R.File.Read.remaining c.args.each.now) c.args.paths.now
+          (record { ref_ptr = (0, 0); now = [] })
           c.loop-path.path-index (c.loop-path.path-index + 1) headed (g.O.Write.contents c.loop-path.out)
-          (g.O.Write.contents c.put_asked.new.out) c.loop-path.worst c.worse-worst.result c.loop-path-test.true (omega arith) told (record {
+          (g.O.Write.contents c.put_asked.new.out) c.loop-path.worst c.worse-worst.result c.loop-path-test.true
+          (omega arith) told (record {
             line = text;
             ends = c.in_ok-put_asked.field-0;
-            says = headed_by (λ (v : _). v.items) g.R.File.Read.remaining c.args.each.now path c.questions_by-said.result text
+            says = headed_by
+                (λ (v : _). v.items) g.R.File.Read.remaining c.args.each.now path c.questions_by-said.result text
                 c.in_ok-put_asked.field-0 said (c.questions_by-said.ensures.asked c.in_ok-trust.ensures.found)
                 (c.questions_by-said.ensures.refused c.in_ok-trust.ensures.found);
             takes = took;
@@ -46,8 +53,10 @@ returns-in_err-put_asked-clause-refused g c =
     let (count, texts, worst, all, part) = cut_next (IsAsked g.R.File.Read.remaining c.args.each.now) c.args.paths.now
     (record { ref_ptr = (0, 0); now = [] }) c.loop-path.path-index headed (g.O.Write.contents c.loop-path.out)
     (g.O.Write.contents c.put_asked.new.out) c.loop-path.worst ends text c.loop-path-test.true told
-    (headed_by (λ (v : _). v.items) g.R.File.Read.remaining c.args.each.now path c.questions_by-said.result text ends said
-    (c.questions_by-said.ensures.asked c.in_ok-trust.ensures.found) (c.questions_by-said.ensures.refused c.in_ok-trust.ensures.found)) cut in
+    (headed_by
+    (λ (v : _). v.items) g.R.File.Read.remaining c.args.each.now path c.questions_by-said.result text ends said
+    (c.questions_by-said.ensures.asked c.in_ok-trust.ensures.found)
+    (c.questions_by-said.ensures.refused c.in_ok-trust.ensures.found)) cut in
     rw (p.1, p.2) (inr (
       lost,
       (
@@ -55,7 +64,8 @@ returns-in_err-put_asked-clause-refused g c =
         first_line ++ texts,
         worst,
         (_, texts, c.in_ok-trust.ensures.found, all, refl),
-        begins_behind (g.O.Write.contents c.args.out.now) headed (g.O.Write.contents c.put_asked.new.out) first_line texts begun part,
+        begins_behind (g.O.Write.contents c.args.out.now) headed
+            (g.O.Write.contents c.put_asked.new.out) first_line texts begun part,
       ),
     ))
 
@@ -67,9 +77,11 @@ returns-clause-told g c =
         _,
         text,
         c.in_ok-trust.ensures.found,
-        all_told (IsAsked g.R.File.Read.remaining c.args.each.now) c.args.paths.now c.loop-path.path-index text c.loop-path.worst
+        all_told (IsAsked g.R.File.Read.remaining c.args.each.now) c.args.paths.now c.loop-path.path-index text
+            c.loop-path.worst
             (omega arith) told,
         refl,
       ),
-      appends_both (g.O.Write.contents c.args.out.now) headed (g.O.Write.contents c.loop-path.out) first_line text begun took,
+      appends_both (g.O.Write.contents c.args.out.now) headed
+          (g.O.Write.contents c.loop-path.out) first_line text begun took,
     )

@@ -20,16 +20,20 @@ returns-in_err-put-in-Ok-clause-lost g c =
     rw (p.1, p.2) (
       lost,
       headed_cut (λ (v : _). v.items) c.args.said.now c.args.path.now c.in-Ok.text c.behind_first_line.result.now
-          (g.O.Write.contents c.args.out.now) (g.O.Write.contents c.put_heading.new.out) (g.O.Write.contents c.put.new.out) c.in-Ok.is
-          (λ xs e. c.behind_first_line.ensures xs (c.as_slice.ensures.value ∙ e)) c.in_ok-put_heading-in-Ok.ensures.put begun,
+          (g.O.Write.contents c.args.out.now) (g.O.Write.contents c.put_heading.new.out)
+          (g.O.Write.contents c.put.new.out) c.in-Ok.is
+          (λ xs e. c.behind_first_line.ensures xs (c.as_slice.ensures.value ∙ e)) c.in_ok-put_heading-in-Ok.ensures.put
+          begun,
     )
 
 pub returns-in_ok-put-in-Ok-clause-put : goal.returns-in_ok-put-in-Ok-clause-put
 returns-in_ok-put-in-Ok-clause-put g c = headed_whole (λ (v : _). v.items) c.args.said.now c.args.path.now c.in-Ok.text
     c.behind_first_line.result.now (g.O.Write.contents c.args.out.now) (g.O.Write.contents c.put_heading.new.out)
     (g.O.Write.contents c.put.new.out) c.in-Ok.is
-    (λ xs e. c.behind_first_line.ensures xs (c.as_slice.ensures.value ∙ e)) c.in_ok-put_heading-in-Ok.ensures.put c.in_ok-put-in-Ok.ensures.all
+    (λ xs e. c.behind_first_line.ensures xs (c.as_slice.ensures.value ∙ e)) c.in_ok-put_heading-in-Ok.ensures.put
+    c.in_ok-put-in-Ok.ensures.all
 
 pub returns-in-Err-clause-lost : goal.returns-in-Err-clause-lost
 returns-in-Err-clause-lost g c = headed_failure (λ (v : _). v.items) c.args.said.now c.args.path.now c.in-Err.failure
-    (g.O.Write.contents c.args.out.now) (g.O.Write.contents c.put_failure.new.out) c.put_failure.result c.in-Err.is c.put_failure.ensures.lost
+    (g.O.Write.contents c.args.out.now)
+    (g.O.Write.contents c.put_failure.new.out) c.put_failure.result c.in-Err.is c.put_failure.ensures.lost

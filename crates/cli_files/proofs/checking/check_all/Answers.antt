@@ -17,7 +17,8 @@ returns-in_err-answers-clause-refused g c =
 pub loop-path-init : goal.loop-path-init
 loop-path-init g c = record {
   told = ([], none, appends_none (g.O.Write.contents c.args.out.now));
-  goes_by = subst (λ (k : CheckerValue). IsCheckerOf g.R.File.Read.remaining c.args.each.now.sha1 k) (sym c.of-checker.ensures)
+  goes_by = subst (λ (k : CheckerValue). IsCheckerOf g.R.File.Read.remaining c.args.each.now.sha1 k)
+      (sym c.of-checker.ensures)
       (c.in_ok-trust.ensures.found, refl);
   answers = c.in_ok-answers.ensures.found;
 }
@@ -28,15 +29,18 @@ loop-path-preserved g c =
     let h = c.loop-path.invariant in
     let path : Bor (List ℕ) = get_or c.args.paths.now c.loop-path.path-index (record { ref_ptr = (0, 0); now = [] }) in
     record {
-      told = told_next (IsLine g.R.File.Read.remaining (check_of c.args.each.now)) c.args.paths.now (record { ref_ptr = (0, 0); now = [] })
+      told = told_next (IsLine g.R.File.Read.remaining (check_of c.args.each.now)) c.args.paths.now
+          (record { ref_ptr = (0, 0); now = [] })
           c.loop-path.path-index (c.loop-path.path-index + 1)
-          (g.O.Write.contents c.args.out.now) (g.O.Write.contents c.loop-path.out) (g.O.Write.contents c.put_said.new.out)
+          (g.O.Write.contents c.args.out.now) (g.O.Write.contents c.loop-path.out)
+          (g.O.Write.contents c.put_said.new.out)
           c.loop-path.worst c.worse-worst.result c.loop-path-test.true (omega arith) h.told (record {
             line = line_of path.now text;
             ends = c.in_ok-put_said.field-0;
             says = (
               text,
-              said_by (λ (v : _). v.items) g.R.File.Read.remaining (check_of c.args.each.now path) c.check_by-said.result text
+              said_by (λ (v : _). v.items) g.R.File.Read.remaining
+                  (check_of c.args.each.now path) c.check_by-said.result text
                   c.in_ok-put_said.field-0 said
                   (c.check_by-said.ensures.accepted h.goes_by h.answers)
                   (c.check_by-said.ensures.refused h.goes_by h.answers),
@@ -45,7 +49,8 @@ loop-path-preserved g c =
             takes = took;
             worse = c.worse-worst.ensures;
           });
-      goes_by = subst (λ (k : CheckerValue). IsCheckerOf g.R.File.Read.remaining c.args.each.now.sha1 k) (sym c.check_by-said.ensures.stays) h.goes_by;
+      goes_by = subst (λ (k : CheckerValue). IsCheckerOf g.R.File.Read.remaining c.args.each.now.sha1 k)
+          (sym c.check_by-said.ensures.stays) h.goes_by;
       answers = still_answers g.R.File.Read.remaining _ _ c.check_by-said.ensures.same h.answers;
     }
 
@@ -58,10 +63,13 @@ returns-in_err-put_said-clause-refused g c =
     rw (p.1, p.2) (inr (
       lost,
       cut_next (IsLine g.R.File.Read.remaining (check_of c.args.each.now)) c.args.paths.now
-          (record { ref_ptr = (0, 0); now = [] }) c.loop-path.path-index (g.O.Write.contents c.args.out.now) (g.O.Write.contents c.loop-path.out)
-          (g.O.Write.contents c.put_said.new.out) c.loop-path.worst ends (line_of path.now text) c.loop-path-test.true h.told (
+          (record { ref_ptr = (0, 0); now = [] }) c.loop-path.path-index (g.O.Write.contents c.args.out.now)
+          (g.O.Write.contents c.loop-path.out)
+          (g.O.Write.contents c.put_said.new.out) c.loop-path.worst ends
+          (line_of path.now text) c.loop-path-test.true h.told (
             text,
-            said_by (λ (v : _). v.items) g.R.File.Read.remaining (check_of c.args.each.now path) c.check_by-said.result text ends said
+            said_by (λ (v : _). v.items) g.R.File.Read.remaining
+                (check_of c.args.each.now path) c.check_by-said.result text ends said
                 (c.check_by-said.ensures.accepted h.goes_by h.answers)
                 (c.check_by-said.ensures.refused h.goes_by h.answers),
             refl,

@@ -11,6 +11,7 @@ returns-in_ok-each_in-in-Some-2-clause-words c = (
   sym c.in-Some.ensures.rows,
   (
     c.in_ok-each_in-in-Some-2.ensures.words,
-    subst (λ (files : Option Several). IfSome files (IsSeveralIn (found_of c.in-Some.given.now))) c.in-Some-2.is c.in_ok-files.ensures,
+    subst (λ (files : Option Several). IfSome files (IsSeveralIn (found_of c.in-Some.given.now))) c.in-Some-2.is
+        c.in_ok-files.ensures,
   ),
 )

@@ -11,10 +11,12 @@ returns-in-Ok-clause-answer c = let f = c.in-Ok.ensures.found in
     inl (f.0, f.1, made_as _ _ _ _ _ _ _ (c.deref.ensures.value ∙ f.2) c.tell_made.ensures)
 
 pub returns-in-Ok-clause-only : goal.returns-in-Ok-clause-only
-returns-in-Ok-clause-only c = λ w a. inl (made_as _ _ _ _ _ _ _ (c.deref.ensures.value ∙ c.in-Ok.ensures.only w a) c.tell_made.ensures)
+returns-in-Ok-clause-only c =
+    λ w a. inl (made_as _ _ _ _ _ _ _ (c.deref.ensures.value ∙ c.in-Ok.ensures.only w a) c.tell_made.ensures)
 
 pub returns-in-Err-clause-answer : goal.returns-in-Err-clause-answer
-returns-in-Err-clause-answer c = inr (c.in-Err.fault, c.in-Err.ensures.refused, unmade_as _ _ _ _ _ _ _ c.failure_of.ensures c.tell_unmade.ensures)
+returns-in-Err-clause-answer c =
+    inr (c.in-Err.fault, c.in-Err.ensures.refused, unmade_as _ _ _ _ _ _ _ c.failure_of.ensures c.tell_unmade.ensures)
 
 pub returns-in-Err-clause-only : goal.returns-in-Err-clause-only
 returns-in-Err-clause-only c = λ w a. inr (c.tell_unmade.ensures.1 ∙ ap (λ (f : Failure). failure_status f)

@@ -7,8 +7,10 @@ returns-in-Ok c = inl (
   c.in-Ok.compared,
   (c.compare.ensures.compared c.in-Ok.compared).0 c.in-Ok.is,
   c.compared_answer.ensures,
-  line_as _ _ _ _ _ _ _ _ (c.as_bytes-line.ensures.value ∙ c.compared_line.ensures) c.compared_status.ensures c.tell_line.ensures,
+  line_as _ _ _ _ _ _ _ _
+      (c.as_bytes-line.ensures.value ∙ c.compared_line.ensures) c.compared_status.ensures c.tell_line.ensures,
 )
 
 pub returns-in-Err : goal.returns-in-Err
-returns-in-Err c = inr (c.in-Err.fault, c.in-Err.ensures.refused, c.tell_failure.ensures.said, c.tell_failure.ensures.line)
+returns-in-Err c =
+    inr (c.in-Err.fault, c.in-Err.ensures.refused, c.tell_failure.ensures.said, c.tell_failure.ensures.line)

@@ -5,6 +5,9 @@ use Rattle.library_calls.proofs.InMemory.{judges_handed, never_raised}
 use Rattle.library_calls.proofs.fit.verdict_of.Goals as goal
 
 pub returns : goal.returns
-returns c = subst (λ (handed : Option (List ℕ)). FitsHanded (record { sha1 = c.args.sha1 }) c.args.file.now handed c.fits.result)
-    c.source_of-source.ensures.rest (judges_handed _ (FitsSigned (record { sha1 = c.args.sha1 })) (λ s s' e. never_raised e) c.args.file.now
-    c.fits.ensures.0 c.source_of-source.result _ c.fits.result c.fits.ensures.1 c.source_of-source.ensures.tells c.fits.ensures.2)
+returns c = subst
+    (λ (handed : Option (List ℕ)). FitsHanded (record { sha1 = c.args.sha1 }) c.args.file.now handed c.fits.result)
+    c.source_of-source.ensures.rest
+    (judges_handed _ (FitsSigned (record { sha1 = c.args.sha1 })) (λ s s' e. never_raised e) c.args.file.now
+    c.fits.ensures.0 c.source_of-source.result _ c.fits.result c.fits.ensures.1 c.source_of-source.ensures.tells
+    c.fits.ensures.2)

@@ -7,7 +7,8 @@ use Rattle.library_calls.proofs.request.octets_of_signature.Goals as goal
 pub returns-in_err-contents-clause-refused : goal.returns-in_err-contents-clause-refused
 returns-in_err-contents-clause-refused c =
     let p = err_from_is_err_and c.from_residual-in_err-contents.result c.from_residual-in_err-contents.ensures.1 in
-    rw (p.1, p.2) (policy_refused c.args.algorithm.now c.args.file.now c.args.signer c.args.policy.now c.args.nonce.now c.args.certificate
+    rw (p.1, p.2) (policy_refused c.args.algorithm.now c.args.file.now c.args.signer c.args.policy.now c.args.nonce.now
+    c.args.certificate
     c.in_ok-alg.alg c.in_ok-alg.ensures.found _ c.in_err-contents.ensures.refused)
 
 pub returns-in_err-digest-clause-refused : goal.returns-in_err-digest-clause-refused
@@ -20,7 +21,8 @@ returns-in_err-digest-clause-refused c =
       integer = c.in_ok-number.ensures.formed;
     } in
     let p = err_from_is_err_and c.from_residual-in_err-digest.result c.from_residual-in_err-digest.ensures.1 in
-    rw (p.1, p.2) (signer_refused c.args.algorithm.now c.args.file.now c.args.signer c.args.policy.now c.args.nonce.now c.args.certificate
+    rw (p.1, p.2) (signer_refused c.args.algorithm.now c.args.file.now c.args.signer c.args.policy.now c.args.nonce.now
+    c.args.certificate
     c.in_ok-alg.alg c.in_ok-alg.ensures.found are _ c.in_err-digest.ensures.refused)
 
 pub returns-clause-made : goal.returns-clause-made
@@ -32,8 +34,10 @@ returns-clause-made c =
       is_nonce = c.in_ok-number.ensures.found;
       integer = c.in_ok-number.ensures.formed;
     } in
-    signature_asked c.args.algorithm.now c.args.file.now c.args.signer c.args.policy.now c.args.nonce.now c.args.certificate c.in_ok-alg.alg
-    c.in_ok-alg.ensures.found are (λ (v : Vec ℕ Global). v.items) c.in_ok-digest.digest _ c.request_of.result c.policy_in.ensures
+    signature_asked c.args.algorithm.now c.args.file.now c.args.signer c.args.policy.now c.args.nonce.now
+    c.args.certificate c.in_ok-alg.alg
+    c.in_ok-alg.ensures.found are
+    (λ (v : Vec ℕ Global). v.items) c.in_ok-digest.digest _ c.request_of.result c.policy_in.ensures
     c.in_ok-digest.ensures.found c.request_of.ensures.made
 
 pub returns-clause-refused : goal.returns-clause-refused
@@ -45,6 +49,8 @@ returns-clause-refused c =
       is_nonce = c.in_ok-number.ensures.found;
       integer = c.in_ok-number.ensures.formed;
     } in
-    signature_too_long c.args.algorithm.now c.args.file.now c.args.signer c.args.policy.now c.args.nonce.now c.args.certificate c.in_ok-alg.alg
-    c.in_ok-alg.ensures.found are c.in_ok-digest.digest _ c.request_of.result c.policy_in.ensures c.in_ok-digest.ensures.found
+    signature_too_long c.args.algorithm.now c.args.file.now c.args.signer c.args.policy.now c.args.nonce.now
+    c.args.certificate c.in_ok-alg.alg
+    c.in_ok-alg.ensures.found are c.in_ok-digest.digest _ c.request_of.result c.policy_in.ensures
+    c.in_ok-digest.ensures.found
     c.request_of.ensures.refused

@@ -4,7 +4,11 @@ use Rattle.library_calls.proofs.Told.{made_as, memory_of, unmade_as}
 use Rattle.library_calls.proofs.show.tell_signed.Goals as goal
 
 pub returns-in-Ok : goal.returns-in-Ok
-returns-in-Ok c = inl (string_bytes c.in-Ok.lines, c.in-Ok.ensures.shown, made_as _ _ _ _ _ _ _ c.as_bytes.ensures.value c.tell_made.ensures)
+returns-in-Ok c = inl (
+  string_bytes c.in-Ok.lines,
+  c.in-Ok.ensures.shown,
+  made_as _ _ _ _ _ _ _ c.as_bytes.ensures.value c.tell_made.ensures,
+)
 
 pub returns-in-Err : goal.returns-in-Err
 returns-in-Err c = inr (

@@ -16,10 +16,13 @@ use Rattle.cmsproof_c.specs.contracts.answers_seal.AnswersSeal as Sealed
 
 kept_keyless : (at : Ptr) (kept : Kept) → Keyless (kept_owns at kept)
 kept_keyless at None = tt
-kept_keyless at (Some list) =
-    (lies the_row the_send at list, heap.frees.frees (record { memory = record { seal = tt } }) (raw (lone the_row.mir)) at)
+kept_keyless at (Some list) = (
+  lies the_row the_send at list,
+  heap.frees.frees (record { memory = record { seal = tt } }) (raw (lone the_row.mir)) at,
+)
 
 pub send : IsSend Sealed.the_row
 send =
     let O = Sealed.the_type in let all : AllSend (fields O) = (search sendable, tt) in
-    owning_send O all (λ d. kept_keyless d.at d.kept) (λ k. quiet (to O) (exits_of k (fields O)) ((struct_send (shape O) all).leaving k))
+    owning_send O all (λ d. kept_keyless d.at d.kept)
+    (λ k. quiet (to O) (exits_of k (fields O)) ((struct_send (shape O) all).leaving k))

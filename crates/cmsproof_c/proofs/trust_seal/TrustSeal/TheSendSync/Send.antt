@@ -24,4 +24,5 @@ kept_keyless at (Some list) = (
 pub send : IsSend Sealed.the_row
 send =
     let O = Sealed.the_type in let all : AllSend (fields O) = (search sendable, tt) in
-    owning_send O all (λ d. kept_keyless d.at d.kept) (λ k. quiet (to O) (exits_of k (fields O)) ((struct_send (shape O) all).leaving k))
+    owning_send O all (λ d. kept_keyless d.at d.kept)
+    (λ k. quiet (to O) (exits_of k (fields O)) ((struct_send (shape O) all).leaving k))

@@ -133,7 +133,7 @@ class Installing(unittest.TestCase):
 
     def program_says(self):
         """What the program says behind its name: its version, the kit and the sum of the logic that it was proved with."""
-        code = (TOP / "crates" / "cli_grammar" / "src" / "grammar.rt").read_text()
+        code = (TOP / "crates" / "cli_words" / "src" / "grammar.rt").read_text()
         return re.search(r'const VERSION: &str = "(\S+) \((\S+), logic (\S+)\)";', code)
 
     def test_the_toolchain_is_the_one_that_the_documents_name(self):

@@ -7,7 +7,7 @@ those of the whole run, or say what failed, and a run that stops has a beginning
     python3 tools/trying/failing.py [PROGRAM] [--test NAME]
 
 With --test PROGRAM is that of a crate's tests, which `rt ci` builds as out/CRATE_tests, and the test of this name must pass with each
-growth refused, as `--test tests::hostile::the_next_call_gives_all` of memory_tests does.
+growth refused, as `--test tests::memory::the_next_call_gives_all` of failure_tests does.
 A library that stands before the C library's calls does it; it is compiled here (it needs `cc`). A run that met the fault and ends
 with the status 0 must have printed and written all that the command gives; another one must say on the standard error what failed,
 `failed memory` for memory and nothing but that, with status 4, and have printed a beginning at most, and written a beginning at

@@ -1,9 +1,14 @@
-//! What the words of the command line ask for: a task with its values, or help. `cli_grammar` has the words, and the
-//! parser of `clap` finds their values.
+//! The words that the program takes on its command line, as a grammar of `clap`, with the texts of its help; and what the
+//! words that the parser found ask for: a task with its values, or help.
 #![tactic(auto)]
 
+mod arguments;
+mod commands;
+mod grammar;
+mod help;
 mod meaning;
 mod several;
+mod vocabulary;
 mod words;
 
 pub use meaning::{Meaning, meaning_of};

@@ -8,6 +8,7 @@ ghost use Rattle.cli_words.specs.Words.{asks_for_help, command_of, text_command_
 ghost use Rattle.cli_words.specs.Words.{IsWords, Names};
 ghost use Rattle.cli_words.specs.Several.{IsManyIn, each_command_of};
 
+use crate::grammar::command_line;
 use crate::several::{each_in, several_in};
 use crate::words::{
     attach_words, check_words, compare_words, fit_words, match_words, migrate_words,
@@ -16,7 +17,6 @@ use crate::words::{
 use clap::ArgMatches;
 use clap::error::ErrorKind;
 use cli_failures::Failure;
-use cli_grammar::command_line;
 use cli_tasks::{Each, Many, Several, Task, TextTask};
 use std::alloc::Global;
 use std::convert::AsStr;

@@ -1,4 +1,4 @@
-use crate::words::{ALGORITHMS, KINDS, Takes, Word};
+use crate::vocabulary::{ALGORITHMS, KINDS, Takes, Word};
 use clap::{Arg, ArgAction, Command};
 use std::alloc::{AllocError, Global};
 

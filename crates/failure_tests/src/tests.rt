@@ -1,4 +1,6 @@
 //! What the commands do if an output fails, and of values that the words of a command line can't have.
+mod memory;
+
 use cli_commands::{print, run};
 use cli_failures::Failure;
 use cli_tasks::{QuestionsWords, RequestWords, Stamped, Task, TextTask};

@@ -1,3 +1,0 @@
-//! What calls say after a refusal.
-
-mod hostile;

@@ -11,6 +11,7 @@ use std::rt::Files;
 /// The line that says that the two signatures that these words name sign the same.
 ///
 /// The first file is opened and read, then the second, before either is judged.
+#[inline(never)]
 pub fn compare<'a, R: Files + AllocGlobal>(
     rt: &R,
     words: &CompareWords<'a>,

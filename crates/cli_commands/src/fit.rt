@@ -16,6 +16,7 @@ use std::rt::Files;
 ///
 /// The content's file is opened first, then the other one is opened and read, and the content is read last, in pieces
 /// (decision 90 of `docs/DECISIONS.md`).
+#[inline(never)]
 pub fn fit<'a, R: Files + AllocGlobal>(rt: &R, words: &FitWords<'a>) -> Result<String, Failure<'a>>
     ensures fits { IfOk result (λ text. ShowsFit R.File.remaining words.now (string_bytes text)) }
     ensures refused { IfErr result (ShowsUnfit R.File.remaining words.now) }

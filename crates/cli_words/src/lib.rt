@@ -1,5 +1,5 @@
-//! The words that the program takes on its command line, as a grammar of `clap`, with the texts of its help; and what the
-//! words that the parser found ask for: a task with its values, or help.
+//! The words that the program takes on its command line, as a grammar of `clap`, with the texts of its help; and what
+//! the words that the parser found ask for: a task with its values, or help.
 #![tactic(auto)]
 
 mod arguments;

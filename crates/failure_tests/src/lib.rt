@@ -1,5 +1,5 @@
-//! Tests of what commands and calls do if an output fails or memory is refused, and of words that the command line keeps
-//! from commands. There is no code but the tests.
+//! Tests of what commands and calls do if an output fails or memory is refused, and of words that the command line
+//! keeps from commands. There is no code but the tests.
 #![tactic(auto)]
 
 #[cfg(test)]

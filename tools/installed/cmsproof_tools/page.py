@@ -7,7 +7,7 @@ import html
 import json
 from collections import Counter
 from pathlib import Path
-from typing import NamedTuple
+from typing import Any, NamedTuple
 
 from cmsproof_tools import plots
 from cmsproof_tools.certificates import Certificate
@@ -288,6 +288,26 @@ def left_out(tally: Tally, rows: list[Row], bad: int) -> str:
     return f"{missing:,} rows are not in this table{what}: --csv has them. " if missing else ""
 
 
+def files_data(
+    state: State, rows: list[Row], known: dict[Place, Known], acknowledged: Acknowledged | None
+) -> dict[str, list[Any]]:
+    """What the script of the page has of the files: their rows, the lines and the codes of these, authorities, and which rows are new."""
+    lines: dict[str, int] = {}
+    places: dict[str, int] = {}
+    codes: dict[str, str] = {}
+    data = [row_data(state.called(row), row, lines, places, known) for row in rows]
+    for row in rows:
+        if row.line not in codes:
+            codes[row.line] = code_of(row) if row.status != DONE else ""
+    return {
+        "rows": data,
+        "lines": list(lines),
+        "codes": [codes[line] for line in lines],
+        "authorities": [known["tsa", name].subject if ("tsa", name) in known else name for name in places],
+        "new": [] if acknowledged is None else [at for at, row in enumerate(rows) if is_new(state, row, acknowledged)],
+    }
+
+
 def codes_in(tally: Tally) -> str:
     """The choices of a rule in the form over the table."""
     return "".join(f"<option>{html.escape(code)}</option>" for code in sorted(tally.codes))
@@ -299,15 +319,6 @@ def page(state: State, only: str, acknowledged: Acknowledged | None = None) -> s
     bases = state.bases()
     hanging = Hanging(tally.grounds)
     known = known_certificates(state, [bases[number] for number in tally.bases if number in bases], set(hanging.files))
-    lines: dict[str, int] = {}
-    places: dict[str, int] = {}
-    data = [row_data(state.called(row), row, lines, places, known) for row in rows]
-    new = [] if acknowledged is None else [at for at, row in enumerate(rows) if is_new(state, row, acknowledged)]
-    codes: dict[str, str] = {}
-    for row in rows:
-        if row.line not in codes:
-            codes[row.line] = code_of(row) if row.status != DONE else ""
-    authorities = [known["tsa", name].subject if ("tsa", name) in known else name for name in places]
     folder = Path(__file__).parent
     script = (folder / "page.js").read_text(encoding="utf-8")
     said = f"The state {html.escape(shown(state.path))}" + (f", of which only what is {only} is counted" if only else "")
@@ -323,15 +334,7 @@ def page(state: State, only: str, acknowledged: Acknowledged | None = None) -> s
         "@HASH@": base64.b64encode(hashlib.sha256(script.encode()).digest()).decode(),
         "@CODES@": codes_in(tally),
         "@NEW@": '<option value="new">new</option>' if acknowledged is not None else "",
-        "@DATA@": embedded(
-            {
-                "rows": data,
-                "lines": list(lines),
-                "codes": [codes[line] for line in lines],
-                "authorities": authorities,
-                "new": new,
-            }
-        ),
+        "@DATA@": embedded(files_data(state, rows, known, acknowledged)),
         "@SCRIPT@": script,
     }
     return filled((folder / "page.html").read_text(encoding="utf-8"), parts)

@@ -116,11 +116,9 @@ class Rules(WithWorld):
     def test_more_than_get_one(self):
         """Twenty-two signers of one file: a line says, once, that not all get an entry for no time, and a check says S7 of the others."""
         w, people = self.world, [h.issue(f"Q{number}", self.world.sub) for number in range(22)]
-        signers = [h.signed_by(who, [h.type_attribute(h.DATA), h.digest_attribute(h.sha(b"letter"))]) for who in people]
-        bag = b"".join(sorted([*(who.octets for who in people), w.sub.octets]))
+        bag = [*(who.octets for who in people), w.sub.octets]
         for count, lines in ((20, 0), (21, 1), (22, 1)):
-            file = h.signed_data(signers[:count], b"letter", h.DATA, bag)
-            _, told = w.made([file])
+            _, told = w.made([h.together([(who, []) for who in people[:count]], bag)])
             self.assertEqual(sum("no more than 20 certificates get an entry for no time" in line for line in told), lines, told)
             self.assertEqual(len(w.barred), 20)
 

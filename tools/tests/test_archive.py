@@ -165,8 +165,8 @@ class Lines(WithFiles):
             (["--jobs", "-1", "a"], b"", "argument --jobs: -1 is no number from 1 on"),
             (["--jobs", "x", "a"], b"", "argument --jobs: x is no number from 1 on"),
             (["--quick", "a"], b"", "unrecognized arguments: --quick"),
-            (["--state", "-", "a"], b"", "- is no name for --state and --log: write ./-"),
-            (["--log", "-", "a"], b"", "- is no name for --state and --log: write ./-"),
+            (["--state", "-", "a"], b"", "- is no name for --state, --known and --log: write ./-"),
+            (["--log", "-", "a"], b"", "- is no name for --state, --known and --log: write ./-"),
             (
                 ["--program", "./a", "a"],
                 b"",

@@ -609,9 +609,9 @@ running.start("archive")
         self.assertFalse((self.folder / "new").exists())
 
     def test_words(self):
-        for words in (["--since", "2026-01-01"], ["--only", "refused"], ["--recheck"]):
+        for words in (["--since", "2026-01-01"], ["--only", "refused"], ["--recheck"], ["--known", "none"]):
             found = run_tool("cmsproof-archive", "--trust", TRUST, *words, "a")
-            line = "cmsproof-archive: --since, --only and --recheck need --state (see cmsproof-archive --help)\n"
+            line = "cmsproof-archive: --since, --only, --recheck and --known need --state (see cmsproof-archive --help)\n"
             self.assertEqual(found, (3, b"", line))
         # seconds since 1970 as `date +%s` prints them; a moment without its seconds would be another one
         table = [("2026-11-25", 1795564800), ("20261125080648Z", 1795594008), ("19691231235959Z", -1)]

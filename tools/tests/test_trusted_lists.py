@@ -145,14 +145,18 @@ class Lists(WithWorld):
         return (self.world.folder / "template.xml.out").read_bytes()
 
     def said(self, octets, *words, operator=None, files=None):
-        """What cmsproof-trust says: its status, the entries as role and period, and its lines."""
+        """What cmsproof-trust says: its status, the entries as role and period, and its lines. The roles of entries for no time, which trust
+        nobody, are in `barred`."""
         w = self.world
         words = ["--trusted-list", w.put("list.xml", octets), *words]
         words += ["--scheme-operator", w.put("operator.pem", pem(operator))] if operator else []
         status, out, err = run_tool("cmsproof-trust", *words, "--from-files", *(files or [w.put("file.p7s", w.file())]))
         w.text = out
         lines = [line.split(" ") for line in out.decode().split("\n")[1:] if line and not line.startswith("#")]
-        return status, [tuple(line[:3]) for line in lines], err
+        entries = [tuple(line[:3]) for line in lines]
+        no_time = [row for row in entries if row[1] == row[2] and row[1].endswith(".999999999Z")]
+        self.barred = [role for role, *_ in no_time]
+        return status, [row for row in entries if row not in no_time], err
 
     def both(self):
         """The services of Anna's issuer, which is no root, and of Clock."""
@@ -337,6 +341,8 @@ class Lists(WithWorld):
             self.assertEqual(entries, [("tsa", *until), *([("signer", *period)] if period else [])], err)
             _, entries, err = self.said(document(root, clocks, service("TSA/QTST", w.clock, *states)).encode())
             self.assertEqual([role for role, *_ in entries if role == "signer"], ["signer"] * bool(period), err)
+            # (where no stamp passes, the signer is there for no time)
+            self.assertEqual("signer" in self.barred, not period)
         # (a certificate that nobody can read, of a service that was never trusted, is on no path)
         odd = service("CA/QC", short, ("perhaps", "2016-07-01")).replace("<X509Certificate>", "<X509Certificate>MAAA")
         self.assertEqual(len(self.said(document(root, clocks, odd).encode(), files=files)[1]), 2)

@@ -262,6 +262,8 @@ class ByIssuers(unittest.TestCase):
             found = run_tool("cmsproof-archive", *issuers, "--known", "known", "old.p7s", "new.p7s", cwd=folder)
             lines = [name for name in ("new.p7s", "old.p7s") if told.format(name) in found[2]]
             self.assertEqual((found[0], lines), (status, again), (text, found))
+            # (of both files it is said with the first one, so as long as one is new)
+            self.assertEqual("old.p7s: no path for CN=Clock,O=cmsproof, tsa, at" in found[2], status == 1, found)
 
 
 if __name__ == "__main__":

@@ -104,7 +104,10 @@ class Known:
         """What was held of files, but those of which what is acknowledged was met, and nothing else; and if all was looked at, each line of
         the text that met nothing."""
         names = {name for _, name in self.met} - self.others
-        yield from (line for line in self.held if line.partition(": ")[0] not in names)
+        for line in self.held:
+            # (why a certificate has no path is said of the first file with it alone, and the others may be new)
+            if line.partition(": ")[0] not in names or (self.new and ": no path for " in line):
+                yield line
         for (code, name), number in self.lines.items() if whole else ():
             if (code, name) not in self.met:
                 yield f"{shown(self.path)}: line {number}: nothing is refused so: {code} {one_line(name)}"

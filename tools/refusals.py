@@ -7,6 +7,7 @@
 """
 from __future__ import annotations
 
+import re
 import sys
 from pathlib import Path
 
@@ -15,7 +16,20 @@ sys.path[:0] = [str(TOP / "tools" / "installed")]
 from cmsproof_tools.cures import ROWS  # noqa: E402
 
 PAGE = TOP / "docs" / "REFUSALS.md"
+# A cure of more words stands once in the page: later rows name the code whose cure it is.
+LONG = 16
 HEAD = ("| Code | When, and who causes it | Cure |", "|---|---|---|")
+
+
+def rows() -> list[tuple[str, str]]:
+    """The section and the line of each row."""
+    lines, first = [], {}
+    for row in ROWS:
+        code = re.match("[A-Z][0-9]+", row.codes)[0]
+        said = first.setdefault(row.cure, code)
+        cure = row.cure if said == code or len(row.cure.split()) <= LONG else f"as {said}"
+        lines.append((row.section, f"| {row.codes} | {row.when} | {cure} |"))
+    return lines
 
 
 def tables(text: str) -> str:
@@ -30,7 +44,7 @@ def tables(text: str) -> str:
         if line == HEAD[0]:
             inside = True
             lines.append(HEAD[1])
-            lines += [f"| {row.codes} | {row.when} | {row.cure} |" for row in ROWS if row.section == section]
+            lines += [row for where, row in rows() if where == section]
     return "\n".join(lines) + "\n"
 
 

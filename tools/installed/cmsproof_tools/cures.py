@@ -28,7 +28,10 @@ class Row(NamedTuple):
     cure: str
 
 
-AGAIN = "`openssl cms -cmsout -inform DER -in FILE -outform DER -out NEW` writes it again, in DER"
+WRITE_AGAIN = (
+    "`openssl cms -cmsout -inform DER -in FILE -outform DER -out NEW` writes it again, in DER; "
+    "`cmsproof-archive` does so itself. Of a token see K1"
+)
 NO_CURE = (
     "none: such octets are mostly signed, in a certificate or a token, and others there break the "
     "signature. Ask whoever made the file for one in DER"
@@ -73,14 +76,14 @@ ROWS = (
         "M3 Indefinite",
         "a length is left open: BER, as programs write it that stream, Bouncy Castle by default, `openssl "
         "cms -sign -stream`",
-        AGAIN + "; `cmsproof-archive` does so itself. Of a token see K1",
+        WRITE_AGAIN,
     ),
     Row(
         "3",
         "M4 LengthForm",
         "a length is not in its shortest form, which is BER of programs that reserve room for it; or it "
         "takes more than four octets",
-        AGAIN + "; `cmsproof-archive` does so itself",
+        WRITE_AGAIN,
     ),
     Row(
         "3",
@@ -258,7 +261,7 @@ ROWS = (
         "6",
         "K5 RULE",
         "its signer fails this one of S1 to S6, mostly S5: the authority signed with SHA-1",
-        "`--sha1` allows that; else " + STAMP_AGAIN,
+        "`--sha1` allows that; else stamp again by an authority that does it right",
     ),
     Row("6", "K6 FAULT", "its content is not a TSTInfo in DER", STAMP_AGAIN),
     Row("6", "K7 CriticalExtension", "its TSTInfo has a critical extension; none is understood here", STAMP_AGAIN),

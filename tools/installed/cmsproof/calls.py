@@ -2,22 +2,20 @@
 from __future__ import annotations
 
 import ctypes
-from dataclasses import dataclass
-from typing import Any, Callable, Optional, cast
+from typing import Any, Callable, NamedTuple, Optional, cast
 
 from cmsproof import library as lib
-from cmsproof.lists import TrustList, answers_held
-from cmsproof.octets import Given, Octets, octets_if_any, octets_of
+from cmsproof.lists import TrustList, refused
+from cmsproof.octets import Given, Octets, octets_if_any, octets_of, of_bytes
 from cmsproof.verdicts import Unexpected, Verdict, verdict_of
-from cmsproof.verifiers import Verifier, vouched
-from cmsproof_tools.texts import Question, answers_text, read_questions
+from cmsproof.verifiers import Verifier, Vouching, vouching
+from cmsproof_tools.texts import Question, answers_of, read_questions
 
-# what a first try of a text has room for, and of a line, which is shorter
-ROOM, LINE = 1 << 13, 1 << 9
+# what a first try of a text has room for: the questions of a file of few signers
+ROOM = 1 << 13
 
 
-@dataclass(frozen=True)
-class Questions:
+class Questions(NamedTuple):
     """What a verifier is asked about a file.
 
     text   as `cmsproof questions` prints it; empty if nothing can be asked
@@ -30,19 +28,73 @@ class Questions:
     code: Optional[str]
 
 
-def written(call: Callable[..., int], *words: Any, room: int = ROOM) -> tuple[int, lib.Answer, bytes]:
-    """The status, numbers and text of a call that makes a text: tried with little room, and again with as much as it says."""
-    while True:
-        text, length, answer = (ctypes.c_char * room)(), ctypes.c_size_t(), lib.Answer()
-        status = call(*words, text, room, length, answer)
-        if status == lib.NO_ROOM and length.value > room:
-            room = length.value
-            continue
+class Room:
+    """What calls write into: a text, the numbers of an answer, and an answers list. One check at a time has it, in any thread."""
+
+    def __init__(self) -> None:
+        self.length, self.answer, self.answers = ctypes.c_size_t(), lib.Answer(), lib.Handle()
+        self.to_answer, self.to_answers = ctypes.byref(self.answer), ctypes.byref(self.answers)
+        self.make(ROOM)
+
+    def make(self, size: int) -> None:
+        """Makes room for so many octets of a text."""
+        self.text, self.size = (ctypes.c_char * size)(), size
+        self.words = ctypes.c_void_p(ctypes.addressof(self.text)), size, ctypes.byref(self.length), self.to_answer
+
+    def written(self, call: Callable[..., int], *words: Any) -> tuple[int, bytes]:
+        """The status and text of a call that makes a text: tried with the room that is there, and again with as much as it says."""
+        status = call(*words, *self.words)
+        while status == lib.NO_ROOM and self.length.value > self.size:
+            self.make(self.length.value)
+            status = call(*words, *self.words)
         if status == lib.NO_MEMORY:
             raise MemoryError("libcmsproof was refused memory")
-        if status in (lib.NO_ROOM, lib.NO_LIST) or length.value > room:
-            raise Unexpected(f"the library said status {status} with a length of {length.value}")
-        return status, answer, cast(bytes, text[: length.value])
+        length = self.length.value
+        if status in (lib.NO_ROOM, lib.NO_LIST) or length > self.size:
+            raise Unexpected(f"the library said status {status} with a length of {length}")
+        return status, cast(bytes, self.text[:length])
+
+    def checked(self, trust: TrustList, octets: Octets, rest: tuple[Any, ...], verifier: Vouching) -> tuple[int, bytes]:
+        """The status and line of a check, whose numbers are in `answer`: what must be verified is asked, answered and handed in. `rest` is
+        what `cmsproof_check` takes behind the file."""
+        held, loaded = trust.held, lib.library()
+        with held.lock:
+            status, text = self.written(loaded.cmsproof_questions, held.handle, *octets)
+        # (of a file of which nothing can be asked, `check` says why)
+        answers = verifier.answers(text) if status == lib.DONE else answers_of([])
+        try:
+            status = loaded.cmsproof_answers_read(self.to_answers, answers, len(answers), self.to_answer)
+            if status != lib.DONE:
+                raise refused("answers", status, self.answer)
+            with held.lock:
+                return self.written(loaded.cmsproof_check, held.handle, self.to_answers, *octets, *rest)
+        finally:
+            loaded.cmsproof_answers_free(self.to_answers)
+
+
+# those that nobody has now: taken and put back whole, so that neither a thread nor a signal's check gets one that is in use
+SPARE: list[Room] = []
+
+
+def room() -> Room:
+    """A room that is nobody else's."""
+    try:
+        return SPARE.pop()
+    except IndexError:
+        return Room()
+
+
+def give_back(used: Room) -> None:
+    """Leaves a room to the next check, unless it was made large."""
+    if used.size == ROOM:
+        SPARE.append(used)
+
+
+def written(call: Callable[..., int], *words: Any) -> tuple[int, lib.Answer, bytes]:
+    """The status, numbers and text of a call that makes a text."""
+    own = Room()
+    status, text = own.written(call, *words)
+    return status, own.answer, text
 
 
 def asked_of(trust: TrustList, octets: Octets) -> tuple[int, lib.Answer, bytes]:
@@ -76,13 +128,14 @@ def check(
     `verifier` is asked each question once, and only True vouches; "openssl" is OpenSSL, through Python's library `cryptography`.
     `sha1` lets SHA-1 count as a digest of contents and stamps. Raises OSError for a file that cannot be read or that is changed meanwhile, and what the verifier raises.
     """
-    with octets_of(file) as octets, octets_if_any(content) as beside:
-        status, _, text = asked_of(trust, octets)
-        # (of a file of which nothing can be asked, `check` says why)
-        asked = read_questions(text) if status == lib.DONE else []
-        answers = answers_text(vouched(asked, verifier))
-        with answers_held(answers) as list_of_answers, trust.held.taken() as list_of_trust:
-            words = (list_of_trust, list_of_answers, *octets, *beside, content is not None, sha1)
-            said = written(lib.library().cmsproof_check, *words, room=LINE)
-    # (only here, where the files are known to be as they were)
-    return verdict_of(*said)
+    asked, own = vouching(verifier), room()
+    try:
+        if type(file) is bytes and content is None:
+            status, line = own.checked(trust, of_bytes(file), (b"", 0, False, sha1), asked)
+            return verdict_of(status, own.answer, line)
+        with octets_of(file) as octets, octets_if_any(content) as beside:
+            status, line = own.checked(trust, octets, (*beside, content is not None, sha1), asked)
+        # (only here, where the files are known to be as they were)
+        return verdict_of(status, own.answer, line)
+    finally:
+        give_back(own)

@@ -88,6 +88,13 @@ class ListRefused(ValueError):
         return f"{self.what} {self.code}{f' {name}' if name else ''} at line {self.line}"
 
 
+def refused(what: str, status: int, said: lib.Answer) -> Exception:
+    """What is raised where the library took a text for no such list, or was refused memory."""
+    if status == lib.NO_MEMORY:
+        return MemoryError("libcmsproof was refused memory")
+    return ListRefused(what, f"{chr(said.letter)}{said.number}" if said.letter else f"status {status}", said.line)
+
+
 def handle_of(what: str, text: bytes) -> lib.Handle:
     """A list that the library has read, whose memory is to be freed. Raises ListRefused if the text is none."""
     loaded, handle, said = lib.library(), lib.Handle(), lib.Answer()
@@ -95,9 +102,7 @@ def handle_of(what: str, text: bytes) -> lib.Handle:
     if status == lib.DONE:
         return handle
     getattr(loaded, f"cmsproof_{what}_free")(handle)
-    if status == lib.NO_MEMORY:
-        raise MemoryError("libcmsproof was refused memory")
-    raise ListRefused(what, f"{chr(said.letter)}{said.number}" if said.letter else f"status {status}", said.line)
+    raise refused(what, status, said)
 
 
 @contextmanager

@@ -101,8 +101,10 @@ class File:
 
     def copied(self) -> bytes:
         """All octets of a file that is short, and one more if it is longer than it said."""
-        pieces = [os.read(self.descriptor, self.found.st_size + 1)]
-        left = self.found.st_size - len(pieces[0])
+        first = os.read(self.descriptor, self.found.st_size + 1)
+        pieces, left = [first], self.found.st_size - len(first)
+        if left == 0:
+            return first
         while left > 0 and (piece := os.read(self.descriptor, left + 1)):
             pieces.append(piece)
             left -= len(piece)

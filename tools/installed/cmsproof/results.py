@@ -1,8 +1,7 @@
 """What the calls beside `check` say: a result, whose parts come from the library's numbers and whose line is the program's."""
 from __future__ import annotations
 
-from dataclasses import dataclass, replace
-from typing import Optional
+from typing import NamedTuple, Optional
 
 from cmsproof import library as lib
 from cmsproof.verdicts import Unexpected, code_of
@@ -26,8 +25,7 @@ STATUSES = {
 }
 
 
-@dataclass(frozen=True)
-class Result:
+class Result(NamedTuple):
     """What a call says.
 
     done     whether it is what was asked for: the content fits, the response answers, the signers sign the same, octets were made
@@ -52,7 +50,7 @@ class Result:
 
     def with_octets(self, octets: bytes) -> "Result":
         """The same with the octets that were made."""
-        return replace(self, octets=octets)
+        return self._replace(octets=octets)
 
 
 def result_of(status: int, answer: lib.Answer, text: bytes) -> Result:

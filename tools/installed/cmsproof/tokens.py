@@ -12,8 +12,8 @@ from cmsproof.calls import asked_of
 from cmsproof.lists import TrustList, answers_held
 from cmsproof.octets import Given, Octets, octets_of, of_bytes
 from cmsproof.verdicts import STATUSES, WORDS, Unexpected, Verdict, moment_of, time_text
-from cmsproof.verifiers import Verifier, cryptography_verifier, vouched
-from cmsproof_tools.texts import Question, answers_text, read_questions
+from cmsproof.verifiers import Verifier, cryptography_verifier, vouching
+from cmsproof_tools.texts import Question, answers_of, answers_text
 
 # the names of the rules (docs/REFUSALS.md), by their numbers
 KINDS = "End HighTag Indefinite LengthForm Overrun Tag Trailing Integer Oid Boolean Bits Time Value Order Empty".split()
@@ -52,10 +52,10 @@ def line_of(answer: lib.Answer) -> str:
     return f"refused K{answer.number} {name_of(answer)}"
 
 
-def said_of(token: Octets, stamped: Octets, trust: TrustList, good: Iterable[Question], sha1: bool) -> lib.Answer:
-    """What the library says of a token, once the questions whose signatures are good are handed in."""
+def said_of(token: Octets, stamped: Octets, trust: TrustList, answers: bytes, sha1: bool) -> lib.Answer:
+    """What the library says of a token, once the questions whose signatures are good are handed in, as an answers list."""
     answer = lib.Answer()
-    with answers_held(answers_text(good)) as list_of_answers, trust.held.taken() as list_of_trust:
+    with answers_held(answers) as list_of_answers, trust.held.taken() as list_of_trust:
         status = lib.library().cmsproof_check_token(list_of_trust, list_of_answers, *token, *stamped, sha1, answer)
     if answer.verdict not in (lib.ACCEPTED, lib.REFUSES) or status != STATUSES[answer.verdict]:
         raise Unexpected(f"the library said status {status} and verdict {answer.verdict} of a token")
@@ -67,7 +67,7 @@ def token_time(
 ) -> Optional[str]:
     """The time of a token that passes for what was stamped, as a trust list writes it, or None where it does not pass. The
     questions whose signatures are good are handed in."""
-    said = said_of(of_bytes(token), of_bytes(stamped), trust, vouched, sha1)
+    said = said_of(of_bytes(token), of_bytes(stamped), trust, answers_text(vouched), sha1)
     return time_text(said.seconds, said.nanoseconds) if said.verdict == lib.ACCEPTED else None
 
 
@@ -83,16 +83,17 @@ def check_token(
 
     The words are those of `check`. Raises what `check` raises.
     """
+    asked = vouching(verifier)
     with octets_of(token) as octets, octets_of(stamped) as under:
         status, _, text = asked_of(authorities_of(trust), octets)
-        asked = read_questions(text) if status == lib.DONE else []
-        answer = said_of(octets, under, trust, vouched(asked, verifier), sha1)
+        answers = asked.answers(text) if status == lib.DONE else answers_of([])
+        answer = said_of(octets, under, trust, answers, sha1)
     line, accepted = line_of(answer), answer.verdict == lib.ACCEPTED
     words = line.split(" ", 2)
     return Verdict(
         accepted=accepted,
         verdict=WORDS[answer.verdict],
-        moment=moment_of(answer, line) if accepted else None,
+        moment=moment_of(answer) if accepted else None,
         nanoseconds=answer.nanoseconds if accepted else None,
         code=None if accepted else words[1],
         name="" if accepted else words[2],

@@ -1,16 +1,17 @@
 """What a call says of a file: a verdict, whose parts come from the library's numbers and whose line is the program's."""
 from __future__ import annotations
 
-from dataclasses import dataclass
 from datetime import datetime, timedelta, timezone
-from typing import Optional
+from functools import lru_cache
+from typing import NamedTuple, Optional
 
 from cmsproof import library as lib
 
 START = datetime(1970, 1, 1)
 EPOCH = START.replace(tzinfo=timezone.utc)
 # the seconds at which the year 0001 begins, the first one that a datetime has, and those from 0000 to 0004, which has the same calendar
-YEAR_1, FOUR_YEARS = -62135596800, (4 * 365 + 1) * 86400
+DAY = 86400
+YEAR_1, FOUR_YEARS = -62135596800, (4 * 365 + 1) * DAY
 WORDS = {lib.ACCEPTED: "accepted", lib.REFUSES: "refused", lib.IS_MALFORMED: "malformed", lib.FAILS: "failed"}
 # the status that goes with each verdict
 STATUSES = {lib.ACCEPTED: lib.DONE, lib.REFUSES: lib.REFUSED, lib.IS_MALFORMED: lib.MALFORMED, lib.FAILS: lib.FAILED}
@@ -20,8 +21,7 @@ class Unexpected(RuntimeError):
     """The library said something that include/cmsproof.h does not have: no verdict."""
 
 
-@dataclass(frozen=True)
-class Verdict:
+class Verdict(NamedTuple):
     """What a check says.
 
     accepted     whether each signature existed by a moment, and that moment is shown; the only field that says so
@@ -49,22 +49,28 @@ class Verdict:
         raise TypeError("a verdict is neither true nor false: ask for .accepted, or compare .verdict")
 
 
-def time_text(seconds: int, nanoseconds: int) -> str:
-    """A moment as the program writes it, without `accepted`; the year 0000 is what no datetime has."""
+@lru_cache(maxsize=4096)
+def day_text(days: int) -> str:
+    """The day so many days after 1970-01-01 as eight digits; the year 0000 is what no datetime has."""
+    seconds = days * DAY
     year = "0000" if seconds < YEAR_1 else ""
     # (by the calendar of datetime, since `gmtime` heeds TZ where that counts leap seconds)
-    moment = START + timedelta(0, seconds + FOUR_YEARS if year else seconds)
-    text = moment.isoformat().replace("-", "").replace(":", "").replace("T", "")
+    day = START + timedelta(0, seconds + FOUR_YEARS if year else seconds)
+    text = day.isoformat()[:10].replace("-", "")
+    return f"{year or text[:4]}{text[4:]}"
+
+
+def time_text(seconds: int, nanoseconds: int) -> str:
+    """A moment as the program writes it, without `accepted`."""
+    days, rest = divmod(seconds, DAY)
     fraction = "." + f"{nanoseconds:09}".rstrip("0") if nanoseconds else ""
-    return f"{year or text[:4]}{text[4:]}{fraction}Z"
+    return f"{day_text(days)}{rest // 3600:02}{rest // 60 % 60:02}{rest % 60:02}{fraction}Z"
 
 
-def moment_of(answer: lib.Answer, line: str) -> Optional[datetime]:
-    """The moment of an accepted file, if the line and the numbers say the same one."""
-    seconds, nanoseconds = answer.seconds, answer.nanoseconds
-    if line != "accepted " + time_text(seconds, nanoseconds):
-        raise Unexpected(f"the line {line!r} and the numbers of the library differ")
-    return None if seconds < YEAR_1 else EPOCH + timedelta(0, seconds, nanoseconds // 1000)
+def moment_of(answer: lib.Answer) -> Optional[datetime]:
+    """The moment of an accepted file."""
+    seconds = answer.seconds
+    return None if seconds < YEAR_1 else EPOCH + timedelta(0, seconds, answer.nanoseconds // 1000)
 
 
 def code_of(answer: lib.Answer) -> Optional[str]:
@@ -76,10 +82,12 @@ def code_of(answer: lib.Answer) -> Optional[str]:
 
 def verdict_of(status: int, answer: lib.Answer, text: bytes) -> Verdict:
     """The verdict of a check's status, numbers and line, which must agree."""
-    word, line = WORDS.get(answer.verdict), text.decode("ascii", "replace")
+    word, code = WORDS.get(answer.verdict), code_of(answer)
     if word is None or STATUSES[answer.verdict] != status:
         raise Unexpected(f"the library said status {status} and verdict {answer.verdict}")
-    code = code_of(answer)
+    if answer.verdict == lib.ACCEPTED:
+        return accepted_of(answer, code, text)
+    line = text.decode("ascii", "replace")
     if (
         line.count("\n") != 1
         or not line.endswith("\n")
@@ -88,15 +96,14 @@ def verdict_of(status: int, answer: lib.Answer, text: bytes) -> Verdict:
     ):
         raise Unexpected(f"the library said {word} {code or ''}, and the line {line!r}")
     line = line.rstrip("\n")
-    accepted = answer.verdict == lib.ACCEPTED
-    return Verdict(
-        accepted=accepted,
-        verdict=word,
-        moment=moment_of(answer, line) if accepted else None,
-        nanoseconds=answer.nanoseconds if accepted else None,
-        code=code,
-        name=line.partition(f" {code} ")[2] if code else "",
-        signer=answer.signer or None,
-        token=answer.token or None,
-        line=line,
-    )
+    name = line.partition(f" {code} ")[2] if code else ""
+    return Verdict(False, word, None, None, code, name, answer.signer or None, answer.token or None, line)
+
+
+def accepted_of(answer: lib.Answer, code: Optional[str], text: bytes) -> Verdict:
+    """The verdict of an accepted file, whose line is made of the numbers and must be the library's."""
+    line = "accepted " + time_text(answer.seconds, answer.nanoseconds)
+    if code or text != line.encode() + b"\n":
+        raise Unexpected(f"the line {text!r} and the numbers of the library differ")
+    signer, token = answer.signer or None, answer.token or None
+    return Verdict(True, "accepted", moment_of(answer), answer.nanoseconds, None, "", signer, token, line)

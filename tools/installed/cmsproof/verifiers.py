@@ -3,11 +3,20 @@ from __future__ import annotations
 
 from typing import Callable, Iterable, Union
 
-from cmsproof_tools.texts import Question
+from cmsproof_tools.texts import Question, answers_of, answers_text, lines_asked, read_questions
+
+
+class Vouching:
+    """A verifier of all questions of a file at once."""
+
+    def answers(self, text: bytes) -> bytes:
+        """The answers list for a questions text: the lines whose signatures hold, as they are."""
+        raise NotImplementedError
+
 
 # Whether the signature of a question is good under its key: anything but True is no. The text "openssl" is OpenSSL, asked through
 # Python's library `cryptography`.
-Verifier = Union[str, Callable[[Question], bool]]
+Verifier = Union[str, Callable[[Question], bool], Vouching]
 
 
 def cryptography_verifier(question: Question) -> bool:
@@ -20,18 +29,40 @@ def cryptography_verifier(question: Question) -> bool:
         return False
 
 
-def called(verifier: Verifier) -> Callable[[Question], bool]:
+class ByCryptography(Vouching):
+    """As `cryptography_verifier`, of all questions of a file."""
+
+    def answers(self, text: bytes) -> bytes:
+        """The answers list for a questions text."""
+        from cmsproof_tools import verifying
+
+        return answers_of(line for line in lines_asked(text) if verifying.fault_in(line) is None)
+
+
+class ByFunction(Vouching):
+    """A verifier that is asked each question by itself."""
+
+    def __init__(self, asked: Callable[[Question], bool]) -> None:
+        self.asked = asked
+
+    def answers(self, text: bytes) -> bytes:
+        """The answers list for a questions text."""
+        return answers_text(vouched(read_questions(text), self.asked))
+
+
+def vouching(verifier: Verifier) -> Vouching:
     """The verifier that is meant. Raises ValueError for the name of another one, and TypeError for what cannot be asked."""
+    if isinstance(verifier, Vouching):
+        return verifier
     if verifier == "openssl":
-        return cryptography_verifier
+        return ByCryptography()
     if isinstance(verifier, str):
         raise ValueError(f'no verifier is called {verifier!r}: "openssl" is one, and so is each function of a question')
     if not callable(verifier):
         raise TypeError(f'a verifier is "openssl" or a function, and not {type(verifier).__name__}')
-    return verifier
+    return ByFunction(verifier)
 
 
-def vouched(questions: Iterable[Question], verifier: Verifier) -> list[Question]:
+def vouched(questions: Iterable[Question], verifier: Callable[[Question], bool]) -> list[Question]:
     """The questions for which a verifier answers True itself, not something that counts as true."""
-    asked = called(verifier)
-    return [question for question in questions if asked(question) is True]
+    return [question for question in questions if verifier(question) is True]

@@ -7,17 +7,17 @@ import json
 import os
 from contextlib import ExitStack
 from functools import partial
-from typing import Any, Callable, Iterable, Iterator, cast
+from typing import Any, Iterable
 
 from cmsproof import ListRefused, TrustList
 from cmsproof.octets import File
 from cmsproof_tools import descriptors
-from cmsproof_tools.checking import Unread, Work, all_noted, content_named, outcomes_of
+from cmsproof_tools.checking import Unread, Work, content_named, outcomes_of
 from cmsproof_tools.descriptors import path_of
 from cmsproof_tools.folders import files_under
 from cmsproof_tools.issuer_words import add_words, asked_of, goes_with_issuers, names_issuers
 from cmsproof_tools.known import Known
-from cmsproof_tools.outcomes import Outcome, json_lines, lost, named, text_lines
+from cmsproof_tools.outcomes import json_lines, lost, named, text_lines
 from cmsproof_tools.pairs import USUAL, Pairs, ending_of, rows_of
 from cmsproof_tools.progress import Progress
 from cmsproof_tools.resuming import Resume, moment_of
@@ -25,7 +25,7 @@ from cmsproof_tools.rows import Noting, keys_of
 from cmsproof_tools.running import DONE, FAILED, MALFORMED, USAGE, Started, Stop, Words
 from cmsproof_tools.running import check_kept, module, read, shown, tell, write
 from cmsproof_tools.state import VERDICTS, Basis, State, beside
-from cmsproof_tools.verify import UNHOLDING
+from cmsproof_tools.telling import COMPLAINTS, LINES, STATUS, VERDICT, Told, all_told, told_beside, told_of
 from cmsproof_tools.workers import Workers
 
 ABOUT = """Checks signed files: has the library libcmsproof say what must be verified, as `cmsproof questions` does, verifies it as
@@ -131,46 +131,28 @@ def trust_by(tool: str, given: argparse.Namespace, named: TrustList | None, name
     return made
 
 
-def complaints(outcomes: list[Outcome]) -> Iterator[str]:
-    """What is not in the lines of a file, each thing once: a file can have any number of signers."""
-    for outcome in outcomes:
-        if outcome.faults or outcome.kind or outcome.notes:
-            unjudged = [f"a signature is {fault}" for fault in outcome.faults if fault != UNHOLDING]
-            for text in dict.fromkeys((*unjudged, *filter(None, [outcome.kind]), *outcome.notes)):
-                yield f"{outcome.called}: {text}"
-
-
-def print_lines(tool: str, several: list[list[Outcome]], line_of: Callable[[Outcome], str], known: Known | None = None) -> None:
-    """Writes the lines of some files at once, but those of a file behind what is said of it on standard error; nothing is said there of
-    what is acknowledged."""
-    lines: list[str] = []
-    for outcomes in several:
-        for text in complaints(outcomes if known is None else known.without(outcomes)):
-            write("-", "".join(lines).encode())
+def print_lines(tool: str, several: list[Told]) -> None:
+    """Writes the lines of some files at once, but those of a file behind what is said of it on standard error."""
+    lines: list[bytes] = []
+    for told in several:
+        if told[COMPLAINTS]:
+            write("-", b"".join(lines))
             lines.clear()
-            tell(tool, text)
-        lines += [line_of(outcome) + "\n" for outcome in outcomes]
-    write("-", "".join(lines).encode())
+            for text in told[COMPLAINTS]:
+                tell(tool, text)
+        lines.append(told[LINES])
+    write("-", b"".join(lines))
 
 
-def checked(
-    tool: str,
-    found: Iterable[list[list[Outcome]]],
-    progress: Progress,
-    line_of: Callable[[Outcome], str],
-    known: Known | None = None,
-) -> int:
-    """Writes the line of each outcome of each file, of some files at a time, and answers the worst status of those that are not
-    acknowledged."""
+def checked(tool: str, found: Iterable[list[Told]], progress: Progress, known: Known | None = None) -> int:
+    """Writes the lines of each file, of some files at a time, and answers the worst status of what is not acknowledged."""
     worst = DONE
-    for several in found:
+    for batch in found:
+        several = batch if known is None else [told_beside(known, told) for told in batch]
         progress.put("")
-        print_lines(tool, several, line_of, known)
-        for outcomes in several:
-            ended = max(outcomes, key=lambda outcome: outcome.status, default=None)
-            progress.step("content" if ended is None else ended.line)
-            status = DONE if ended is None else ended.status
-            worst = max(worst, status if known is None or status == DONE else known.add(outcomes))
+        print_lines(tool, several)
+        progress.steps([told[VERDICT] for told in several])
+        worst = max([worst, *(told[STATUS] for told in several)])
     progress.end("" if known is None else known.text())
     return worst
 
@@ -338,25 +320,26 @@ def resumed(tool: str, given: Any, stack: ExitStack, work: Work, known: Known | 
     return Resume(tool, state, given, work, known), work._replace(noting=Noting(keys_of(trusted), content, {}))
 
 
-def outcomes(tool: str, given: Any, work: Work, names: list[str], stack: ExitStack) -> Iterable[list[list[Outcome]]]:
+def outcomes(tool: str, given: Any, work: Work, names: list[str], stack: ExitStack) -> Iterable[list[Told]]:
     """What is said of each file, of some at a time, by workers of this machine or of others."""
     # What names a descriptor is opened before there are workers, which have others.
     places = [name for several in (names, work.pairs.named.values()) for name in several if name.startswith(PLACES)]
     own = [name for name in dict.fromkeys(places) if descriptors.number_named(name) is not None]
+    line_of, is_known = json_lines if given.json else text_lines, given.known is not None
+    told = partial(told_of, line_of=line_of, is_kept=work.noting is not None, is_known=is_known)
     if given.dask is None:
         work.opened.update({name: opened_now(name) for name in own})
-        workers = Workers(min(given.jobs, len(names)), partial(outcomes_of, work), partial(all_noted, work))
-        return stack.enter_context(workers).batches(names, lost)
+        finish = partial(all_told, work, line_of, is_known=is_known)
+        workers = Workers(min(given.jobs, len(names)), partial(outcomes_of, work), finish)
+        return stack.enter_context(workers).batches(names, lambda name, by: told(lost(name, by)))
     if own:
         raise Stop(USAGE, f"{shown(own[0])} is a descriptor, which workers of Dask do not have")
     cluster = module("cluster")
     terms = cluster.terms_of(work)
-    found = (
-        stack.enter_context(cluster.Cluster(tool, given.dask, work.trust.text, terms)).batches(names, work.contents)
-        if names
-        else []
-    )
-    return cast("Iterable[list[list[Outcome]]]", found)
+    if not names:
+        return []
+    found = stack.enter_context(cluster.Cluster(tool, given.dask, work.trust.text, terms)).batches(names, work.contents)
+    return ([told(outcomes) for outcomes in several] for several in found)
 
 
 def run(tool: str, given: Any, work: Work, names: list[str], resume: Resume | None, known: Known | None) -> int:
@@ -366,8 +349,7 @@ def run(tool: str, given: Any, work: Work, names: list[str], resume: Resume | No
     progress = Progress(tool, len(due), asked, given.log, None if resume is None else resume.kept)
     with ExitStack() as stack:
         found = outcomes(tool, given, work, due, stack)
-        kept = found if resume is None else resume.kept_of(due, found)
-        worst = checked(tool, kept, progress, json_lines if given.json else text_lines, known)
+        worst = checked(tool, found if resume is None else resume.kept_of(due, found), progress, known)
     worst = worst if resume is None else max(worst, resume.worst)
     return worst if known is None else known.status(worst)
 

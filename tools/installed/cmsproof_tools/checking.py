@@ -9,6 +9,7 @@ from typing import ContextManager, Iterator, NamedTuple, Sequence, Union
 
 import cmsproof
 from cmsproof.octets import Buffer, Changed, File
+from cmsproof.verifiers import Vouching
 from cmsproof_tools import descriptors
 from cmsproof_tools.descriptors import path_of
 from cmsproof_tools.finding import again_in_der, found_in
@@ -20,8 +21,7 @@ from cmsproof_tools.pairs import Pairs
 from cmsproof_tools.deciding import content_sum, grounds_of
 from cmsproof_tools.rows import NOTHING, Noting, Record, joined, now, steady
 from cmsproof_tools.running import DONE, FAILED, MALFORMED, REFUSED, Started, module, shown
-from cmsproof_tools.texts import Question
-from cmsproof_tools.verify import fault_of
+from cmsproof_tools.texts import answers_of, lines_asked, question_of
 
 STATUSES = {"accepted": DONE, "refused": REFUSED, "malformed": MALFORMED, "failed": FAILED}
 
@@ -54,22 +54,25 @@ class Work(NamedTuple):
     noting: Union[Noting, None] = None
 
 
-class Judge:
-    """A verifier that keeps count: how often it was asked, what it vouched for, and why not for the others."""
+class Judge(Vouching):
+    """A verifier that keeps count: how many questions there were, the lines that it vouched for, and why not for the others."""
 
     def __init__(self) -> None:
         self.asked = 0
         self.faults: list[str] = []
-        self.vouched: list[Question] = []
+        self.vouched: list[bytes] = []
 
-    def __call__(self, question: Question) -> bool:
-        fault = fault_of(question)
-        self.asked += 1
-        if fault is not None:
-            self.faults.append(fault)
-            return False
-        self.vouched.append(question)
-        return True
+    def answers(self, text: bytes) -> bytes:
+        """The answers list for a questions text."""
+        fault_in = module("verifying").fault_in
+        for line in lines_asked(text):
+            self.asked += 1
+            fault = fault_in(line)
+            if fault is None:
+                self.vouched.append(line)
+            else:
+                self.faults.append(fault)
+        return answers_of(self.vouched)
 
 
 def unread(name: str, error: OSError) -> Unread:
@@ -77,14 +80,14 @@ def unread(name: str, error: OSError) -> Unread:
     return Unread("read", name, str(error).removeprefix(f"{name}: ") if isinstance(error, Changed) else "")
 
 
-def file_at(descriptor: int, name: str) -> File:
-    """The file of a descriptor that need not be open for reading. Raises Unread where it cannot be read."""
+def file_at(descriptor: int, name: str, found: Union[os.stat_result, None] = None) -> File:
+    """The file of a descriptor that need not be open for reading, and of which this was said. Raises Unread where it cannot be read."""
     try:
         reading = os.open(path_of(descriptor), os.O_RDONLY | os.O_CLOEXEC)
     except OSError as error:
         raise Unread("open", name) from error
     try:
-        found = os.fstat(reading)
+        found = found or os.fstat(reading)
         if not stat.S_ISCHR(found.st_mode):
             return File(reading, name, found)
         # the device that is always empty
@@ -164,11 +167,11 @@ def open_file(work: Work, name: str) -> Opened:
     try:
         if isinstance(given, Exception):
             raise given
-        descriptor = descriptors.reached(name) if given is None else given
+        descriptor, found = descriptors.reached_as(name) if given is None else (given, None)
     except (OSError, descriptors.Unfit) as error:
         raise unopened(name, error) from error
     try:
-        return Opened(file_at(descriptor, name))
+        return Opened(file_at(descriptor, name, found))
     finally:
         if given is None:
             os.close(descriptor)
@@ -237,19 +240,19 @@ class Reading(NamedTuple):
 
 
 class Draft(NamedTuple):
-    """What a record is made of: the file, what was found in it, its content, the line of the library, and what was vouched for. Nothing
-    was found where a front end judged the whole file."""
+    """What a record is made of: the file, what was found in it, its content, the line of the library, and the lines of the questions that
+    were vouched for. Nothing was found where a front end judged the whole file."""
 
     reading: Reading
     found: Union[Found, None] = None
     content: Union[Buffer, None] = None
     line: str = ""
-    vouched: Sequence[Question] = ()
+    vouched: Sequence[bytes] = ()
 
 
 def record_of(work: Work, noting: Noting, draft: Draft) -> Record:
     """What a state keeps of a part of a file."""
-    (file, beside, begun), found, content, line, vouched = draft
+    (file, beside, begun), found, content, line, lines = draft
     mark = steady(file.found, begun)
     if beside is not None and work.content is None:
         mark = joined([mark, steady(beside.found, begun)])
@@ -257,6 +260,7 @@ def record_of(work: Work, noting: Noting, draft: Draft) -> Record:
     known = file.found.st_size, int(file.found.st_mtime), mark, hashlib.sha256(octets).digest()
     if found is None:
         return (*known, *NOTHING[4:])
+    vouched = [question_of(0, question) for question in lines]
     if work.content is not None:
         summed = noting.content
     elif content is None:
@@ -335,7 +339,9 @@ def told(work: Work, name: str, outcomes: list[Outcome]) -> list[Outcome]:
 
 def stamps_judged(work: Work, outcomes: list[Outcome]) -> list[Outcome]:
     """The outcomes of a file, in which a time-stamp is refused where no signature is accepted: anybody gets one for any octets."""
-    if work.stamps or any(outcome.line.startswith("accepted ") for outcome in outcomes):
+    if work.stamps or not any(outcome.line.startswith(STAMPED) for outcome in outcomes):
+        return outcomes
+    if any(outcome.line.startswith("accepted ") for outcome in outcomes):
         return outcomes
     return [alone(work, outcome) if outcome.line.startswith(STAMPED) else outcome for outcome in outcomes]
 
@@ -364,7 +370,7 @@ def outcomes_of(work: Work, name: str) -> list[Outcome]:
         begun = now()
         with open_file(work, name) as file, content_beside(work, name) as beside:
             reading = Reading(file, beside, begun)
-            found = [outcome_of(work, reading, found, name) for found in found_in(name, file, work.partial)]
+            found = [outcome_of(work, reading, one, name) for one in found_in(name, file, work.partial)]
             outcomes = told(work, name, stamps_judged(work, found))
             noting = work.noting
             return outcomes if noting is None or may_wait(reading, outcomes) else noted(work, noting, outcomes)

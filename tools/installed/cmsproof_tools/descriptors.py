@@ -109,14 +109,20 @@ def is_fit(mode: int, device: int) -> bool:
     return stat.S_ISREG(mode) or stat.S_ISDIR(mode) or (stat.S_ISCHR(mode) and device == NULL_DEVICE)
 
 
-def reached(path: str) -> int:
-    """A descriptor of the file of this name, not opened for reading yet, so that nothing waits for a pipe's other end."""
+def reached_as(path: str) -> tuple[int, os.stat_result]:
+    """A descriptor of the file of this name, not opened for reading yet, so that nothing waits for a pipe's other end; and what is said
+    of the file."""
     descriptor = os.open(path, os.O_PATH | os.O_CLOEXEC)
     found = os.fstat(descriptor)
     if is_fit(found.st_mode, found.st_rdev):
-        return descriptor
+        return descriptor, found
     os.close(descriptor)
     raise Unfit("it is no regular file")
+
+
+def reached(path: str) -> int:
+    """As `reached_as`, the descriptor alone."""
+    return reached_as(path)[0]
 
 
 def taken(path: str, own: frozenset[int]) -> int:

@@ -1,12 +1,10 @@
 """How far a run is: a line on a terminal, or from time to time; what was found at its end; and a log."""
 from __future__ import annotations
 
-import json
 import os
 import time
 from collections import Counter
 
-from cmsproof_tools.rows import time_text
 from cmsproof_tools.running import COMPLAINTS, FAILED, Started, Stop, shown, tell
 from cmsproof_tools.writing import add
 
@@ -65,10 +63,19 @@ class Progress:
         left = (self.total - self.done) / max(self.rate(), 1e-6)
         return f"{self.done} of {self.total} files, {self.rate():.0f} a second, {duration(left)} left"
 
-    def step(self, line: str) -> None:
-        """One more file is done, whose line is this."""
+    def steps(self, verdicts: list[str]) -> None:
+        """So many more files are done, with these verdicts."""
+        if self.shown or self.lines or self.log is not None:
+            for verdict in verdicts:
+                self.step(verdict)
+        else:
+            self.done += len(verdicts)
+            self.counts.update(verdicts)
+
+    def step(self, verdict: str) -> None:
+        """One more file is done, with this verdict."""
         self.done += 1
-        self.counts[line.partition(" ")[0]] += 1
+        self.counts[verdict] += 1
         if time.monotonic() >= self.next:
             self.put(self.text())
             if self.lines and self.done > 1:
@@ -79,6 +86,10 @@ class Progress:
 
     def write_line(self) -> None:
         """A line of the log."""
+        import json
+
+        from cmsproof_tools.rows import time_text
+
         seconds = round(time.monotonic() - self.begun, 3)
         said = {"time": time_text(int(time.time())), "done": self.done, "of": self.total, "seconds": seconds, **self.counts}
         self.write_log(json.dumps(said).encode() + b"\n")

@@ -10,9 +10,10 @@ from typing import Any, Iterable, Iterator
 from cmsproof_tools.checking import Work
 from cmsproof_tools.known import Known
 from cmsproof_tools.outcomes import Outcome
-from cmsproof_tools.rows import NOTHING, Row, mark_now, seen_here
-from cmsproof_tools.running import DONE, one_line, tell
+from cmsproof_tools.rows import Row, mark_now, seen_here
+from cmsproof_tools.running import DONE, tell
 from cmsproof_tools.state import State
+from cmsproof_tools.telling import ROWS, Told
 from cmsproof_tools.texts import time_in
 
 DAY = re.compile(r"([0-9]{4})-([0-9]{2})-([0-9]{2})")
@@ -90,30 +91,12 @@ class Resume:
             self.warn(name, rows)
         self.state.put(name, rows)
 
-    def kept_of(self, names: list[str], found: Iterable[list[list[Outcome]]]) -> Iterator[list[list[Outcome]]]:
-        """The outcomes of each of these files, of some at a time. They are kept once the next ones are asked for: what is kept has been
+    def kept_of(self, names: list[str], found: Iterable[list[Told]]) -> Iterator[list[Told]]:
+        """What is said of each of these files, of some at a time. Its rows are kept once the next ones are asked for: what is kept has been
         printed."""
         left = iter(names)
         for several in found:
             yield several
             judged = int(time.time())
-            for outcomes, name in zip(several, left):
-                self.keep(name, rows_of(name, outcomes, judged))
-
-
-def rows_of(name: str, outcomes: list[Outcome], judged: int) -> list[Row]:
-    """The rows of what is said of all parts of the file of this name. Of two parts of one name the worse one counts."""
-    rows = [row_of(name, outcome, judged) for outcome in outcomes]
-    if len(rows) < 2:
-        return rows
-    worst: dict[str, Row] = {}
-    for row in rows:
-        worst[row.part] = max(worst.get(row.part, row), row, key=lambda one: one.status)
-    return list(worst.values())
-
-
-def row_of(name: str, outcome: Outcome, judged: int) -> Row:
-    """The row of what is said of a part of the file of this name."""
-    size, changed, mark, sha256, content, grounds = outcome.record or NOTHING
-    line = one_line(outcome.line)
-    return Row(name, outcome.part, size, changed, mark, sha256, content, outcome.status, line, grounds, judged)
+            for told, name in zip(several, left):
+                self.keep(name, [Row(name, *values, judged) for values in told[ROWS]])

@@ -9,7 +9,8 @@ from functools import lru_cache
 from typing import NamedTuple
 
 from cmsproof_tools import der
-from cmsproof_tools.running import shown
+from cmsproof_tools.outcomes import Outcome
+from cmsproof_tools.running import one_line, shown
 from cmsproof_tools.texts import trust_entries
 
 # How long ago the entry of a file must have changed, so that a later change of its octets changes that time too: the times of
@@ -185,3 +186,21 @@ def grounds_text(found: tuple[tuple[str, tuple[Listed, ...], str], ...], decided
     """Under what signatures hold, and what decided, as a text of JSON."""
     holds = {Ground(role, one.sha256, digest) for role, listed, digest in found for one in listed}
     return json.dumps({"holds": sorted(holds), "decided": decided})
+
+
+def rows_of(name: str, outcomes: list[Outcome], judged: int) -> list[Row]:
+    """The rows of what is said of all parts of the file of this name. Of two parts of one name the worse one counts."""
+    rows = [row_of(name, outcome, judged) for outcome in outcomes]
+    if len(rows) < 2:
+        return rows
+    worst: dict[str, Row] = {}
+    for row in rows:
+        worst[row.part] = max(worst.get(row.part, row), row, key=lambda one: one.status)
+    return list(worst.values())
+
+
+def row_of(name: str, outcome: Outcome, judged: int) -> Row:
+    """The row of what is said of a part of the file of this name."""
+    size, changed, mark, sha256, content, grounds = outcome.record or NOTHING
+    line = one_line(outcome.line)
+    return Row(name, outcome.part, size, changed, mark, sha256, content, outcome.status, line, grounds, judged)

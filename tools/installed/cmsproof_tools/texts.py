@@ -8,6 +8,8 @@ from typing import Iterable, Iterator, NamedTuple
 
 QUESTIONS, ANSWERS = b"cmsproof questions 1", b"cmsproof answers 1"
 TRUST_1 = b"cmsproof trust 1"
+# why a signature is not vouched for that can be judged
+UNHOLDING = "the signature does not hold"
 MOMENT = r"[0-9]{14}(?:\.[0-9]{0,8}[1-9])?Z"
 
 
@@ -95,6 +97,14 @@ def question_of(number: int, line: bytes) -> Question:
     return Question(number, line, key, digest, algorithm, tail, signature)
 
 
+def lines_asked(text: bytes) -> list[bytes]:
+    """The lines of a questions text that are to be questions. Raises ValueError if it does not begin as one."""
+    first, *lines = pieces_of(text, b"\n")
+    if first != QUESTIONS:
+        return [question.line for question in read_questions(text)]
+    return [line for line in lines if line and not line.startswith(b"#")]
+
+
 def read_questions(text: bytes) -> list[Question]:
     """The questions of a questions text, in their order. Raises ValueError, with a line that says where, if it is none."""
     lines = numbered_lines(text)
@@ -103,9 +113,14 @@ def read_questions(text: bytes) -> list[Question]:
     return [question_of(number, line) for number, line in lines if line and not line.startswith(b"#")]
 
 
+def answers_of(lines: Iterable[bytes]) -> bytes:
+    """The answers text that vouches for the questions in these lines."""
+    return b"\n".join([ANSWERS, *lines, b""])
+
+
 def answers_text(questions: Iterable[Question]) -> bytes:
     """The answers text that vouches for these questions."""
-    return b"\n".join([ANSWERS, *(question.line for question in questions), b""])
+    return answers_of(question.line for question in questions)
 
 
 def trust_entries(text: bytes) -> Iterator[TrustEntry]:

@@ -5,7 +5,7 @@ from typing import Iterator
 
 from cmsproof_tools.kinds import BEGINNING, kind_of
 from cmsproof_tools.running import DONE, MALFORMED, Stop, Words, check_kept, module, read, shown, tell, write
-from cmsproof_tools.texts import Question, answers_text, read_questions
+from cmsproof_tools.texts import UNHOLDING, Question, answers_text, read_questions
 
 ABOUT = """Verifies the signatures that `cmsproof questions` asks about, and writes the answers that `cmsproof check` reads: the
 questions whose signature is good, in their order.
@@ -18,7 +18,6 @@ that does not hold, or of an algorithm that cannot be judged, is not in the answ
 Exit status: 0 done, whatever the answers are; 2 the text is no questions text; 3 wrong words; 4 a file or the library failed.
 """
 DER = "it looks like a file in DER: `cmsproof questions` makes a questions text of a signed file"
-UNHOLDING = "the signature does not hold"
 
 
 def fault_of(question: Question) -> str | None:

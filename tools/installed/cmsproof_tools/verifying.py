@@ -5,21 +5,24 @@ which call of the library an algorithm asks for, and that the digest algorithm o
 """
 from __future__ import annotations
 
+import hashlib
 import importlib
 import math
 import secrets
 import warnings
+from binascii import unhexlify
 from functools import lru_cache
-from typing import Any, NamedTuple
+from typing import Any, Callable, NamedTuple
 
 from cryptography.exceptions import InvalidSignature
 from cryptography.hazmat.primitives import hashes
 from cryptography.hazmat.primitives.asymmetric import dsa, ec, ed448, ed25519, padding, rsa
+from cryptography.hazmat.primitives.asymmetric.utils import Prehashed
 from cryptography.hazmat.primitives.serialization import Encoding, PublicFormat, load_der_public_key
 from cryptography.utils import CryptographyDeprecationWarning
 
 from cmsproof_tools import der
-from cmsproof_tools.texts import Question
+from cmsproof_tools.texts import UNHOLDING, Question, octets_of_fields, question_of
 
 # (old versions of the library read it with the first key: in each process by itself, if it is not read here)
 importlib.import_module("cryptography.hazmat.backends.openssl.backend")
@@ -39,6 +42,16 @@ HASHES = {
     "SHA-512/224": hashes.SHA512_224(),
     "SHA-512/256": hashes.SHA512_256(),
 }
+# by what octets are hashed beforehand
+HASHING: dict[str, Callable[[bytes], Any]] = {
+    "SHA-1": hashlib.sha1,
+    "SHA-224": hashlib.sha224,
+    "SHA-256": hashlib.sha256,
+    "SHA-384": hashlib.sha384,
+    "SHA-512": hashlib.sha512,
+}
+# how many digits the fields of a question have at most that are kept: twice those of the longest key
+LONGEST_KEPT = 1 << 14
 NO_PARAMETERS = (b"", b"\x05\x00")
 # object identifier, the digest, and its parameters; SHAKE256 is of 512 bits (RFC 8419 2.3)
 DIGESTS = {
@@ -306,10 +319,67 @@ def asking(key_octets: bytes, digest_octets: bytes, algorithm_octets: bytes) -> 
 def holds(question: Question) -> bool:
     """Whether the signature is good under the key, over the SET OF attributes. Raises Unjudged where that cannot be said."""
     public, call = asking(question.key, question.digest, question.algorithm)
+    return is_good(public.verify, question.signature, question.signed(), call)
+
+
+def is_good(verify: Callable[..., None], signature: bytes, octets: bytes, call: tuple[Any, ...]) -> bool:
+    """Whether a call of the library says that a signature is good. Raises Unjudged where it says neither."""
     try:
-        public.verify(question.signature, question.signed(), *call)
+        verify(signature, octets, *call)
         return True
     except InvalidSignature:
         return False
     except Exception as error:  # whatever else the library says, it does not say that the signature is good
         raise Unjudged(f"the library cannot judge it: {error or type(error).__name__}") from error
+
+
+class Asking(NamedTuple):
+    """What is the same for all signatures under a key by these algorithms: what hashes the octets before, if anything does, and the
+    library's call with what it is told behind signature and octets."""
+
+    hashed: Any
+    verify: Callable[..., None]
+    call: tuple[Any, ...]
+
+
+def asking_in(fields: bytes) -> Asking:
+    """As `asking`, of the first three fields of a question's line. `hashlib` hashes, which some versions of the library do in five times
+    the time. Raises ValueError where these are no such fields."""
+    key, digest, algorithm = octets_of_fields(fields)
+    public, call = asking(key, digest, algorithm)
+    name = DIGESTS[der.algorithm(digest)[0]][0]
+    if name not in HASHING or not call:
+        return Asking(None, public.verify, call)
+    hashed = Prehashed(HASHES[name])
+    if isinstance(public, ec.EllipticCurvePublicKey):
+        return Asking(HASHING[name], public.verify, (ec.ECDSA(hashed),))
+    return Asking(HASHING[name], public.verify, (*call[:-1], hashed))
+
+
+# (by all octets of the fields, so that what is kept is the key that the line has; of few octets, since files have the parameters)
+asking_kept = lru_cache(maxsize=1024)(asking_in)
+
+
+def holds_in(line: bytes) -> bool:
+    """As `holds`, of the question in a line. Raises ValueError if it is none."""
+    rest, _, of_signature = line.rpartition(b" ")
+    fields, _, of_tail = rest.rpartition(b" ")
+    try:
+        hashed, verify, call = (asking_kept if len(fields) <= LONGEST_KEPT else asking_in)(fields)
+        tail, signature = unhexlify(of_tail), unhexlify(of_signature)
+    except ValueError:
+        # (a field may be `-`)
+        tail = signature = b""
+    if not tail or not signature:
+        return holds(question_of(0, line))
+    octets = b"\x31" + tail
+    return is_good(verify, signature, octets if hashed is None else hashed(octets).digest(), call)
+
+
+def fault_in(line: bytes) -> str | None:
+    """None where the signature of the question in a line holds, and otherwise why it is not vouched for. Raises ValueError if the line is
+    no question."""
+    try:
+        return None if holds_in(line) else UNHOLDING
+    except Unjudged as reason:
+        return f"not judged: {reason}"

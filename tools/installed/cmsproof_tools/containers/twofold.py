@@ -36,7 +36,8 @@ CALLED = {
     "film or a sound": ("film", tuple(".aac .ac3 .flac .m2ts .mp2 .mp3 .mpeg .mpg .mts .ogg .opus .vob".split())),
     "script": ("script", tuple(".bat .cmd .php .sh".split())),
 }
-ENDINGS = tuple(end for _, ends in CALLED.values() for end in ends)
+# each of these begins with the one point that is in it
+OF_ENDING = {end[1:]: (kind, own) for kind, (own, ends) in CALLED.items() for end in ends}
 
 
 def has(octets: Buffer, word: bytes, first: int = 0) -> bool:
@@ -64,10 +65,9 @@ def is_pdf(octets: Buffer) -> bool:
 
 def called_as(name: str, container: str) -> str:
     """What a file of this kind of container is called as and is not; no text where its name fits."""
-    ending = name.lower().rstrip(" .")
-    if not ending.endswith(ENDINGS):
-        return ""
-    return next((kind for kind, (own, ends) in CALLED.items() if ending.endswith(ends) and container != own), "")
+    _, point, ending = name.lower().rstrip(" .").rpartition(".")
+    kind, own = OF_ENDING.get(ending, ("", container)) if point else ("", container)
+    return kind if container != own else ""
 
 
 def behind(reader: Reader, at: int, end: int) -> int:

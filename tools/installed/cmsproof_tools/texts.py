@@ -100,17 +100,22 @@ def question_of(number: int, line: bytes) -> Question:
 def lines_asked(text: bytes) -> list[bytes]:
     """The lines of a questions text that are to be questions. Raises ValueError if it does not begin as one."""
     first, *lines = pieces_of(text, b"\n")
-    if first != QUESTIONS:
-        return [question.line for question in read_questions(text)]
+    if first != QUESTIONS or b"\r" in text:
+        return [line for _, line in question_lines(text)]
     return [line for line in lines if line and not line.startswith(b"#")]
+
+
+def question_lines(text: bytes) -> list[tuple[int, bytes]]:
+    """The lines of a questions text that are to be questions, with their numbers. Raises ValueError if it does not begin as one."""
+    lines = numbered_lines(text)
+    if next(lines)[1] != QUESTIONS:
+        raise ValueError("no questions text: the first line is not `cmsproof questions 1`")
+    return [(number, line) for number, line in lines if line and not line.startswith(b"#")]
 
 
 def read_questions(text: bytes) -> list[Question]:
     """The questions of a questions text, in their order. Raises ValueError, with a line that says where, if it is none."""
-    lines = numbered_lines(text)
-    if next(lines)[1] != QUESTIONS:
-        raise ValueError("no questions text: the first line is not `cmsproof questions 1`")
-    return [question_of(number, line) for number, line in lines if line and not line.startswith(b"#")]
+    return [question_of(number, line) for number, line in question_lines(text)]
 
 
 def answers_of(lines: Iterable[bytes]) -> bytes:

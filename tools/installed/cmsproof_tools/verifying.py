@@ -365,13 +365,13 @@ def holds_in(line: bytes) -> bool:
     rest, _, of_signature = line.rpartition(b" ")
     fields, _, of_tail = rest.rpartition(b" ")
     try:
-        hashed, verify, call = (asking_kept if len(fields) <= LONGEST_KEPT else asking_in)(fields)
         tail, signature = unhexlify(of_tail), unhexlify(of_signature)
     except ValueError:
         # (a field may be `-`)
         tail = signature = b""
     if not tail or not signature:
         return holds(question_of(0, line))
+    hashed, verify, call = (asking_kept if len(fields) <= LONGEST_KEPT else asking_in)(fields)
     octets = b"\x31" + tail
     return is_good(verify, signature, octets if hashed is None else hashed(octets).digest(), call)
 

@@ -40,7 +40,7 @@ from timing import REAL, TOP
 TOOL = TOP / "tools" / "installed" / "cmsproof-archive"
 sys.path.insert(0, str(TOOL.parent))
 import cmsproof  # noqa: E402
-from cmsproof_tools import archive, checking, outcomes, running  # noqa: E402
+from cmsproof_tools import archive, checking, outcomes, running, telling  # noqa: E402
 from cmsproof_tools.pairs import USUAL, Pairs  # noqa: E402
 from cmsproof_tools.progress import Progress  # noqa: E402
 from cmsproof_tools.resuming import Resume  # noqa: E402
@@ -144,10 +144,10 @@ def work_of(noted):
 def judged(work, names, resume):
     """The seconds of the processor that a group of files takes: judged, handed from process to process, printed, and kept."""
     began = time.thread_time()
-    done = pickle.dumps(checking.all_noted(work, [checking.outcomes_of(work, name) for name in names]), PROTOCOL)
-    several = [pickle.loads(done)]
+    found = [checking.outcomes_of(work, name) for name in names]
+    several = [pickle.loads(pickle.dumps(telling.all_told(work, outcomes.text_lines, found), PROTOCOL))]
     found = several if resume is None else resume.kept_of(names, several)
-    archive.checked("states", found, Progress("states", len(names)), outcomes.text_lines)
+    archive.checked("states", found, Progress("states", len(names)))
     return time.thread_time() - began
 
 

@@ -17,7 +17,7 @@ from typing import Any, Iterator, NamedTuple, NoReturn
 
 TOP = Path(__file__).resolve().parent.parent
 sys.path[:0] = [str(TOP / "tools" / "installed")]
-from cmsproof_tools import archive, evidence, extract, report, running, trust, verify  # noqa: E402
+from cmsproof_tools import archive_words, evidence, extract, report, running, trust, verify  # noqa: E402
 
 FOLDER = TOP / "packaging" / "completion"
 MADE = "made by tools/completion.py of the parsers of the tools and the help of the program"
@@ -25,7 +25,7 @@ MADE = "made by tools/completion.py of the parsers of the tools and the help of 
 FILES = set("A ANSWERS B CONTENT DIR FILE LIST NEW OLD OUT QUESTIONS REQUEST RESPONSE STATE TOKEN TRUST ZIP".split())
 WORDS = set("ADDRESS HEX KIND N NAME OID PART SHA256 SUFFIX=ENDING TIME VERDICT".split())
 # the tools, and the first words of one that stand for other parsers
-TOOLS = {"archive": archive, "extract": extract, "trust": trust, "verify": verify}
+TOOLS = {"archive": archive_words, "extract": extract, "trust": trust, "verify": verify}
 SUBTOOLS = {"report": report, "evidence": evidence}
 
 

@@ -11,13 +11,20 @@
 change meanwhile, for lists that are none (`ListRefused`), and for memory that is refused (`MemoryError`). These modules are
 tested, and nothing about them is proved.
 """
+from __future__ import annotations
+
+from importlib import import_module
+from typing import TYPE_CHECKING, Any
+
 from cmsproof.calls import Questions, check, questions
-from cmsproof.commands import attach, compare, fit, match, request, request_of_signature, show
 from cmsproof.lists import ListRefused, TrustList
-from cmsproof.results import Result
-from cmsproof.tokens import check_token
 from cmsproof.verdicts import Unexpected, Verdict
 from cmsproof.verifiers import Verifier, cryptography_verifier
+
+if TYPE_CHECKING:
+    from cmsproof.commands import attach, compare, fit, match, request, request_of_signature, show
+    from cmsproof.results import Result
+    from cmsproof.tokens import check_token
 
 __all__ = [
     "ListRefused",
@@ -39,3 +46,20 @@ __all__ = [
     "request_of_signature",
     "show",
 ]
+
+# what is read once it is asked for, and its module
+LATER = {
+    **dict.fromkeys(("attach", "compare", "fit", "match", "request", "request_of_signature", "show"), "commands"),
+    "Result": "results",
+    "check_token": "tokens",
+}
+
+
+def __getattr__(name: str) -> Any:
+    if name not in LATER:
+        raise AttributeError(f"module {__name__!r} has no attribute {name!r}")
+    return getattr(import_module(f"{__name__}.{LATER[name]}"), name)
+
+
+def __dir__() -> list[str]:
+    return sorted({*globals(), *LATER})

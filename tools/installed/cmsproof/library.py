@@ -2,9 +2,9 @@
 from __future__ import annotations
 
 import ctypes
+import os
 from ctypes import POINTER, Structure, c_bool, c_int64, c_size_t, c_uint32, c_uint64, c_void_p
 from functools import lru_cache
-from pathlib import Path
 from typing import Any
 
 SONAME = "libcmsproof.so.1"
@@ -64,9 +64,9 @@ SIGNATURES: dict[str, tuple[Any, ...]] = {
 def library() -> ctypes.CDLL:
     """The library: the one beside these modules, or else the system's. Raises ImportError, with a line, if there is none of this
     version."""
-    beside = Path(__file__).resolve().parent / SONAME
+    beside = os.path.join(os.path.dirname(os.path.realpath(__file__)), SONAME)
     try:
-        loaded = ctypes.CDLL(str(beside) if beside.exists() else SONAME)
+        loaded = ctypes.CDLL(beside if os.path.exists(beside) else SONAME)
         version = loaded.cmsproof_version
         version.argtypes, version.restype = (), c_uint32
         if version() >> 16 != VERSION:

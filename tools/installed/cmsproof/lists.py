@@ -6,7 +6,6 @@ import os
 import threading
 import weakref
 from contextlib import contextmanager
-from pathlib import Path
 from typing import Iterable, Iterator, Union
 
 from cmsproof import library as lib
@@ -153,7 +152,8 @@ class TrustList:
     @classmethod
     def from_file(cls, path: Union[str, "os.PathLike[str]"]) -> "TrustList":
         """The trust list in a file."""
-        return cls(Path(path).read_bytes())
+        with open(path, "rb") as file:
+            return cls(file.read())
 
     @classmethod
     def from_certificates(cls, *, signers: Iterable[bytes] = (), authorities: Iterable[bytes] = ()) -> "TrustList":

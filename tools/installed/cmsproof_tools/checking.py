@@ -1,11 +1,11 @@
 """How one file is checked: opened, read, and asked of the proved library, in this process. No word of a user is handed on."""
 from __future__ import annotations
 
-import hashlib
 import os
 import stat
 from contextlib import contextmanager, nullcontext
-from typing import ContextManager, Iterator, NamedTuple, Sequence, Union
+from time import time_ns
+from typing import TYPE_CHECKING, ContextManager, Iterator, NamedTuple, Sequence, Union
 
 import cmsproof
 from cmsproof.octets import Buffer, Changed, File
@@ -14,14 +14,13 @@ from cmsproof_tools import descriptors
 from cmsproof_tools.descriptors import path_of
 from cmsproof_tools.finding import again_in_der, found_in
 from cmsproof_tools.found import Found, Unfound
-from cmsproof_tools.kinds import kind_of_signed
-from cmsproof_tools.lines import parts_of
 from cmsproof_tools.outcomes import Outcome
 from cmsproof_tools.pairs import Pairs
-from cmsproof_tools.deciding import content_sum, grounds_of
-from cmsproof_tools.rows import NOTHING, Noting, Record, joined, now, steady
 from cmsproof_tools.running import DONE, FAILED, MALFORMED, REFUSED, Started, module, shown
 from cmsproof_tools.texts import answers_of, lines_asked, question_of
+
+if TYPE_CHECKING:
+    from cmsproof_tools.rows import Noting, Record
 
 STATUSES = {"accepted": DONE, "refused": REFUSED, "malformed": MALFORMED, "failed": FAILED}
 
@@ -51,7 +50,7 @@ class Work(NamedTuple):
     contents: frozenset[str]
     partial: bool
     stamps: bool
-    noting: Union[Noting, None] = None
+    noting: Union["Noting", None] = None
 
 
 class Judge(Vouching):
@@ -201,8 +200,12 @@ def explained(work: Work, outcome: Outcome, found: Found) -> Outcome:
     """The outcome with what a reader may want to know of it. A fault in that leaves the outcome as it is."""
     try:
         if outcome.status in (MALFORMED, REFUSED) and found.kind == "signed":
+            from cmsproof_tools.kinds import kind_of_signed
+
             outcome = outcome._replace(kind=kind_of_signed(found.signed, outcome.status == MALFORMED))
         if outcome.status != DONE and work.explain:
+            from cmsproof_tools.lines import parts_of
+
             parts = parts_of(outcome.status, outcome.line) or {}
             text = module("explaining").explanation(found.signed, work.trust.text, parts, outcome.line, outcome.converted)
             return outcome._replace(explanation=text)
@@ -252,6 +255,11 @@ class Draft(NamedTuple):
 
 def record_of(work: Work, noting: Noting, draft: Draft) -> Record:
     """What a state keeps of a part of a file."""
+    import hashlib
+
+    from cmsproof_tools.deciding import content_sum, grounds_of, usual_grounds
+    from cmsproof_tools.rows import NOTHING, joined, steady
+
     (file, beside, begun), found, content, line, lines = draft
     mark = steady(file.found, begun)
     if beside is not None and work.content is None:
@@ -260,14 +268,18 @@ def record_of(work: Work, noting: Noting, draft: Draft) -> Record:
     known = file.found.st_size, int(file.found.st_mtime), mark, hashlib.sha256(octets).digest()
     if found is None:
         return (*known, *NOTHING[4:])
+    is_signed = found.kind == "signed"
+    usual = usual_grounds(found.signed, lines, noting) if is_signed and line.startswith("accepted ") else ""
+    if usual and content is None:
+        return (*known, b"", usual)
     vouched = [question_of(0, question) for question in lines]
     if work.content is not None:
         summed = noting.content
     elif content is None:
         summed = b""
     else:
-        summed = (found.kind == "signed" and content_sum(line, vouched)) or hashlib.sha256(content).digest()
-    return (*known, summed, grounds_of(found, line, vouched, work.trust, noting, work.sha1))
+        summed = (is_signed and content_sum(line, vouched)) or hashlib.sha256(content).digest()
+    return (*known, summed, usual or grounds_of(found, line, vouched, work.trust, noting, work.sha1))
 
 
 def with_record(work: Work, noting: Noting, outcome: Outcome) -> Outcome:
@@ -367,7 +379,7 @@ def outcomes_of(work: Work, name: str) -> list[Outcome]:
     """Checks one file, each part of it. Whatever fails at it, the others are checked. What a state is to have of a short file are drafts,
     of which `all_noted` makes records."""
     try:
-        begun = now()
+        begun = time_ns()
         with open_file(work, name) as file, content_beside(work, name) as beside:
             reading = Reading(file, beside, begun)
             found = [outcome_of(work, reading, one, name) for one in found_in(name, file, work.partial)]

@@ -14,7 +14,7 @@ from cmsproof_tools import der
 from cmsproof_tools.found import Found
 from cmsproof_tools.rows import Decided, Listed, Noting, digest_of, grounds_text, is_of_token
 from cmsproof_tools.signed_parts import Token, parts_of, signers_of
-from cmsproof_tools.texts import Question
+from cmsproof_tools.texts import Question, question_of
 
 # id-aa-timeStampToken (RFC 3161 appendix A) as an element, and in how many octets it is searched
 TOKEN, SEARCHED = bytes.fromhex("060b2a864886f70d010910020e"), 1 << 20
@@ -36,17 +36,21 @@ def has_one_token(octets: bytes) -> bool:
     return bool(outer == SET and inner == SEQUENCE and length == inside + 4)
 
 
-def usual_grounds(octets: Buffer, vouched: Sequence[Question], noting: Noting) -> str:
-    """The grounds of an accepted file with one signer and one token, each under a key that one certificate of the list has; "" of
-    any other. A signer is asked about before its tokens."""
-    if len(vouched) != 2 or len(octets) > SEARCHED:
+def usual_grounds(octets: Buffer, lines: Sequence[bytes], noting: Noting) -> str:
+    """The grounds of an accepted file with one signer and one token, each under a key that one certificate of the list has, by the lines of
+    the questions that were vouched for; "" of any other. A signer is asked about before its tokens."""
+    if len(lines) != 2 or len(octets) > SEARCHED:
         return ""
-    signer, token = vouched
-    if signer.signature == token.signature or not has_one_token(octets if type(octets) is bytes else bytes(octets)):
+    first, second = lines
+    if first[first.rfind(b" ") :] == second[second.rfind(b" ") :]:
         return ""
-    place = signer.key, signer.digest, token.key, token.digest
+    if not has_one_token(octets if type(octets) is bytes else bytes(octets)):
+        return ""
+    # (the keys and the digest algorithms, in hexadecimal)
+    place = first[: first.find(b" ", first.find(b" ") + 1)], second[: second.find(b" ", second.find(b" ") + 1)]
     found = noting.usual.get(place)
     if found is None:
+        signer, token = question_of(0, first), question_of(0, second)
         listed = [noting.keys.get(("signer", signer.key), ()), noting.keys.get(("tsa", token.key), ())]
         holds = ("signer", listed[0], digest_of(signer.digest)), ("tsa", listed[1], digest_of(token.digest))
         decided = Decided(1, 1, sums_of(listed[1]), sums_of(listed[0]))
@@ -140,8 +144,6 @@ def grounds_of(
     if found.kind == "token":
         holds = tuple(("tsa", noting.keys.get(("tsa", one.key), ()), digest_of(one.digest)) for one in vouched)
         return grounds_text(holds, (Decided(0, 0, sums_of([one for _, listed, _ in holds for one in listed]), ()),))
-    if text := usual_grounds(found.signed, vouched, noting):
-        return text
     try:
         stamps = list(stamps_of(found.signed, vouched, trust, noting, sha1))
     except (ValueError, IndexError):

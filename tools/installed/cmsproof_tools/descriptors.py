@@ -5,7 +5,6 @@ import errno
 import fcntl
 import os
 import stat
-import tempfile
 from typing import Iterator
 
 PIECE = 1 << 20
@@ -79,6 +78,8 @@ def pieces_of(descriptor: int) -> Iterator[bytes]:
 
 def kept(descriptor: int) -> int:
     """A descriptor of a copy of what this one still has to give: a file without a name, in the folder for such files."""
+    import tempfile
+
     with tempfile.TemporaryFile(buffering=0) as file:
         for piece in pieces_of(descriptor):
             written(file.fileno(), piece)

@@ -3,33 +3,36 @@ from __future__ import annotations
 
 import importlib
 import re
-import signal
-from collections import deque
+from functools import lru_cache
 from typing import Callable, Iterator, Union
 
 from cmsproof.octets import Buffer, File
 from cmsproof_tools.containers.twofold import called_as, other_kind
-from cmsproof_tools.found import Found, Unfound
-from cmsproof_tools.kinds import BEGINNING, LABELS, MAIL, kind_of
-
-# the first octets, what such a file is called, and the module of cmsproof_tools.containers with the function for it; the first that
-# fits counts
-FRONT_ENDS = [
-    (re.compile(rb"\A\x30\x80"), "ber", "ber", "found_in_ber"),
-    (re.compile(rb"\A.{0,1019}%PDF-", re.DOTALL), "pdf", "pdf", "found_in_pdf"),
-    (re.compile(rb"\APK(?:\x03\x04|\x05\x06)"), "asic", "asic", "found_in_zip"),
-    (MAIL, "s/mime", "mail", "found_in_mail"),
-    (re.compile(rb"^-----BEGIN " + LABELS + rb"-----", re.MULTILINE), "pem", "armour", "found_in_pem"),
-    (re.compile(rb"\A\s*M[A-Za-z0-9+/=\s]{60,}\Z"), "base64", "armour", "found_in_base64"),
-]
+from cmsproof_tools.found import BEGINNING, Found, Unfound
 # what such a file is called that ends the process which takes too long to read it (keeping.bounded)
 ENDING = ("pdf", "asic")
 TOO_LONG = "reading it takes more of the processor's time than it may"
 
 
+@lru_cache(maxsize=None)
+def front_ends() -> list[tuple[re.Pattern[bytes], str, str, str]]:
+    """The first octets, what such a file is called, and the module of cmsproof_tools.containers with the function for it; the first that
+    fits counts."""
+    from cmsproof_tools.kinds import LABELS, MAIL
+
+    return [
+        (re.compile(rb"\A\x30\x80"), "ber", "ber", "found_in_ber"),
+        (re.compile(rb"\A.{0,1019}%PDF-", re.DOTALL), "pdf", "pdf", "found_in_pdf"),
+        (re.compile(rb"\APK(?:\x03\x04|\x05\x06)"), "asic", "asic", "found_in_zip"),
+        (MAIL, "s/mime", "mail", "found_in_mail"),
+        (re.compile(rb"^-----BEGIN " + LABELS + rb"-----", re.MULTILINE), "pem", "armour", "found_in_pem"),
+        (re.compile(rb"\A\s*M[A-Za-z0-9+/=\s]{60,}\Z"), "base64", "armour", "found_in_base64"),
+    ]
+
+
 def front_end(beginning: bytes) -> tuple[str, Callable[[memoryview], Iterator[Union[Found, Unfound]]]] | None:
     """What a file with these first octets is called, and the front end for it, or None."""
-    for pattern, container, module, function in FRONT_ENDS:
+    for pattern, container, module, function in front_ends():
         if pattern.search(beginning):
             return container, getattr(importlib.import_module("cmsproof_tools.containers." + module), function)
     return None
@@ -38,6 +41,7 @@ def front_end(beginning: bytes) -> tuple[str, Callable[[memoryview], Iterator[Un
 def in_container(octets: Buffer) -> Iterator[Union[Found, Unfound]]:
     """What is found in a file that is not in DER. Each part has a name of its own."""
     from cmsproof_tools.containers.refusals import Refused
+    from cmsproof_tools.kinds import kind_of
 
     beginning = bytes(octets[:BEGINNING])
     front = front_end(beginning)
@@ -96,6 +100,9 @@ def found_in(name: str, file: File, partial: bool = False) -> Iterator[Union[Fou
 def found_apart(name: str, file: File, partial: bool = False) -> Iterator[Union[Found, Unfound]]:
     """As `found_in`, for a process that has more to do than this file: what may end a process is read in another one before, in half of
     the time that is allowed."""
+    import signal
+    from collections import deque
+
     from cmsproof_tools.workers import signal_at
 
     front = front_end(bytes(file.octets[:BEGINNING]))

@@ -7,6 +7,9 @@ from cmsproof.octets import Buffer
 from cmsproof_tools.containers.refusals import FAILURES, WORDS
 from cmsproof_tools.running import FAILED, REFUSED
 
+# how many octets show what kind of file it is
+BEGINNING = 4096
+
 
 class Found(NamedTuple):
     """A signature in a file.

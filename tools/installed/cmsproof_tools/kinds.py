@@ -6,8 +6,8 @@ import importlib
 import re
 from typing import Any
 
-# how many octets show what kind of file it is
-BEGINNING = 4096
+from cmsproof_tools.found import BEGINNING
+
 # of how many octets the library is asked what they are
 MOST_SHOWN = 1 << 20
 CMS = "openssl cms -cmsout -inform {} -in FILE -outform DER -out FILE.der makes a file in DER of it"

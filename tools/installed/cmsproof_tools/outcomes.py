@@ -1,11 +1,9 @@
 """What is said of a file or of a part of it, as a line or as JSON."""
 from __future__ import annotations
 
-import json
 import os
 from typing import Any, NamedTuple
 
-from cmsproof_tools.lines import parts_of
 from cmsproof_tools.running import FAILED, one_line, shown, shown_apart
 
 
@@ -72,6 +70,10 @@ def named(name: str) -> dict[str, object]:
 
 def json_lines(outcome: Outcome) -> str:
     """The line of a file as JSON: the parts that `check`'s line has, and how many questions and good signatures there were."""
+    import json
+
+    from cmsproof_tools.lines import parts_of
+
     found = parts_of(outcome.status, outcome.line) or {"verdict": outcome.line.partition(" ")[0]}
     numbers = {name: int(found.pop(name)) for name in ("signer", "token") if name in found}
     part = {"part": one_line(outcome.part)} if outcome.part else {}

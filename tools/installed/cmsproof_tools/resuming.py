@@ -5,16 +5,18 @@ import argparse
 import re
 import time
 from collections import Counter
-from typing import Any, Iterable, Iterator
+from typing import TYPE_CHECKING, Any, Iterable, Iterator
 
 from cmsproof_tools.checking import Work
-from cmsproof_tools.known import Known
 from cmsproof_tools.outcomes import Outcome
 from cmsproof_tools.rows import Row, mark_now, seen_here
 from cmsproof_tools.running import DONE, tell
 from cmsproof_tools.state import State
 from cmsproof_tools.telling import ROWS, Told
 from cmsproof_tools.texts import time_in
+
+if TYPE_CHECKING:
+    from cmsproof_tools.known import Known
 
 DAY = re.compile(r"([0-9]{4})-([0-9]{2})-([0-9]{2})")
 

@@ -127,11 +127,6 @@ def mark_now(*names: str | None) -> str:
         return ""
 
 
-def now() -> int:
-    """The moment, in nanoseconds since 1970."""
-    return time.time_ns()
-
-
 def time_text(seconds: int) -> str:
     """A moment as the program writes it; "" for one that is before 1970 or has no year of four digits."""
     return time.strftime("%Y%m%d%H%M%SZ", time.gmtime(seconds)) if 0 <= seconds < 253402300800 else ""

@@ -7,6 +7,7 @@ import importlib
 import os
 import stat
 import sys
+from contextlib import suppress
 from functools import lru_cache, wraps
 from typing import IO, Any, Callable, Iterable, NoReturn, TypeVar, cast
 
@@ -15,7 +16,11 @@ from cmsproof_tools.writing import put, written
 
 # the exit statuses, which are those of the program, and that of a run in which all that is not accepted is acknowledged
 DONE, REFUSED, MALFORMED, USAGE, FAILED, ACKNOWLEDGED = range(6)
+# what a file can be: `stamped` is a time-stamp alone
+VERDICTS = ("accepted", "stamped", "refused", "malformed", "failed")
 OLDEST_PYTHON = (3, 9)
+# the modules that read the words of a tool, where others do its work
+READING = {"archive": "archive_words"}
 OUTPUT, COMPLAINTS = 1, 2
 # how many octets are few enough to be kept
 SHORT = 1 << 14
@@ -176,7 +181,7 @@ def ended(tool: str, command: str) -> int:
         if sys.version_info < OLDEST_PYTHON:
             raise Stop(FAILED, "Python is too old: version {}.{} or a later one is needed".format(*OLDEST_PYTHON))
         check_names(sys.argv[1:])
-        status: int = importlib.import_module("cmsproof_tools." + command).main(tool, sys.argv[1:])
+        status: int = importlib.import_module("cmsproof_tools." + READING.get(command, command)).main(tool, sys.argv[1:])
         return status
     except Stop as stop:
         tell(tool, stop.line)
@@ -198,4 +203,16 @@ def start(command: str) -> NoReturn:
         pass  # without /proc no descriptor has a name
     descriptors.stand()
     status = ended("cmsproof-" + command, command)
-    sys.exit(FAILED if Started.lost else status)
+    end(FAILED if Started.lost else status)
+
+
+def end(status: int) -> NoReturn:
+    """Ends the process. Its modules are left as they are: to take them apart takes a fifth of a short run. All that is written is written by
+    then, and what is open is closed; only who has other threads, as Dask, ends them."""
+    threads = sys.modules.get("threading")
+    if threads is None or threads.active_count() == 1:
+        with suppress(Exception):
+            sys.stdout.flush()
+            sys.stderr.flush()
+        os._exit(status)
+    sys.exit(status)

@@ -5,8 +5,7 @@ from typing import TYPE_CHECKING, Any, Callable, Iterator
 
 from cmsproof_tools.checking import Work, all_noted
 from cmsproof_tools.outcomes import Outcome
-from cmsproof_tools.rows import rows_of
-from cmsproof_tools.running import DONE
+from cmsproof_tools.running import DONE, module
 from cmsproof_tools.texts import UNHOLDING
 
 if TYPE_CHECKING:
@@ -34,7 +33,7 @@ def told_of(outcomes: list[Outcome], line_of: Callable[[Outcome], str], is_kept:
         return b"", (), DONE, "content", [], []
     ended = outcomes[0] if len(outcomes) == 1 else max(outcomes, key=lambda outcome: outcome.status)
     lines = "".join([line_of(outcome) + "\n" for outcome in outcomes]).encode()
-    rows = [row[1:-1] for row in rows_of(ended.name, outcomes, 0)] if is_kept else []
+    rows = [row[1:-1] for row in module("rows").rows_of(ended.name, outcomes, 0)] if is_kept else []
     given = outcomes if is_known else []
     return lines, tuple(complaints(outcomes)), ended.status, ended.line.partition(" ")[0], rows, given
 

@@ -7,9 +7,9 @@ import os
 import pickle
 import select
 import signal
+import socket
 import time
 from collections import deque
-from multiprocessing.connection import Connection, Pipe
 from typing import Any, Callable, Iterator, Sequence
 
 # prctl(2): the signal that a process gets when the one that started it has ended
@@ -20,8 +20,38 @@ LIBRARY = ctypes.CDLL(None, use_errno=True)
 GROUP, ROOM, OFTEN = 32, 8192, 0.05
 # how many results are given on at a time
 MOST = 64
-# (plain pickles: those of Connection.send ask a table of Python for each object)
+# how many octets are read at a time
+PIECE = 1 << 20
 PROTOCOL = pickle.HIGHEST_PROTOCOL
+# how many octets say how long a message is
+LENGTH = 8
+
+
+class Connection:
+    """An end of a pair by which two processes talk: what one sends the other receives whole. (That of `multiprocessing` takes 8
+    milliseconds to be imported.)"""
+
+    def __init__(self, end: socket.socket) -> None:
+        self.end, self.fileno, self.close = end, end.fileno, end.close
+
+    def send(self, message: object) -> None:
+        """Sends a message. Raises OSError where the other process has ended."""
+        octets = pickle.dumps(message, PROTOCOL)
+        self.end.sendall(len(octets).to_bytes(LENGTH, "big") + octets)
+
+    def receive(self) -> Any:
+        """The next message. Raises EOFError or OSError where the other process has ended before the end of it."""
+        return pickle.loads(self.octets(int.from_bytes(self.octets(LENGTH), "big")))
+
+    def octets(self, count: int) -> bytes:
+        """So many octets."""
+        pieces = []
+        while count > 0:
+            pieces.append(self.end.recv(min(count, PIECE)))
+            if not pieces[-1]:
+                raise EOFError
+            count -= len(pieces[-1])
+        return b"".join(pieces)
 
 
 def end_group(*_: object) -> None:
@@ -44,14 +74,14 @@ def serve(connection: Connection, task: Callable[[Any], Any], finish: Callable[[
     then, as `finish` makes them."""
     try:
         while True:
-            items, done, next_time = pickle.loads(connection.recv_bytes()), list[Any](), time.monotonic() + OFTEN
+            items, done, next_time = connection.receive(), list[Any](), time.monotonic() + OFTEN
             for item in items:
                 done.append(task(item))
                 if time.monotonic() >= next_time:
-                    connection.send_bytes(pickle.dumps(finish(done), PROTOCOL))
+                    connection.send(finish(done))
                     done, next_time = [], time.monotonic() + OFTEN
             if done:
-                connection.send_bytes(pickle.dumps(finish(done), PROTOCOL))
+                connection.send(finish(done))
     except (EOFError, BrokenPipeError, ConnectionResetError):
         pass
 
@@ -60,7 +90,7 @@ class Worker:
     """A worker, how it is talked to, the numbers of the items that it has in hand, in their order, and whether none may be behind."""
 
     def __init__(self, task: Callable[[Any], Any], finish: Callable[[list[Any]], list[Any]], others: list[Worker]) -> None:
-        self.connection, there = Pipe()
+        self.connection, there = map(Connection, socket.socketpair())
         self.numbers: deque[int] = deque()
         self.alone = False
         parent = os.getpid()
@@ -83,14 +113,14 @@ class Worker:
         """Hands it items, behind those that it has in hand."""
         self.numbers.extend(numbers)
         try:
-            self.connection.send_bytes(pickle.dumps(items, PROTOCOL))
+            self.connection.send(items)
         except OSError:
             pass  # it has ended, which is seen when its results are asked for
 
     def results(self) -> list[tuple[int, Any]]:
         """The numbers and results of items that were in hand. Raises EOFError where the worker has ended."""
         try:
-            return [(self.numbers.popleft(), result) for result in pickle.loads(self.connection.recv_bytes())]
+            return [(self.numbers.popleft(), result) for result in self.connection.receive()]
         except (OSError, pickle.UnpicklingError, IndexError) as error:
             raise EOFError from error
 

@@ -4,9 +4,7 @@ from __future__ import annotations
 
 import errno
 import os
-import select
 import stat
-import tempfile
 from contextlib import contextmanager, suppress
 from typing import IO, TYPE_CHECKING, Iterator
 
@@ -33,6 +31,8 @@ def put(descriptor: int, octets: bytes | memoryview) -> None:
         try:
             rest = rest[os.write(descriptor, rest) :]
         except BlockingIOError:
+            import select
+
             select.select([], [descriptor], [])
 
 
@@ -83,6 +83,8 @@ def keep_access(descriptor: int, old: os.stat_result | None) -> None:
 
 def beside(path: str, old: os.stat_result | None) -> tuple[int, str]:
     """A new file beside the one of this path, which can be `old`: its descriptor and its name."""
+    import tempfile
+
     folder, name = os.path.split(path)
     prefix = f".{os.fsdecode(os.fsencode(name)[:NAMED])}."
     try:
@@ -125,6 +127,8 @@ def replacing(path: str, old: os.stat_result | None) -> Iterator[IO[bytes]]:
 def written(path: str, own: frozenset[int]) -> Iterator[IO[bytes]]:
     """A file to write into, whose octets are those of the file of this name once the block ends: all of them, or what was there.
     To what is no regular file, as a pipe or a device, they go when the block ends. Raises OSError."""
+    import tempfile
+
     descriptor = reached(path, own)
     try:
         to = None if descriptor is None else straight(path, descriptor)

@@ -4,10 +4,13 @@ or a zip file, has it shown, by a file that is accepted for another content."""
 from __future__ import annotations
 
 import re
+from typing import TYPE_CHECKING
 
 from cmsproof.octets import Buffer
-from cmsproof_tools.containers.ber import Reader
 from cmsproof_tools.containers.refusals import Refused
+
+if TYPE_CHECKING:
+    from cmsproof_tools.containers.ber import Reader
 
 # what programs look for that read a PDF, some of them anywhere and without `%PDF-`: what says where its objects are, and objects, behind
 # two numbers and white space or comments (ISO 32000-1 7.2, 7.3.10, 7.5.5); `0obj` and `obj1` too
@@ -78,6 +81,8 @@ def behind(reader: Reader, at: int, end: int) -> int:
 
 def content_at(octets: memoryview) -> tuple[int, int]:
     """Where the encapContentInfo of a SignedData begins and ends. Raises Refused where there is none."""
+    from cmsproof_tools.containers.ber import Reader
+
     reader = Reader(octets)
 
     def inside(at: int, end: int) -> tuple[int, int]:

@@ -27,8 +27,8 @@ if TYPE_CHECKING:
 
 # where descriptors have names
 PLACES = ("/dev/", "/proc/")
-# what files of which some are not accepted, or a state, may need
-READ = ("kinds", "lines", "deciding")
+# what is read for files that are not accepted, or for a state
+READ = ("kinds", "lines", "recording")
 
 
 def last_line(trust: str, trusted: bytes, resume: Resume | None, known: Known | None, count: int, worst: int) -> str:

@@ -17,10 +17,10 @@ from cmsproof_tools.found import Found, Unfound
 from cmsproof_tools.outcomes import Outcome
 from cmsproof_tools.pairs import Pairs
 from cmsproof_tools.running import DONE, FAILED, MALFORMED, REFUSED, Started, module, shown
-from cmsproof_tools.texts import answers_of, lines_asked, question_of
+from cmsproof_tools.texts import answers_of, lines_asked
 
 if TYPE_CHECKING:
-    from cmsproof_tools.rows import Noting, Record
+    from cmsproof_tools.rows import Noting
 
 STATUSES = {"accepted": DONE, "refused": REFUSED, "malformed": MALFORMED, "failed": FAILED}
 
@@ -253,40 +253,6 @@ class Draft(NamedTuple):
     vouched: Sequence[bytes] = ()
 
 
-def record_of(work: Work, noting: Noting, draft: Draft) -> Record:
-    """What a state keeps of a part of a file."""
-    import hashlib
-
-    from cmsproof_tools.deciding import content_sum, grounds_of, usual_grounds
-    from cmsproof_tools.rows import NOTHING, joined, steady
-
-    (file, beside, begun), found, content, line, lines = draft
-    mark = steady(file.found, begun)
-    if beside is not None and work.content is None:
-        mark = joined([mark, steady(beside.found, begun)])
-    octets = file.octets if found is None else found.signed
-    known = file.found.st_size, int(file.found.st_mtime), mark, hashlib.sha256(octets).digest()
-    if found is None:
-        return (*known, *NOTHING[4:])
-    is_signed = found.kind == "signed"
-    usual = usual_grounds(found.signed, lines, noting) if is_signed and line.startswith("accepted ") else ""
-    if usual and content is None:
-        return (*known, b"", usual)
-    vouched = [question_of(0, question) for question in lines]
-    if work.content is not None:
-        summed = noting.content
-    elif content is None:
-        summed = b""
-    else:
-        summed = (is_signed and content_sum(line, vouched)) or hashlib.sha256(content).digest()
-    return (*known, summed, usual or grounds_of(found, line, vouched, work.trust, noting, work.sha1))
-
-
-def with_record(work: Work, noting: Noting, outcome: Outcome) -> Outcome:
-    """The outcome with the record that its draft becomes."""
-    return Outcome._make((*outcome[:-1], record_of(work, noting, outcome.record)))
-
-
 def may_wait(reading: Reading, outcomes: list[Outcome]) -> bool:
     """Whether a file's records may be made later: its octets are a copy, and few. (What a container has may be longer than the file.)"""
     if len(reading.file.octets) > SHORT or (reading.beside is not None and len(reading.beside.octets) > SHORT):
@@ -297,7 +263,8 @@ def may_wait(reading: Reading, outcomes: list[Outcome]) -> bool:
 def noted(work: Work, noting: Noting, outcomes: list[Outcome]) -> list[Outcome]:
     """The outcomes of a file with the records that their drafts become."""
     try:
-        return [with_record(work, noting, outcome) if isinstance(outcome.record, Draft) else outcome for outcome in outcomes]
+        recorded = module("recording").with_record
+        return [recorded(work, noting, outcome) if isinstance(outcome.record, Draft) else outcome for outcome in outcomes]
     except Exception as error:
         return [failed(outcomes[0].name, error)]
 

@@ -3,6 +3,7 @@ started ends with them."""
 from __future__ import annotations
 
 import ctypes
+import gc
 import os
 import pickle
 import select
@@ -173,6 +174,8 @@ class Workers:
         self.task, self.finish, self.count = task, finish, count
 
     def __enter__(self) -> Workers:
+        # (what is there by now is shared, and not looked through again)
+        gc.freeze()
         try:
             for _ in range(self.count):
                 self.start()

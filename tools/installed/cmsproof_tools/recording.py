@@ -1,0 +1,39 @@
+"""What a state keeps of what was judged: a record of each part of a file, made of a draft."""
+from __future__ import annotations
+
+import hashlib
+
+from cmsproof_tools.checking import Draft, Work
+from cmsproof_tools.deciding import content_sum, grounds_of, usual_grounds
+from cmsproof_tools.outcomes import Outcome
+from cmsproof_tools.rows import NOTHING, Noting, Record, joined, steady
+from cmsproof_tools.texts import question_of
+
+
+def record_of(work: Work, noting: Noting, draft: Draft) -> Record:
+    """What a state keeps of a part of a file."""
+    (file, beside, begun), found, content, line, lines = draft
+    mark = steady(file.found, begun)
+    if beside is not None and work.content is None:
+        mark = joined([mark, steady(beside.found, begun)])
+    octets = file.octets if found is None else found.signed
+    known = file.found.st_size, int(file.found.st_mtime), mark, hashlib.sha256(octets).digest()
+    if found is None:
+        return (*known, *NOTHING[4:])
+    is_signed = found.kind == "signed"
+    usual = usual_grounds(found.signed, lines, noting) if is_signed and line.startswith("accepted ") else ""
+    if usual and content is None:
+        return (*known, b"", usual)
+    vouched = [question_of(0, question) for question in lines]
+    if work.content is not None:
+        summed = noting.content
+    elif content is None:
+        summed = b""
+    else:
+        summed = (is_signed and content_sum(line, vouched)) or hashlib.sha256(content).digest()
+    return (*known, summed, usual or grounds_of(found, line, vouched, work.trust, noting, work.sha1))
+
+
+def with_record(work: Work, noting: Noting, outcome: Outcome) -> Outcome:
+    """The outcome with the record that its draft becomes."""
+    return Outcome._make((*outcome[:-1], record_of(work, noting, outcome.record)))

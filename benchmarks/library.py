@@ -1,7 +1,7 @@
 #!/usr/bin/env python3
 """Times the library and what stands on it, beside what a user would write instead:
 
-    python3 benchmarks/library.py [--files N] [--loop N] [--jobs N] [--turns N]
+    python3 benchmarks/library.py [--files N] [--again N] [--loop N] [--jobs N] [--turns N] [--folder FOLDER]
 
 All of data/real/rsa_attached_ts.p7s, a file of 7,010 octets with one signer and one time-stamp token. In one run, the least of
 --turns, taken in turn:
@@ -9,16 +9,19 @@ All of data/real/rsa_attached_ts.p7s, a file of 7,010 octets with one signer and
   in one process       microseconds of the processor: `cmsproof_check` with its answers read (library_check.c), OpenSSL's `CMS_verify`
                        of the same file (cms_verify.c), and in Python `cmsproof.check` from the questions to the verdict, with each
                        signature verified; the verification of these signatures alone, by `cryptography`
+  starting             seconds of the processor and on the clock: `cmsproof-archive` of one file, and its help
   many files           files a second by the clock, and microseconds of the processor a file: `cmsproof-archive --jobs N` over N copies,
-                       `cmsproof check` of all of them in one command with the answers ready, `openssl cms -verify -noverify` in a
-                       loop, and N processes that read each file and call `cryptography` for its signatures, and nothing else
+                       each named --again times, without a state and with a new one, `cmsproof check` of all of them in one command
+                       with the answers ready, `openssl cms -verify -noverify` in a loop, and N processes that read each file and call
+                       `cryptography` for its signatures, and nothing else; and the most memory that a worker had
 
-It needs make, a C compiler, openssl with its headers, and Python's library `cryptography`.
+The copies are in a new folder (in FOLDER: of memory, say), where Python keeps compiled modules, as an installed package has them. It needs make, a C compiler, openssl with its headers, and Python's library `cryptography`.
 """
 from __future__ import annotations
 
 import argparse
 import os
+import re
 import resource
 import shutil
 import subprocess
@@ -97,13 +100,45 @@ def in_one_process(folder, turns):
         )
 
 
-def by_archive(folder, names, jobs):
-    """The seconds that cmsproof-archive takes for files."""
+def memory_of_workers(process):
+    """The most memory, in MB, that a process which this one starts has until it ends."""
+    most, children = 0, Path(f"/proc/{process.pid}/task/{process.pid}/children")
+    while process.poll() is None:
+        try:
+            for worker in children.read_text().split():
+                most = max(most, int(re.search(r"VmHWM:\s+(\d+)", Path(f"/proc/{worker}/status").read_text())[1]))
+        except (OSError, TypeError):
+            pass  # it has ended
+        time.sleep(0.02)
+    return most / 1024
+
+
+def by_archive(folder, count, jobs, memory, more=()):
+    """The seconds that cmsproof-archive takes for files, with these words more. The memory of its workers is put to `memory`."""
     words = [sys.executable, INSTALLED / "cmsproof-archive", "--trust", TRUST, "--files-from", folder / "names", "--jobs", jobs]
-    seconds, done = timed(words)
-    if done.stdout.count(b": accepted ") != len(names):
+    (folder / "state").unlink(missing_ok=True)
+    with open(folder / "lines", "wb") as lines:
+        start = time.perf_counter()
+        process = subprocess.Popen([*map(str, words), *map(str, more)], stdout=lines, stderr=subprocess.DEVNULL)
+        memory.append(memory_of_workers(process))
+        seconds = time.perf_counter() - start
+    if (folder / "lines").read_bytes().count(b": accepted ") != count:
         raise SystemExit("a file was not accepted")
     return seconds
+
+
+def starting(turns):
+    """Times what takes no longer than its start, and prints it."""
+    tool = [sys.executable, INSTALLED / "cmsproof-archive"]
+    for name, words in (("one file", [*tool, "--trust", TRUST, FILE]), ("--help", [*tool, "--help"])):
+        timed(words)
+        found = []
+        for _ in range(turns):
+            before = of_children()
+            clock, _ = timed(words)
+            found.append((of_children() - before, clock))
+        processor, clock = map(min, zip(*found))
+        print(f"cmsproof-archive {name:17} {processor:8.3f} seconds of the processor  {clock:6.3f} on the clock", flush=True)
 
 
 def answered(folder):
@@ -147,36 +182,40 @@ def of_children():
     return used.ru_utime + used.ru_stime
 
 
-def rated(files, call, turns):
-    """The most files a second by the clock, and the least microseconds of the processor a file."""
-    rates, costs = [], []
+def rated(calls, turns):
+    """The most files a second by the clock, and the least microseconds of the processor a file, of each of some calls; they are made in
+    turn, so that what else the machine does hits all alike."""
+    found = {name: [] for name in calls}
     for _ in range(turns):
-        before = of_children()
-        rates.append(files / call())
-        costs.append((of_children() - before) / files * 1e6)
-    return max(rates), min(costs)
+        for name, (files, call) in calls.items():
+            before = of_children()
+            found[name].append((files / call(), (of_children() - before) / files * 1e6))
+    return {name: (max(rate for rate, _ in turned), min(cost for _, cost in turned)) for name, turned in found.items()}
 
 
-def many_files(folder, count, loop, jobs, turns):
+def many_files(folder, count, again, loop, jobs, turns):
     """Times what checks many files, and prints it."""
     names = [folder / f"{number}.p7s" for number in range(count)]
     for name in names:
         shutil.copyfile(FILE, name)
+    names, memory = names * again, []
+    count, state = len(names), ["--state", folder / "state"]
     (folder / "names").write_text("".join(f"{name}\n" for name in names))
     words = answered(folder)
     script = ["sh", "-c", f"for file; do {VERIFY} || exit 1; done", "sh", *names[:loop]]
     calls = {
-        f"cmsproof-archive --jobs {jobs}": (count, lambda: by_archive(folder, names, jobs)),
+        f"cmsproof-archive --jobs {jobs}": (count, lambda: by_archive(folder, count, jobs, memory)),
+        "the same with a new state": (count, lambda: by_archive(folder, count, jobs, memory, state)),
         "cmsproof check, answers ready": (count, lambda: by_check(words, names)),
         "openssl cms -verify in a loop": (loop, lambda: timed(script)[0]),
         f"cryptography alone, {jobs} processes": (count, lambda: by_cryptography(names, jobs)),
     }
-    rates = {name: rated(files, call, turns) for name, (files, call) in calls.items()}
-    slowest = rates["openssl cms -verify in a loop"][0]
+    rates = rated(calls, turns)
+    slowest, alone_rate = rates["openssl cms -verify in a loop"][0], rates[f"cryptography alone, {jobs} processes"][0]
     for name, (rate, cost) in rates.items():
-        print(
-            f"{name:34} {rate:8.0f} files a second  {rate / slowest:8.1f} times the loop  {cost:8.0f} microseconds", flush=True
-        )
+        of_others = f"{rate / slowest:8.1f} times the loop  {rate / alone_rate:6.2f} of cryptography alone"
+        print(f"{name:34} {rate:8.0f} files a second  {of_others}  {cost:8.0f} microseconds", flush=True)
+    print(f"the most memory of a worker: {max(memory):.0f} MB")
 
 
 def main():
@@ -186,11 +225,16 @@ def main():
     parser.add_argument("--loop", default=200, type=int)
     parser.add_argument("--jobs", default=4, type=int)
     parser.add_argument("--turns", default=3, type=int)
+    parser.add_argument("--again", default=1, type=int)
+    parser.add_argument("--folder")
     given = parser.parse_args()
-    print(f"{FILE.stat().st_size} octets a file, {given.files} files, the best of {given.turns}")
-    with tempfile.TemporaryDirectory() as temporary:
+    print(f"{FILE.stat().st_size} octets a file, {given.files * given.again} files, the best of {given.turns}")
+    with tempfile.TemporaryDirectory(dir=given.folder) as temporary:
+        os.environ.pop("PYTHONDONTWRITEBYTECODE", None)
+        os.environ["PYTHONPYCACHEPREFIX"] = str(Path(temporary) / "compiled")
         in_one_process(Path(temporary), given.turns)
-        many_files(Path(temporary), given.files, given.loop, given.jobs, given.turns)
+        starting(5 * given.turns)
+        many_files(Path(temporary), given.files, given.again, given.loop, given.jobs, given.turns)
 
 
 if __name__ == "__main__":

@@ -18,7 +18,7 @@ from cmsproof_tools.pairs import USUAL, Pairs, rows_of
 from cmsproof_tools.progress import Progress
 from cmsproof_tools.running import DONE, FAILED, MALFORMED, USAGE, Started, Stop, Words
 from cmsproof_tools.running import check_kept, module, read, shown, tell, write
-from cmsproof_tools.telling import COMPLAINTS, LINES, STATUS, VERDICT, Told, all_told, told_beside, told_of
+from cmsproof_tools.telling import Told, all_told, told_beside, told_of
 from cmsproof_tools.workers import Workers
 
 if TYPE_CHECKING:
@@ -94,7 +94,9 @@ def trust_by(tool: str, given: argparse.Namespace, named: TrustList | None, name
     if not names_issuers(given) and named is not None:
         return named
     trusted = None if named is None else (given.trust, named.text)
-    made: TrustList = module("issuing").list_for(asked_of(given), trusted, names, lambda line: tell(tool, line), of_file)
+    made: TrustList = module("issuing").list_for(
+        asked_of(given), trusted, names, lambda line: tell(tool, line), given.jobs, of_file
+    )
     if given.write_trust is not None:
         write(given.write_trust, made.text)
     return made
@@ -103,13 +105,13 @@ def trust_by(tool: str, given: argparse.Namespace, named: TrustList | None, name
 def print_lines(tool: str, several: list[Told]) -> None:
     """Writes the lines of some files at once, but those of a file behind what is said of it on standard error."""
     lines: list[bytes] = []
-    for told in several:
-        if told[COMPLAINTS]:
+    for text, complaints, _, _, _, _ in several:
+        if complaints:
             write("-", b"".join(lines))
             lines.clear()
-            for text in told[COMPLAINTS]:
-                tell(tool, text)
-        lines.append(told[LINES])
+            for complaint in complaints:
+                tell(tool, complaint)
+        lines.append(text)
     write("-", b"".join(lines))
 
 
@@ -120,8 +122,8 @@ def checked(tool: str, found: Iterable[list[Told]], progress: Progress, known: K
         several = batch if known is None else [told_beside(known, told) for told in batch]
         progress.put("")
         print_lines(tool, several)
-        progress.steps([told[VERDICT] for told in several])
-        worst = max([worst, *(told[STATUS] for told in several)])
+        progress.steps([verdict for _, _, _, verdict, _, _ in several])
+        worst = max([worst, *(status for _, _, status, _, _, _ in several)])
     progress.end("" if known is None else known.text())
     return worst
 

@@ -9,6 +9,7 @@ from typing import Callable, Iterator, Union
 from cmsproof.octets import Buffer, File
 from cmsproof_tools.containers.twofold import called_as, other_kind
 from cmsproof_tools.found import BEGINNING, Found, Unfound
+
 # what such a file is called that ends the process which takes too long to read it (keeping.bounded)
 ENDING = ("pdf", "asic")
 TOO_LONG = "reading it takes more of the processor's time than it may"

@@ -215,6 +215,33 @@ class Growing:
         open_ones = [token for signer in signers for token in signer.tokens if not self.take_authority(name, token, pool)]
         return bool(open_ones) or self.take_signers(name, found, signers, pool)
 
+    def adds_nothing(self, found: Found) -> bool:
+        """Whether a file has no entry to add, nor a line: each of its signers and tokens has entries at the times that the tokens say. More
+        entries change nothing of that."""
+        if found.kind == "token":
+            return False
+        try:
+            octets, signers = everything_in(found.signed)
+        except (ValueError, IndexError):
+            return False
+        if not 1 <= len(signers) + sum(len(signer.tokens) for signer in signers) <= FEW:
+            return False
+        pool = self.pool_of(tuple(dict.fromkeys(octets)))
+        return all(self.has_entries(signer, pool) for signer in signers)
+
+    def has_entries(self, signer: Signer, pool: Pool) -> bool:
+        """Whether a signer and its tokens have entries at the times that the tokens say."""
+        named = pool.named(signer.sid)
+        if not signer.tokens or len(named) > 1:
+            return False
+        for token in signer.tokens:
+            clocks = [] if token.sid is None else pool.named(token.sid)
+            if len(clocks) > 1 or not self.all_hold("tsa", clocks, token.time):
+                return False
+            if not self.all_hold("signer", named, token.time):
+                return False
+        return True
+
     def take_again(self, name: str, found: Found) -> bool:
         """The second step alone, for what was taken before."""
         if found.kind != "token":

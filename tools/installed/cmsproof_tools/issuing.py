@@ -9,7 +9,8 @@ from typing import Callable, Iterable, Iterator
 from cmsproof import TrustList
 from cmsproof_tools.certificates import Certificate, certificates_in
 from cmsproof_tools.checking import Unread, opened
-from cmsproof_tools.finding import found_apart
+from cmsproof_tools.descriptors import number_named
+from cmsproof_tools.finding import found_apart, found_in
 from cmsproof_tools.found import Found
 from cmsproof_tools.issuer_words import Asked
 from cmsproof_tools.issuers import Entry, Growing, Trusted
@@ -21,8 +22,11 @@ from cmsproof_tools.revocation import Revocation, is_meant
 from cmsproof_tools.texts import trust_entries
 from cmsproof_tools.trusted_lists import TrustedList
 from cmsproof_tools.running import DONE, FAILED, MALFORMED, REFUSED, Stop, read, shown
+from cmsproof_tools.workers import Workers
 
 Told = Callable[[str], None]
+# after how many files the next ones are looked at by several processes; then after twice as many more each time
+FIRST = 256
 
 
 def certificates_of(path: str) -> list[Certificate]:
@@ -181,10 +185,40 @@ def look(names: list[str], step: Callable[[str, Found], bool], unread: Told) -> 
     return again, worst
 
 
-def grown(trusted: Trusted, given: Iterable[Entry], names: list[str], told: Told, unread: Told) -> tuple[list[Entry], int]:
-    """The entries of a list for these files, behind those that are given, authorities first; and the worst status of a file."""
+def left_of(growing: Growing, names: list[str], jobs: int) -> list[str]:
+    """Those of some files that may add something to a list: so many processes look, and what one of them cannot say is left."""
+
+    def adds_nothing(name: str) -> bool:
+        try:
+            # (what a descriptor gives can be read once)
+            if number_named(name) is not None:
+                return False
+            with opened(name) as file:
+                found = list(found_in(name, file, partial=True))
+            return all(isinstance(one, Found) and growing.adds_nothing(one) for one in found)
+        except Exception:
+            return False
+
+    with Workers(min(jobs, len(names)), adds_nothing) as workers:
+        said = workers.results(names, lambda *_: False)
+        return [name for name, nothing in zip(names, said) if nothing is not True]
+
+
+def grown(
+    trusted: Trusted, given: Iterable[Entry], names: list[str], told: Told, unread: Told, jobs: int = 1
+) -> tuple[list[Entry], int]:
+    """The entries of a list for these files, behind those that are given, authorities first; and the worst status of a file. With
+    several jobs most files of a large archive are only looked at by others: they are by those of whom the first ones were."""
     growing = Growing(trusted, given, told)
-    again, worst = look(names, growing.take, unread)
+    again: list[str] = []
+    worst, size = DONE, FIRST if jobs > 1 else len(names)
+    while names:
+        found, ended = look(names[:size], growing.take, unread)
+        again += found
+        worst, names, size = max(worst, ended), names[size:], 2 * size
+        if len(names) > FIRST:
+            growing.settle()
+            names = left_of(growing, names, jobs)
     _, later = look(again, growing.take_again, unread)
     growing.settle()
     return growing.listed(), max(worst, later)
@@ -225,10 +259,12 @@ def list_text(
     names: list[str],
     told: Told,
     unread: Told | None = None,
+    jobs: int = 1,
     of_file: Told | None = None,
 ) -> tuple[bytes, int]:
     """The list for these files as a text, and the worst status of a file. `unread`, or else `told`, is called with the line of a
-    file that cannot be read; `of_file`, or else `told`, with a line about whose certificates in a file get an entry."""
+    file that cannot be read; `of_file`, or else `told`, with a line about whose certificates in a file get an entry. So many processes
+    look at them, if they are many."""
     tell = once(told)
     lists = trusted_lists_of(asked, tell)
     with trusted_by(asked, lists, tell) as trusted:
@@ -238,6 +274,7 @@ def list_text(
             names,
             tell if of_file is None else once(of_file),
             unread or tell,
+            jobs,
         )
         text = "".join(line + "\n" for line in lines_of(head_of(trusted, lists), entries)).encode("utf-8", "surrogateescape")
     if len(TrustList(text)) != len(entries):
@@ -264,11 +301,16 @@ def entries_of(trusted: bytes, name: str) -> list[Entry]:
 
 
 def list_for(
-    asked: Asked, trusted: tuple[str, bytes] | None, names: list[str], told: Told, of_file: Told | None = None
+    asked: Asked,
+    trusted: tuple[str, bytes] | None,
+    names: list[str],
+    told: Told,
+    jobs: int = 1,
+    of_file: Told | None = None,
 ) -> TrustList:
     """The list by which files are checked: the entries of the list that is named, if one is, and what issuers issued. What is told is as
     of `list_text`."""
     given = entries_of(trusted[1], trusted[0]) if trusted else []
     # (a file that cannot be read has a line of its own in the check)
-    text, _ = list_text(asked, given, names, told, lambda line: None, of_file)
+    text, _ = list_text(asked, given, names, told, lambda line: None, jobs, of_file)
     return TrustList(text)

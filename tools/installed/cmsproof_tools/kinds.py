@@ -6,7 +6,7 @@ import importlib
 import re
 from typing import Any
 
-from cmsproof_tools.found import BEGINNING
+from cmsproof_tools.found import BEGINNING as BEGINNING
 
 # of how many octets the library is asked what they are
 MOST_SHOWN = 1 << 20

@@ -12,7 +12,7 @@ from cmsproof_tools.outcomes import Outcome
 from cmsproof_tools.rows import Row, mark_now, seen_here
 from cmsproof_tools.running import DONE, tell
 from cmsproof_tools.state import State
-from cmsproof_tools.telling import ROWS, Told
+from cmsproof_tools.telling import Told
 from cmsproof_tools.texts import time_in
 
 if TYPE_CHECKING:
@@ -100,5 +100,5 @@ class Resume:
         for several in found:
             yield several
             judged = int(time.time())
-            for told, name in zip(several, left):
-                self.keep(name, [Row(name, *values, judged) for values in told[ROWS]])
+            for (_, _, _, _, rows, _), name in zip(several, left):
+                self.keep(name, [Row._make((name, *values, judged)) for values in rows])

@@ -18,7 +18,8 @@ from urllib.parse import quote
 
 from cmsproof_tools.lines import parts_of
 from cmsproof_tools.rows import Decided, Ground, Row
-from cmsproof_tools.running import FAILED, VERDICTS as VERDICTS, Stop, shown, shown_apart
+from cmsproof_tools import running
+from cmsproof_tools.running import FAILED, Stop, shown, shown_apart
 
 # `cmsp`, by which the file is known, and the version of its tables and of the texts in them
 APPLICATION, VERSION = 0x636D7370, 2
@@ -37,6 +38,8 @@ INSERT = f"INSERT OR REPLACE INTO files ({COLUMNS}, ground, basis) VALUES ({'?, 
 SELECT = f"SELECT {COLUMNS}, grounds.text, basis FROM files LEFT JOIN grounds ON grounds.number = ground"
 # what a value may be long: a trust list of many thousand certificates
 LONGEST = 1 << 28
+# what a file can be
+VERDICTS = running.VERDICTS
 # after how many files, and after how many seconds, rows are written for good: so few that no process waits for the next names
 FILES, SECONDS = 100, 1.0
 # none: octets are bound as `bytearray`, since sqlite3 looks for an adapter of each `bytes` (DECISIONS, 300)

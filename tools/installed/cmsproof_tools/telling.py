@@ -15,7 +15,6 @@ if TYPE_CHECKING:
 # have, each without its first value and its last one, the name and the moment; and the outcomes, where refusals are acknowledged, which only
 # the process that prints can look for. (A plain tuple goes from process to process in a third of the time that one with names takes.)
 Told = tuple[bytes, tuple[str, ...], int, str, list[tuple[Any, ...]], list[Outcome]]
-LINES, COMPLAINTS, STATUS, VERDICT, ROWS, OUTCOMES = range(6)
 
 
 def complaints(outcomes: list[Outcome]) -> Iterator[str]:

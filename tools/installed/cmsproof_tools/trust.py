@@ -2,6 +2,7 @@
 from __future__ import annotations
 
 import argparse
+import os
 from typing import TYPE_CHECKING, Callable, Iterator, NamedTuple
 
 from cmsproof_tools.issuer_words import add_words, asked_of, goes_with_issuers, names_issuers
@@ -161,7 +162,7 @@ def issued(tool: str, given: argparse.Namespace, entries: list[Entry]) -> int:
     period = module("periods").Period(given.first or "-", given.last or "-", "--until says so" if given.last else "")
     known = [issuers.Entry(entry.role, period, entry.certificate, shown(entry.path)) for entry in entries]
     asked = asked_of(given, given.all, period)
-    text, status = issuing.list_text(asked, known, names, lambda line: tell(tool, line))
+    text, status = issuing.list_text(asked, known, names, lambda line: tell(tool, line), jobs=len(os.sched_getaffinity(0)))
     write("-", text)
     return int(status)
 

@@ -371,7 +371,7 @@ def holds_in(line: bytes) -> bool:
         tail = signature = b""
     if not tail or not signature:
         return holds(question_of(0, line))
-    hashed, verify, call = (asking_kept if len(fields) <= LONGEST_KEPT else asking_in)(fields)
+    hashed, verify, call = asking_kept(fields) if len(fields) <= LONGEST_KEPT else asking_in(fields)
     octets = b"\x31" + tail
     return is_good(verify, signature, octets if hashed is None else hashed(octets).digest(), call)
 

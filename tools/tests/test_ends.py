@@ -34,7 +34,7 @@ archive.outcomes_of = killed
 FAILING = """
 def failing(*_, **__):
     raise {raised}
-checking.cmsproof.check = failing
+checking.cmsproof.calls.verdict_of = failing
 """
 
 

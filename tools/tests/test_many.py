@@ -1,5 +1,5 @@
-"""Tests that one run over some hundred files of every kind says of each what the proved commands say of it, by however many processes,
-with a state and without, and whatever stands beside a file in the run."""
+"""Tests that one run over some hundred files of every kind says of each what the proved commands say of it, by however
+many processes, with a state and without."""
 import json
 import random
 import subprocess
@@ -37,7 +37,7 @@ class World:
         return "".join(f"{role} {who.octets.hex()}\n" for role, who in entries)
 
     def files(self):
-        """Files by their names: each kind of signers and stamps, among them questions that are longer than the first room for them."""
+        """Files by their names: each kind of signers and stamps, and many signers, whose questions are long."""
         for number, at in enumerate(TIMES):
             who, next_one = self.people[number % 6], self.people[(number + 1) % 6]
             yield f"one{number}", signed(who, [(self.clock, at)])

@@ -2,7 +2,7 @@
 from __future__ import annotations
 
 import ctypes
-from typing import Any, Callable, NamedTuple, Optional, cast
+from typing import Any, Callable, Iterable, NamedTuple, Optional, Sequence, Union, cast
 
 from cmsproof import library as lib
 from cmsproof.lists import TrustList, refused
@@ -13,6 +13,8 @@ from cmsproof_tools.texts import Question, answers_of, read_questions
 
 # what a first try of a text has room for: the questions of a file of few signers
 ROOM = 1 << 13
+# what is no short questions text
+LONG = 1 << 16
 
 
 class Questions(NamedTuple):
@@ -54,14 +56,17 @@ class Room:
             raise Unexpected(f"the library said status {status} with a length of {length}")
         return status, cast(bytes, self.text[:length])
 
-    def checked(self, trust: TrustList, octets: Octets, rest: tuple[Any, ...], verifier: Vouching) -> tuple[int, bytes]:
-        """The status and line of a check, whose numbers are in `answer`: what must be verified is asked, answered and handed in. `rest` is
-        what `cmsproof_check` takes behind the file."""
-        held, loaded = trust.held, lib.library()
+    def asked(self, trust: TrustList, octets: Octets) -> bytes:
+        """What must be verified of a file, as a questions text; no octets of one of which nothing can be asked: `check` says why."""
+        held = trust.held
         with held.lock:
-            status, text = self.written(loaded.cmsproof_questions, held.handle, *octets)
-        # (of a file of which nothing can be asked, `check` says why)
-        answers = verifier.answers(text) if status == lib.DONE else answers_of([])
+            status, text = self.written(lib.library().cmsproof_questions, held.handle, *octets)
+        return text if status == lib.DONE else b""
+
+    def checked(self, trust: TrustList, octets: Octets, rest: tuple[Any, ...], answers: bytes) -> tuple[int, bytes]:
+        """The status and line of a check with these answers, whose numbers are in `answer`. `rest` is what `cmsproof_check` takes behind
+        the file."""
+        held, loaded = trust.held, lib.library()
         try:
             status = loaded.cmsproof_answers_read(self.to_answers, answers, len(answers), self.to_answer)
             if status != lib.DONE:
@@ -88,6 +93,11 @@ def give_back(used: Room) -> None:
     """Leaves a room to the next check, unless it was made large."""
     if used.size == ROOM:
         SPARE.append(used)
+
+
+def answers_to(text: bytes, verifier: Vouching) -> bytes:
+    """The answers list for a questions text."""
+    return verifier.answers(text) if text else answers_of([])
 
 
 def written(call: Callable[..., int], *words: Any) -> tuple[int, lib.Answer, bytes]:
@@ -130,12 +140,48 @@ def check(
     """
     asked, own = vouching(verifier), room()
     try:
-        if type(file) is bytes and content is None:
-            status, line = own.checked(trust, of_bytes(file), (b"", 0, False, sha1), asked)
-            return verdict_of(status, own.answer, line)
         with octets_of(file) as octets, octets_if_any(content) as beside:
-            status, line = own.checked(trust, octets, (*beside, content is not None, sha1), asked)
+            answers = answers_to(own.asked(trust, octets), asked)
+            status, line = own.checked(trust, octets, (*beside, content is not None, sha1), answers)
         # (only here, where the files are known to be as they were)
         return verdict_of(status, own.answer, line)
+    finally:
+        give_back(own)
+
+
+def check_several(
+    files: Sequence[bytes], *, trust: TrustList, verifiers: Sequence[Vouching], sha1: bool = False
+) -> list[Union[Verdict, Exception]]:
+    """The verdict of each of some short files, by a verifier of its own, or what `check` raises for it.
+
+    Each step is done for all of them before the next one: so it takes two thirds of the time, since the processor keeps at hand what a
+    step needs. What was asked about is what is checked: the octets are in memory.
+    """
+    own = room()
+
+    def each(step: Callable[[int, Any], Any], before: Iterable[Any]) -> list[Any]:
+        """What a step makes of what was made of each file before; a verdict, and what was raised, stay."""
+        found: list[Any] = []
+        for number, made in enumerate(before):
+            try:
+                found.append(made if isinstance(made, (Exception, Verdict)) else step(number, made))
+            except Exception as error:
+                found.append(error)
+        return found
+
+    def verdict(number: int, answers: bytes) -> Verdict:
+        status, line = own.checked(trust, of_bytes(files[number]), (b"", 0, False, sha1), answers)
+        return verdict_of(status, own.answer, line)
+
+    def answers(number: int, text: bytes) -> bytes:
+        return answers_to(text, verifiers[number])
+
+    def text(number: int, octets: bytes) -> Union[bytes, Verdict]:
+        found = own.asked(trust, of_bytes(octets))
+        # (of one that is long not more than one is kept)
+        return found if len(found) <= LONG else verdict(number, answers(number, found))
+
+    try:
+        return each(verdict, each(answers, each(text, files)))
     finally:
         give_back(own)

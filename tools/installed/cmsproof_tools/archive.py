@@ -10,7 +10,7 @@ from typing import TYPE_CHECKING, Any, Iterable
 from cmsproof import ListRefused, TrustList
 from cmsproof.octets import File
 from cmsproof_tools import descriptors
-from cmsproof_tools.checking import Unread, Work, content_named, outcomes_of
+from cmsproof_tools.checking import Unread, Work, content_named, outcomes_of, outcomes_of_several
 from cmsproof_tools.descriptors import path_of
 from cmsproof_tools.issuer_words import asked_of, names_issuers
 from cmsproof_tools.outcomes import json_lines, lost, named, text_lines
@@ -226,8 +226,8 @@ def outcomes(tool: str, given: Any, work: Work, names: list[str], stack: ExitSta
     told = partial(told_of, line_of=line_of, is_kept=work.noting is not None, is_known=is_known)
     if given.dask is None:
         work.opened.update({name: opened_now(name) for name in own})
-        finish = partial(all_told, work, line_of, is_known=is_known)
-        workers = Workers(min(given.jobs, len(names)), partial(outcomes_of, work), finish)
+        done, judge = partial(all_told, work, line_of, is_known=is_known), partial(outcomes_of_several, work)
+        workers = Workers(min(given.jobs, len(names)), partial(outcomes_of, work), done, judge)
         return stack.enter_context(workers).batches(names, lambda name, by: told(lost(name, by)))
     if own:
         raise Stop(USAGE, f"{shown(own[0])} is a descriptor, which workers of Dask do not have")

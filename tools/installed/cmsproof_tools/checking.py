@@ -8,6 +8,7 @@ from time import time_ns
 from typing import TYPE_CHECKING, ContextManager, Iterator, NamedTuple, Sequence, Union
 
 import cmsproof
+from cmsproof.calls import check_several
 from cmsproof.octets import Buffer, Changed, File
 from cmsproof.verifiers import Vouching
 from cmsproof_tools import descriptors
@@ -288,7 +289,13 @@ def outcome_of(work: Work, reading: Reading, found: Union[Found, Unfound], name:
         reason = f"the content is in the file, and {shown(beside.name)} is named as the content"
         return outcome_of(work, reading, Unfound(found.part, "F14", reason, found.container), name)
     judge, content = Judge(), found.content if beside is None else beside.octets
-    verdict = verdict_of(work, found, content, judge)
+    return outcome_by(work, reading, found, judge, verdict_of(work, found, content, judge), name)
+
+
+def outcome_by(work: Work, reading: Reading, found: Found, judge: Judge, verdict: cmsproof.Verdict, name: str) -> Outcome:
+    """What this verdict says of what was found in the file of this name."""
+    beside = reading.beside
+    content = found.content if beside is None else beside.octets
     if (other := again_in_der(found, verdict.code)) is not None:
         return outcome_of(work, reading, other, name)
     line = verdict.line.replace("accepted ", STAMPED, 1) if found.kind == "token" else verdict.line
@@ -342,16 +349,62 @@ def failed(name: str, error: Exception) -> Outcome:
     return Outcome(name, FAILED, f"failed archive: {type(error).__name__} ({shown(str(error))})")
 
 
+def all_said(work: Work, name: str, reading: Reading, found: list[Outcome]) -> list[Outcome]:
+    """The outcomes of what was found in a file, as they are told. What a state is to have of a short file are drafts, of which
+    `all_noted` makes records."""
+    outcomes = told(work, name, stamps_judged(work, found))
+    noting = work.noting
+    return outcomes if noting is None or may_wait(reading, outcomes) else noted(work, noting, outcomes)
+
+
 def outcomes_of(work: Work, name: str) -> list[Outcome]:
-    """Checks one file, each part of it. Whatever fails at it, the others are checked. What a state is to have of a short file are drafts,
-    of which `all_noted` makes records."""
+    """Checks one file, each part of it. Whatever fails at it, the others are checked."""
     try:
         begun = time_ns()
         with open_file(work, name) as file, content_beside(work, name) as beside:
             reading = Reading(file, beside, begun)
             found = [outcome_of(work, reading, one, name) for one in found_in(name, file, work.partial)]
-            outcomes = told(work, name, stamps_judged(work, found))
-            noting = work.noting
-            return outcomes if noting is None or may_wait(reading, outcomes) else noted(work, noting, outcomes)
+            return all_said(work, name, reading, found)
     except Exception as error:
         return [failed(name, error)]
+
+
+def short_in_der(work: Work, name: str) -> Union[tuple[Reading, Found], None]:
+    """What is found in a short file in DER that has no content beside it; None of any other, and where anything fails."""
+    try:
+        begun = time_ns()
+        with open_file(work, name) as file:
+            octets = file.octets
+            if type(octets) is not bytes or len(octets) > SHORT or octets[:1] != b"\x30" or octets[1:2] == b"\x80":
+                return None
+        if work.content is not None or work.pairs.content_of(name) is not None:
+            return None
+        (found,) = found_in(name, file, work.partial)
+        return None if isinstance(found, Unfound) else (Reading(file, None, begun), found)
+    except Exception:
+        return None
+
+
+def outcomes_of_several(work: Work, names: list[str]) -> list[list[Outcome]]:
+    """As `outcomes_of`, of several files: those that are short and in DER are judged together, the others one by one."""
+    ready = [short_in_der(work, name) for name in names]
+    there = [one for one in ready if one is not None]
+    judges = [Judge() for _ in there]
+    try:
+        files = [bytes(found.signed) for _, found in there]
+        verdicts = iter(zip(judges, check_several(files, trust=work.trust, verifiers=judges, sha1=work.sha1)))
+    except Exception:  # as where memory is refused, which then is said of the file that it is refused for
+        return [outcomes_of(work, name) for name in names]
+    said = []
+    for name, one in zip(names, ready):
+        if one is None:
+            said.append(outcomes_of(work, name))
+            continue
+        judge, verdict = next(verdicts)
+        try:
+            if isinstance(verdict, Exception):
+                raise verdict
+            said.append(all_said(work, name, one[0], [outcome_by(work, *one, judge, verdict, name)]))
+        except Exception as error:
+            said.append([failed(name, error)])
+    return said

@@ -10,7 +10,7 @@ from functools import lru_cache
 from typing import Any, Iterable, Iterator, NamedTuple
 
 import cmsproof
-from cmsproof_tools.checking import Work, all_noted, outcomes_of
+from cmsproof_tools.checking import Work, all_noted, outcomes_of_several
 from cmsproof_tools.outcomes import Outcome, lost, text_lines
 from cmsproof_tools.pairs import USUAL, Pairs
 from cmsproof_tools.rows import Noting, keys_of
@@ -82,7 +82,7 @@ def judge(names: list[str], trusted: bytes, terms: Terms, contents: frozenset[st
     named: list[list[Outcome]] = []
     for at in range(0, len(names), GROUP):
         group = names[at : at + GROUP]
-        found = all_noted(work, [outcomes_of(work, os.path.join(terms.folder, name)) for name in group])
+        found = all_noted(work, outcomes_of_several(work, [os.path.join(terms.folder, name) for name in group]))
         named += [[as_named(outcome, name, terms.folder) for outcome in outcomes] for name, outcomes in zip(group, found)]
     return Part(trust, versions, named, time.monotonic() - begun)
 

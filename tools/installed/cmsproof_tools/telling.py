@@ -1,4 +1,4 @@
-"""What is said of a file, as it goes from the process that judged it to the one that prints it: made where there are several."""
+"""What is said of a file, as it goes from the process that judged it to the one that prints it."""
 from __future__ import annotations
 
 from typing import TYPE_CHECKING, Any, Callable, Iterator
@@ -11,9 +11,10 @@ from cmsproof_tools.texts import UNHOLDING
 if TYPE_CHECKING:
     from cmsproof_tools.known import Known
 
-# The lines of a file with their ends; what is said of it on standard error; the worst status and its verdict; the rows that a state is to
-# have, each without its first value and its last one, the name and the moment; and the outcomes, where refusals are acknowledged, which only
-# the process that prints can look for. (A plain tuple goes from process to process in a third of the time that one with names takes.)
+# The lines of a file with their ends; what is said of it on standard error; the worst status and its verdict; the rows
+# that a state is to have, each without its first value and its last one, the name and the moment; and the outcomes, where
+# refusals are acknowledged, which only the process that prints can look for. (A plain tuple goes from process to process
+# in a third of the time that one with names takes.)
 Told = tuple[bytes, tuple[str, ...], int, str, list[tuple[Any, ...]], list[Outcome]]
 
 
@@ -27,7 +28,7 @@ def complaints(outcomes: list[Outcome]) -> Iterator[str]:
 
 
 def told_of(outcomes: list[Outcome], line_of: Callable[[Outcome], str], is_kept: bool, is_known: bool = False) -> Told:
-    """What is said of a file by its outcomes, and for a state if one is kept. None are there of a content without a line."""
+    """What is said of a file by its outcomes, and for a state if one is kept; a content may have none."""
     if not outcomes:
         return b"", (), DONE, "content", [], []
     ended = outcomes[0] if len(outcomes) == 1 else max(outcomes, key=lambda outcome: outcome.status)

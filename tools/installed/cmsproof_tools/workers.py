@@ -11,7 +11,7 @@ import signal
 import socket
 import time
 from collections import deque
-from typing import Any, Callable, Iterator, Sequence
+from typing import Any, Callable, Iterator, Sequence, Union
 
 # prctl(2): the signal that a process gets when the one that started it has ended
 PR_SET_PDEATHSIG = 1
@@ -19,6 +19,8 @@ LIBRARY = ctypes.CDLL(None, use_errno=True)
 # how many items a worker is handed at a time where there are many, and of how many characters; after how many seconds it says what
 # it has done of them. Two such groups fit into a pipe, so that nobody waits who should read.
 GROUP, ROOM, OFTEN = 32, 8192, 0.05
+# how many of them the task is done for in turn: few, since what is done waits for all of them
+TOGETHER = 16
 # how many results are given on at a time
 MOST = 64
 # how many octets are read at a time
@@ -70,14 +72,14 @@ def bind(parent: int) -> None:
         end_group()
 
 
-def serve(connection: Connection, task: Callable[[Any], Any], finish: Callable[[list[Any]], list[Any]]) -> None:
-    """Does the task for each of the items that come, in their order, until no more can come. What is sent is the results that are there
-    then, as `finish` makes them."""
+def serve(connection: Connection, task: Callable[[list[Any]], list[Any]], finish: Callable[[list[Any]], list[Any]]) -> None:
+    """Does the task for the items that come, for some in turn, in their order, until no more can come. What is sent is the results that
+    are there then, as `finish` makes them."""
     try:
         while True:
             items, done, next_time = connection.receive(), list[Any](), time.monotonic() + OFTEN
-            for item in items:
-                done.append(task(item))
+            for at in range(0, len(items), TOGETHER):
+                done += task(items[at : at + TOGETHER])
                 if time.monotonic() >= next_time:
                     connection.send(finish(done))
                     done, next_time = [], time.monotonic() + OFTEN
@@ -90,7 +92,9 @@ def serve(connection: Connection, task: Callable[[Any], Any], finish: Callable[[
 class Worker:
     """A worker, how it is talked to, the numbers of the items that it has in hand, in their order, and whether none may be behind."""
 
-    def __init__(self, task: Callable[[Any], Any], finish: Callable[[list[Any]], list[Any]], others: list[Worker]) -> None:
+    def __init__(
+        self, task: Callable[[list[Any]], list[Any]], finish: Callable[[list[Any]], list[Any]], others: list[Worker]
+    ) -> None:
         self.connection, there = map(Connection, socket.socketpair())
         self.numbers: deque[int] = deque()
         self.alone = False
@@ -167,11 +171,17 @@ class Workers:
     """Some workers, which have ended when the block that they are made for is left."""
 
     def __init__(
-        self, count: int, task: Callable[[Any], Any], finish: Callable[[list[Any]], list[Any]] = lambda done: done
+        self,
+        count: int,
+        task: Callable[[Any], Any],
+        finish: Callable[[list[Any]], list[Any]] = lambda done: done,
+        together: Union[Callable[[list[Any]], list[Any]], None] = None,
     ) -> None:
+        """So many that do a task for an item, or for some of them `together`."""
         self.running: list[Worker] = []
         self.poll = select.poll()
-        self.task, self.finish, self.count = task, finish, count
+        self.task = together or (lambda items: [task(item) for item in items])
+        self.finish, self.count = finish, count
 
     def __enter__(self) -> Workers:
         # (what is there by now is shared, and not looked through again)

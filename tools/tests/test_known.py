@@ -1,4 +1,5 @@
 """Tests of what is acknowledged (`--known`): only a refusal of just this code and name is, and nothing makes an accepted file of it."""
+import base64
 import csv
 import io
 import json
@@ -237,6 +238,40 @@ class Names(unittest.TestCase):
             (1, "something S10", False),
         ):
             self.assertEqual(known.covers(status, line, "a"), covered, line)
+
+
+class Several(unittest.TestCase):
+    """Files that several processes judge: their lines are those of a run without what is acknowledged, and so is what is said of the rest."""
+
+    def test_parts_and_complaints(self):
+        folder, trust = folder_of(self), ["--trust", REAL / "trust.txt"]
+        blocks = [base64.encodebytes((REAL / f"{name}.p7s").read_bytes()).decode() for name in ("rsa_attached", "noattr")]
+        two = "".join(f"-----BEGIN CMS-----\n{block}-----END CMS-----\n" for block in blocks)
+        for name, octets in (("one.pem", two), ("two.pem", two), ("text", "hello"), ("mail", "hello")):
+            (folder / name).write_text(octets)
+        (folder / "good.p7s").write_bytes((REAL / "rsa_attached_ts.p7s").read_bytes())
+        names = ["one.pem", "text", "good.p7s", "mail", "two.pem"]
+        lines = run_tool("cmsproof-archive", *trust, *names, cwd=folder)[1]
+        self.assertEqual(lines.count(b"\n"), 7)
+        texts, first, second = "F1 text\nF1 mail\n", "S10 one.pem block 1\nS1 one.pem block 2\n", "S10 two.pem block 1\n"
+        for text, status, told, said in (
+            ("", 1, ["text", "mail"], "0 acknowledged; new: 4 refused"),
+            ("F1 text\n", 1, ["mail"], "1 acknowledged; new: 3 refused"),
+            (texts + first, 1, [], "3 acknowledged; new: 1 refused"),
+            (texts + first + second, 1, [], "3 acknowledged; new: 1 refused"),
+            (first + second + "S1 two.pem block 2\n", 1, ["text", "mail"], "2 acknowledged; new: 2 refused"),
+            (texts + first + second + "S1 two.pem block 2\n", 5, [], "4 acknowledged; new: none"),
+        ):
+            (folder / "known").write_text(text)
+            words = [*trust, "--state", "state", "--known", "known", "--jobs", "3"]
+            for again in (["--recheck"], []):
+                with self.subTest(text, again=again):
+                    found = run_tool("cmsproof-archive", *words, *again, *names, cwd=folder)
+                    # (files that are new by now may be judged again)
+                    self.assertIn(found[:2], [(status, lines), *([] if again else [(status, b"")])], found)
+                    self.assertIn(said, found[2])
+                    complaints = [name for name in ("text", "mail") if f": {name}: it begins as no file" in found[2]]
+                    self.assertEqual(complaints, told if found[1] else [])
 
 
 class ByIssuers(unittest.TestCase):

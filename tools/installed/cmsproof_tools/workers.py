@@ -197,6 +197,8 @@ class Workers:
     def __exit__(self, *_: object) -> None:
         while self.running:
             self.running.pop().end()
+        # (what only cycles hold would stay for ever: who reads many files apart is here once for each)
+        gc.unfreeze()
 
     def start(self) -> Worker:
         """Starts one more."""

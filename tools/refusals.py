@@ -7,13 +7,12 @@
 """
 from __future__ import annotations
 
-import re
 import sys
 from pathlib import Path
 
 TOP = Path(__file__).resolve().parent.parent
 sys.path[:0] = [str(TOP / "tools" / "installed")]
-from cmsproof_tools.cures import ROWS  # noqa: E402
+from cmsproof_tools.cures import CODE, ROWS  # noqa: E402
 
 PAGE = TOP / "docs" / "REFUSALS.md"
 # A cure of more words stands once in the page: later rows name the code whose cure it is.
@@ -23,9 +22,10 @@ HEAD = ("| Code | When, and who causes it | Cure |", "|---|---|---|")
 
 def rows() -> list[tuple[str, str]]:
     """The section and the line of each row."""
-    lines, first = [], {}
+    lines: list[tuple[str, str]] = []
+    first: dict[str, str] = {}
     for row in ROWS:
-        code = re.match("[A-Z][0-9]+", row.codes)[0]
+        code = CODE.findall(row.codes)[0]
         said = first.setdefault(row.cure, code)
         cure = row.cure if said == code or len(row.cure.split()) <= LONG else f"as {said}"
         lines.append((row.section, f"| {row.codes} | {row.when} | {cure} |"))

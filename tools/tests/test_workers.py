@@ -56,6 +56,15 @@ class Handing(unittest.TestCase):
             for count in (1, 3):
                 self.assertEqual(results(named, count), expected, (len(items), list(ends), count))
 
+    def test_too_few_or_too_many_results(self):
+        items = [f"item {number}" for number in range(40)]
+        for together in (lambda some: some[1:], lambda some: [*some, "more"]):
+            for count in (1, 3):
+                with Workers(count, task, together=together) as workers:
+                    self.assertEqual(list(workers.results(items, lost)), [(f"lost {item} by 0", 0) for item in items])
+        with Workers(2, task, finish=lambda done: done[1:]) as workers:
+            self.assertEqual(list(workers.results(items, lost)), [(f"lost {item} by 0", 0) for item in items])
+
     def test_slow_ones_and_long_names(self):
         items = [f"{'slow' if number % 97 == 0 else 'item'} {number}" for number in range(400)]
         items[50] = "x" * (40 * ROOM)

@@ -72,19 +72,27 @@ def bind(parent: int) -> None:
         end_group()
 
 
+def as_many(results: list[Any], items: list[Any]) -> list[Any]:
+    """The results, if there is one for each item. Raises EOFError where there are more or fewer."""
+    if len(results) != len(items):
+        raise EOFError
+    return results
+
+
 def serve(connection: Connection, task: Callable[[list[Any]], list[Any]], finish: Callable[[list[Any]], list[Any]]) -> None:
     """Does the task for the items that come, for some in turn, in their order, until no more can come. What is sent is the results that
-    are there then, as `finish` makes them."""
+    are there then, as `finish` makes them. It ends where these are not as many as the items, so that none is taken for another's."""
     try:
         while True:
             items, done, next_time = connection.receive(), list[Any](), time.monotonic() + OFTEN
             for at in range(0, len(items), TOGETHER):
-                done += task(items[at : at + TOGETHER])
+                some = items[at : at + TOGETHER]
+                done += as_many(task(some), some)
                 if time.monotonic() >= next_time:
-                    connection.send(finish(done))
+                    connection.send(as_many(finish(done), done))
                     done, next_time = [], time.monotonic() + OFTEN
             if done:
-                connection.send(finish(done))
+                connection.send(as_many(finish(done), done))
     except (EOFError, BrokenPipeError, ConnectionResetError):
         pass
 

@@ -81,7 +81,7 @@ def as_many(results: list[Any], items: list[Any]) -> list[Any]:
 
 def serve(connection: Connection, task: Callable[[list[Any]], list[Any]], finish: Callable[[list[Any]], list[Any]]) -> None:
     """Does the task for the items that come, for some in turn, in their order, until no more can come. What is sent is the results that
-    are there then, as `finish` makes them. It ends where these are not as many as the items, so that none is taken for another's."""
+    are there then, as `finish` makes them. It ends where these are not as many as the items: none is taken for another's."""
     try:
         while True:
             items, done, next_time = connection.receive(), list[Any](), time.monotonic() + OFTEN

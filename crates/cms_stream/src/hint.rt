@@ -16,6 +16,9 @@ use der_lists::AlgorithmIdentifiers;
 use devices::Source;
 use digests::{Alg, Algs};
 
+// How many octets of the digestAlgorithms of a file are kept for a hint, at most.
+const KEPT: usize = 512;
+
 // The algorithms that these identifiers name.
 fn named(identifiers: &AlgorithmIdentifiers) -> Algs
     ensures { AreNamedBy identifiers.now result }
@@ -113,7 +116,7 @@ impl Pass {
             → AreListed 512 v (S.failures source.old) (S.failures source.new) result }
     {
         self.reader.restart();
-        let mut room = [0; 512];
+        let mut room = [0; KEPT];
         named_in(self.reader.digest_algorithms(source, &mut room))
     }
 }

@@ -35,9 +35,15 @@ impl Reader {
 }
 
 impl Pass {
-    /// As `open_stream`, with this window.
+    /// One pass over a file, a ContentInfo (RFC 5652 3), to the end of its source: what it keeps of a SignedData, or
+    /// `None` if the file is of another type. The octets of the content, if it is in the file, go to `taker` as they
+    /// pass. It uses as many octets of the buffer as the whole elements eContentType and signerInfos have; the result
+    /// is a view of the buffer.
     ///
-    /// Errors: as `open_stream`.
+    /// Errors: `Malformed` with a fault of form that the file has, or that was met before the ends of the elements
+    /// around it: the octets after the signers are looked at only after the signers were read; `TooLong` if the headers
+    /// of eContentType and signerInfos state more octets than the buffer has, as soon as that is known; `ReadFailed` if
+    /// the source failed.
     pub fn open_stream<'b, S: Source, K: Taker>(
         &mut self,
         source: &mut S,
@@ -63,37 +69,4 @@ impl Pass {
         self.reader.restart();
         self.reader.file(source, buffer, taker)
     }
-}
-
-/// One pass over a file, a ContentInfo (RFC 5652 3), to the end of its source: what it keeps of a SignedData, or `None`
-/// if the file is of another type. The octets of the content, if it is in the file, go to `taker` as they pass. It uses
-/// as many octets of the buffer as the whole elements eContentType and signerInfos have; the result is a view of the
-/// buffer.
-///
-/// Errors: `Malformed` with a fault of form that the file has, or that was met before the ends of the elements around
-/// it: the octets after the signers are looked at only after the signers were read; `TooLong` if the headers of
-/// eContentType and signerInfos state more octets than the buffer has, as soon as that is known; `ReadFailed` if the
-/// source failed.
-pub fn open_stream<'b, S: Source, K: Taker>(
-    source: &mut S,
-    buffer: &'b mut [u8],
-    taker: &mut K,
-) -> Result<Option<Opened<'b>>, StreamFault>
-    // What the outcome states about the octets of the file, and that the taker took its content after what it had taken
-    // before.
-    ensures opens { S.tells source.old → OpensStream (Gained K.Taker taker.old taker.new) (length buffer.old)
-        (S.rest source.old) result }
-    // A value that the octets encode is found.
-    ensures only { S.tells source.old → (c : ContentInfoValue) → EncodesContentInfo (S.rest source.old) c
-        → OpensEncoding (Gained K.Taker taker.old taker.new) (length buffer.old) (S.rest source.old) c result }
-    // There was room for the whole elements that are kept: so if they are longer than the buffer, nothing is kept.
-    ensures room { IfOk result (λ o. IfSome o (FitsRoom (length buffer.old))) }
-    // The source's count of failures is raised exactly if the error is `ReadFailed`.
-    ensures count { CountsPass result (S.failures source.old) (S.failures source.new) }
-    // If it was known what is still to come, it still is; and if there is no error, nothing is still to come.
-    ensures telling { S.tells source.old → S.tells source.new }
-    // If it was known what was to come and there is no error, nothing is still to come.
-    ensures end { S.tells source.old → IfOk result (λ _. S.rest source.new ≡ []) }
-{
-    Pass::new().open_stream(source, buffer, taker)
 }

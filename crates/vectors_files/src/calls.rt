@@ -21,7 +21,7 @@ struct Devices<'d> {
 impl<'r, 'a> Terms<'r, 'a> {
     /// What a call says of octets, in a buffer where it needs one: `check/N`, `signer/NUMBER`, `stream/N`,
     /// `guess/ALGORITHM` of `check_stream_by`, `fits/N`, `questions`, `asked/N` of `questions_stream`, `show`, `pass/N`
-    /// of `open_stream`, or `listed/N`.
+    /// of `Pass::open_stream`, or `listed/N`.
     /// N is how many octets sources hand out at most at a call, 9 without it. The device that fails passes so many
     /// calls on. After the line comes whether other questions were asked, if that is to be said; with a device that
     /// fails how often it failed; or how much of a content is left.

@@ -1,6 +1,6 @@
 //! What passes over files find.
 use crate::runs::Runs;
-use cms_stream::{Opened, Taker, open_stream};
+use cms_stream::{Opened, Pass, Taker};
 use cmsproof_api::Source;
 use devices::Pieces;
 use vectors::{Bad, Row};
@@ -36,7 +36,7 @@ pub fn found(row: &Row<'_>) -> Result<String, Bad> {
 /// differ.
 pub fn pass<S: Source>(row: &Row<'_>, file: &mut S, room: &mut [u8]) -> Result<String, Bad> {
     let mut held = Held(Vec::new(row.alloc));
-    match open_stream(file, room, &mut held) {
+    match Pass::new().open_stream(file, room, &mut held) {
         Ok(Some(opened)) => {
             if row.kind == "found" && !agrees(row, &opened, &held.0)? {
                 return row.word("other parts");

@@ -8,7 +8,7 @@ import sys
 import unittest
 from unittest import mock
 
-from making import TOP, folder_of
+from making import TOP, folder_of, needs
 
 import bench
 import dist
@@ -16,6 +16,7 @@ import linking
 from test_dist import assembly
 
 
+@needs("git")
 class Bench(unittest.TestCase):
     """A history of two commits, of which only the second has workloads in dist/."""
 

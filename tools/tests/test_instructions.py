@@ -8,6 +8,7 @@ from unittest import mock
 
 from making import folder_of
 
+import bench
 import instructions
 from linking import Stopped
 from samples import measured_files
@@ -122,8 +123,11 @@ class Command(unittest.TestCase):
             (("--of",), {}, 2, "", "instructions.py [--gate "),
             (("--of=nothing",), {}, 1, "", "there is no commit 'nothing'"),
         ]
+        # (of git, which need not be there, nor a history here)
         for words, self.costs, status, out, err in table:
-            with self.subTest(words, costs=self.costs):
+            with self.subTest(words, costs=self.costs), mock.patch.object(
+                bench, "git", lambda _, word, *more: None if more else b""
+            ):
                 found = self.said(*words)
                 self.assertEqual(found[0], status)
                 self.assertIn(out, found[1])

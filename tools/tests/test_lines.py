@@ -6,6 +6,7 @@ import sys
 import tempfile
 import unittest
 from pathlib import Path
+from unittest import mock
 
 TOP = Path(__file__).resolve().parent.parent.parent
 sys.path.insert(0, str(TOP / "tools"))
@@ -76,8 +77,8 @@ class Lines(unittest.TestCase):
             path = Path(folder, "crates", "cups", "proofs", "Cups.antt")
             path.parent.mkdir(parents=True)
             path.write_text(text, encoding="utf-8")
-            said, lines.shutil.which = io.StringIO(), lambda _name: None
-            with contextlib.redirect_stdout(said):
+            said = io.StringIO()
+            with contextlib.redirect_stdout(said), mock.patch.object(lines.shutil, "which", lambda _name: None):
                 status = lines.main(words, Path(folder))
             return status, said.getvalue(), path.read_text(encoding="utf-8")
 

@@ -4,6 +4,7 @@ import json
 import random
 import subprocess
 import unittest
+from unittest import mock
 
 from making import PROGRAM, REAL, folder_of, need_tools, run_tool
 from test_alike import FAULT, FOUND, STAMPED, spoiled
@@ -13,8 +14,10 @@ need_tools()
 from samples import hierarchy
 from samples.hierarchy import issue, root, signed, together
 
-from cmsproof_tools import issuing, verify
+from cmsproof import TrustList
+from cmsproof_tools import checking, issuing, verify
 from cmsproof_tools.issuer_words import Asked
+from cmsproof_tools.pairs import USUAL, Pairs
 from cmsproof_tools.running import Stop
 
 # a time in each of these months
@@ -145,6 +148,31 @@ class Several(unittest.TestCase):
             self.assertRaises(Stop, verify.faults_of_many, lines)
         finally:
             verify.faults_of = was
+
+    def test_no_file_is_read_twice(self):
+        """Nor is one opened to be read and left, because others of its kind are judged otherwise."""
+        folder, signed = folder_of(self), (REAL / "rsa_attached_ts.p7s").read_bytes()
+        kinds = {
+            "der": signed,
+            "ber": b"\x30\x80" + signed,
+            "text": b"no\n",
+            "empty": b"",
+            "long": signed + bytes(checking.SHORT),
+        }
+        for name, octets in {**kinds, "of.p7s": signed, "of": b"", "pdf": b"%PDF-1.4\n"}.items():
+            (folder / name).write_bytes(octets)
+        names = [str(folder / name) for name in (*kinds, "pdf", "der")]
+        work = checking.Work(
+            TrustList.from_file(REAL / "trust.txt"), None, False, False, {}, Pairs({}, USUAL), frozenset(), False, False
+        )
+        alone = [checking.outcomes_of(work, name) for name in names]
+        read, file_at = [], checking.file_at
+        with mock.patch.object(checking, "file_at", lambda *words: read.append(words[1]) or file_at(*words)):
+            self.assertEqual(checking.outcomes_of_several(work, names), alone)
+            self.assertEqual(sorted(read), sorted(names))
+            # (that there is a content beside it is seen once it is read)
+            pair = [str(folder / "of.p7s")]
+            self.assertEqual(checking.outcomes_of_several(work, pair), [checking.outcomes_of(work, pair[0])])
 
     def test_a_list_of_issuers_by_several_processes(self):
         """It has the same entries and tells the same lines, in whichever order files of new signers come."""

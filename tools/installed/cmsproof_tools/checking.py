@@ -1,6 +1,7 @@
 """How one file is checked: opened, read, and asked of the proved library, in this process. No word of a user is handed on."""
 from __future__ import annotations
 
+import math
 import os
 import stat
 from contextlib import contextmanager, nullcontext
@@ -161,8 +162,8 @@ def opened(name: str) -> Opened:
         os.close(descriptor)
 
 
-def open_file(work: Work, name: str) -> Opened:
-    """As `opened`, of the files that a run names: some are open already."""
+def open_file(work: Work, name: str, most: float = math.inf) -> Opened:
+    """As `opened`, of the files that a run names: some are open already. One that is said to be longer than `most` is not read."""
     given = work.opened.get(name)
     try:
         if isinstance(given, Exception):
@@ -171,6 +172,8 @@ def open_file(work: Work, name: str) -> Opened:
     except (OSError, descriptors.Unfit) as error:
         raise unopened(name, error) from error
     try:
+        if found is not None and found.st_size > most:
+            raise Unread("read", name)
         return Opened(file_at(descriptor, name, found))
     finally:
         if given is None:
@@ -357,54 +360,71 @@ def all_said(work: Work, name: str, reading: Reading, found: list[Outcome]) -> l
     return outcomes if noting is None or may_wait(reading, outcomes) else noted(work, noting, outcomes)
 
 
-def outcomes_of(work: Work, name: str) -> list[Outcome]:
-    """Checks one file, each part of it. Whatever fails at it, the others are checked."""
+def outcomes_of(work: Work, name: str, read: Union[Reading, None] = None) -> list[Outcome]:
+    """Checks one file, each part of it, which may have been read. Whatever fails at it, the others are checked."""
     try:
+        if read is not None:
+            return outcomes_in(work, name, read)
         begun = time_ns()
         with open_file(work, name) as file, content_beside(work, name) as beside:
-            reading = Reading(file, beside, begun)
-            found = [outcome_of(work, reading, one, name) for one in found_in(name, file, work.partial)]
-            return all_said(work, name, reading, found)
+            return outcomes_in(work, name, Reading(file, beside, begun))
     except Exception as error:
         return [failed(name, error)]
 
 
-def short_in_der(work: Work, name: str) -> Union[tuple[Reading, Found], None]:
-    """What is found in a short file in DER that has no content beside it; None of any other, and where anything fails."""
+def outcomes_in(work: Work, name: str, reading: Reading) -> list[Outcome]:
+    """Checks each part of a file that is read."""
+    found = found_in(name, reading.file, work.partial)
+    return all_said(work, name, reading, [outcome_of(work, reading, one, name) for one in found])
+
+
+def short(work: Work, name: str) -> Union[Reading, None]:
+    """A short file that has no content beside it, of which a copy is read; None of any other, and where anything fails."""
     try:
         begun = time_ns()
-        with open_file(work, name) as file:
-            octets = file.octets
-            if type(octets) is not bytes or len(octets) > SHORT or octets[:1] != b"\x30" or octets[1:2] == b"\x80":
+        with open_file(work, name, SHORT) as file:
+            if type(file.octets) is not bytes or len(file.octets) > SHORT:
                 return None
         if work.content is not None or work.pairs.content_of(name) is not None:
             return None
-        (found,) = found_in(name, file, work.partial)
-        return None if isinstance(found, Unfound) else (Reading(file, None, begun), found)
+        return Reading(file, None, begun)
+    except Exception:
+        return None
+
+
+def alone_in_der(work: Work, name: str, reading: Union[Reading, None]) -> Union[Found, None]:
+    """What is found in a short file in DER; None of any other, and where anything fails."""
+    if reading is None or reading.file.octets[:1] != b"\x30" or reading.file.octets[1:2] == b"\x80":
+        return None
+    try:
+        (found,) = found_in(name, reading.file, work.partial)
+        return None if isinstance(found, Unfound) else found
     except Exception:
         return None
 
 
 def outcomes_of_several(work: Work, names: list[str]) -> list[list[Outcome]]:
-    """As `outcomes_of`, of several files: those that are short and in DER are judged together, the others one by one."""
-    ready = [short_in_der(work, name) for name in names]
-    there = [one for one in ready if one is not None]
+    """As `outcomes_of`, of several files: those that are short and in DER are judged together, the others one by one. None that is
+    short is read twice, and none that is long."""
+    read = [short(work, name) for name in names]
+    ready = [alone_in_der(work, name, reading) for name, reading in zip(names, read)]
+    there = [found for found in ready if found is not None]
     judges = [Judge() for _ in there]
     try:
-        files = [bytes(found.signed) for _, found in there]
+        files = [bytes(found.signed) for found in there]
         verdicts = iter(zip(judges, check_several(files, trust=work.trust, verifiers=judges, sha1=work.sha1)))
     except Exception:  # as where memory is refused, which then is said of the file that it is refused for
         return [outcomes_of(work, name) for name in names]
     said = []
-    for name, one in zip(names, ready):
-        if one is None:
-            said.append(outcomes_of(work, name))
+    for name, reading, found in zip(names, read, ready):
+        if reading is None or found is None:
+            said.append(outcomes_of(work, name, reading))
             continue
         judge, verdict = next(verdicts)
         try:
             if isinstance(verdict, Exception):
                 raise verdict
-            said.append(all_said(work, name, one[0], [outcome_by(work, *one, judge, verdict, name)]))
+            said.append(all_said(work, name, reading, [outcome_by(work, reading, found, judge, verdict, name)]))
         except Exception as error:
             said.append([failed(name, error)])
     return said

@@ -1,17 +1,22 @@
-"""Tests of how the tools end: with signals, descriptors that are closed or full, and a library that answers otherwise."""
+"""Tests of how the tools begin and end: with signals, descriptors that are closed or full, and a library that answers otherwise."""
+import gc
 import json
 import os
+import re
+import shutil
 import signal
 import subprocess
 import sys
 import time
 import unittest
+from unittest import mock
 
 from archiving import REFUSED, SAID, WithFiles
 from making import ACCEPTED, INSTALLED, REAL, needs, without_library
 
 from cmsproof import Unexpected, library  # noqa: E402
 from cmsproof.verdicts import verdict_of  # noqa: E402
+from cmsproof_tools import running  # noqa: E402
 
 # a check that leaves the number of a process that it started in the folder and goes on for a minute
 SLOW = """
@@ -55,6 +60,30 @@ def soon(held):
             return True
         time.sleep(0.05)
     return held()
+
+
+class Beginning(unittest.TestCase):
+    """What a tool does before it reads a file."""
+
+    def test_modules_are_read(self):
+        text = f"a{chr(sys.maxunicode)}"
+        with running.reading():
+            self.assertFalse(gc.isenabled())
+            far, near = re.compile(f"[a-{text[1]}]+"), re.compile("(?i)A" + ".", re.DOTALL)
+        self.assertEqual((gc.isenabled(), re.compile), (True, running.COMPILE))
+        self.assertNotIsInstance(far, re.Pattern)
+        self.assertIsInstance(near, re.Pattern)
+        self.assertEqual((far.fullmatch(text)[0], far.pattern, near.match("a\n")[0]), (text, f"[a-{text[1]}]+", "a\n"))
+        with self.assertRaises(ImportError), running.reading():
+            raise ImportError
+        self.assertEqual((gc.isenabled(), re.compile), (True, running.COMPILE))
+
+    def test_how_wide_the_help_is(self):
+        for said in ("77", "1", "0", "-3", "", "wide", None):
+            environment = {name: value for name, value in os.environ.items() if name != "COLUMNS"}
+            environment.update({} if said is None else {"COLUMNS": said})
+            with self.subTest(said), mock.patch.dict(os.environ, environment, clear=True):
+                self.assertEqual(running.columns.__wrapped__(), shutil.get_terminal_size().columns)
 
 
 class Answers(WithFiles):

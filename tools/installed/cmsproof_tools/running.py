@@ -3,13 +3,15 @@ from __future__ import annotations
 
 import argparse
 import errno
+import gc
 import importlib
 import os
+import re
 import stat
 import sys
-from contextlib import suppress
+from contextlib import contextmanager, suppress
 from functools import lru_cache, wraps
-from typing import IO, Any, Callable, Iterable, NoReturn, TypeVar, cast
+from typing import IO, Any, Callable, Iterable, Iterator, NoReturn, TypeVar, cast
 
 from cmsproof_tools import VERSION, descriptors
 from cmsproof_tools.writing import put, written
@@ -25,6 +27,7 @@ OUTPUT, COMPLAINTS = 1, 2
 # how many octets are few enough to be kept
 SHORT = 1 << 14
 Function = TypeVar("Function", bound=Callable[..., Any])
+COMPILE = re.compile
 
 
 class Stop(Exception):
@@ -42,11 +45,29 @@ class Started:
     lost = False
 
 
+@lru_cache(maxsize=None)
+def columns() -> int:
+    """How wide a terminal is: as $COLUMNS says, or standard output. (`shutil`, which knows it too, takes 7 milliseconds to be read.)"""
+    with suppress(ValueError):
+        if (said := int(os.environ.get("COLUMNS", "0"))) > 0:
+            return said
+    with suppress(OSError):
+        return os.get_terminal_size(OUTPUT).columns or 80
+    return 80
+
+
+class Help(argparse.RawDescriptionHelpFormatter):
+    """The form of the help, of which `argparse` makes one for each word that a tool has."""
+
+    def __init__(self, prog: str) -> None:
+        super().__init__(prog, width=columns() - 2)
+
+
 class Words(argparse.ArgumentParser):
     """The parser of a tool's words: wrong ones give one line and the status of the program."""
 
     def __init__(self, tool: str, **rest: Any) -> None:
-        super().__init__(prog=tool, allow_abbrev=False, formatter_class=argparse.RawDescriptionHelpFormatter, **rest)
+        super().__init__(prog=tool, allow_abbrev=False, formatter_class=Help, **rest)
         self.add_argument("--version", action="version", version=f"{tool} {VERSION}")
 
     def error(self, message: str) -> NoReturn:
@@ -153,11 +174,42 @@ def kept_if_short(most: int) -> Callable[[Function], Function]:
     return keeping
 
 
+class Later:
+    """A pattern that is compiled once something is asked of it."""
+
+    def __init__(self, *words: Any) -> None:
+        self.words = words
+
+    def __getattr__(self, name: str) -> Any:
+        return getattr(COMPILE(*self.words), name)
+
+
+def compiled(pattern: Any, flags: int = 0) -> Any:
+    """As `re.compile`, but later, of a pattern with the last character of Unicode: `cryptography` 38 has one for names in texts, which no
+    tool reads with it, and which takes a sixth of the time of a short run."""
+    return Later(pattern, flags) if isinstance(pattern, str) and chr(sys.maxunicode) in pattern else COMPILE(pattern, flags)
+
+
+@contextmanager
+def reading() -> Iterator[None]:
+    """A block in which modules are read. What they make stays, and is not looked through for what only cycles hold."""
+    was_enabled = gc.isenabled()
+    gc.disable()
+    setattr(re, "compile", compiled)
+    try:
+        yield
+    finally:
+        setattr(re, "compile", COMPILE)
+        if was_enabled:
+            gc.enable()
+
+
 @lru_cache(maxsize=None)
 def module(name: str) -> Any:
     """The module of the tools of this name, which needs Python's library `cryptography`."""
     try:
-        return importlib.import_module("cmsproof_tools." + name)
+        with reading():
+            return importlib.import_module("cmsproof_tools." + name)
     except ImportError as error:
         missing = f"Python's library `cryptography` is missing for {sys.executable} ({error})"
         raise Stop(FAILED, f"{missing}: install Debian's python3-cryptography") from error
@@ -181,8 +233,9 @@ def ended(tool: str, command: str) -> int:
         if sys.version_info < OLDEST_PYTHON:
             raise Stop(FAILED, "Python is too old: version {}.{} or a later one is needed".format(*OLDEST_PYTHON))
         check_names(sys.argv[1:])
-        status: int = importlib.import_module("cmsproof_tools." + READING.get(command, command)).main(tool, sys.argv[1:])
-        return status
+        with reading():
+            words = importlib.import_module("cmsproof_tools." + READING.get(command, command))
+        return cast(int, words.main(tool, sys.argv[1:]))
     except Stop as stop:
         tell(tool, stop.line)
         return stop.status

@@ -8,7 +8,6 @@ from __future__ import annotations
 import hashlib
 import importlib
 import math
-import secrets
 import warnings
 from binascii import unhexlify
 from functools import lru_cache
@@ -258,6 +257,8 @@ def is_prime(number: int) -> bool:
     """Whether an odd number above 3 is prime, by Miller and Rabin (FIPS 186-4 C.3.1), with bases that nobody knows before."""
     if number < 5 or number % 2 == 0:
         return False
+    import secrets
+
     twos = ((number - 1) & -(number - 1)).bit_length() - 1
     for _ in range(ROUNDS):
         power = pow(2 + secrets.randbelow(number - 3), number >> twos, number)

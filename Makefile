@@ -165,13 +165,15 @@ install: build install-tools
 	install -m 644 packaging/completion/_cmsproof "$(FOR_ZSH)"
 	install -m 644 $(FISH) "$(FOR_FISH)"
 
-# The tools and the package for Python, with the library and the page of refusals, which a report shows.
+# The tools and the package for Python, with the library and the page of refusals, which a report shows. What is installed for this
+# machine is compiled, since who runs it may write nothing there: else each run would compile it, which takes a fifth of a short one.
 install-tools: $(LIBRARY)
 	install -d "$(BINDIR)" $(patsubst %,"$(LIBDIR)/%",$(sort $(dir $(MODULES))))
 	install -m 755 $(TOOLS) "$(BINDIR)"
 	set -e; for module in $(MODULES); do install -m 644 "tools/installed/$$module" "$(LIBDIR)/$$module"; done
 	install -m 644 docs/REFUSALS.md "$(LIBDIR)/cmsproof_tools"
 	install -m 644 $(LIBRARY) "$(LIBDIR)/cmsproof"
+	test -n "$(DESTDIR)" || $(PYTHON) -m compileall -q "$(LIBDIR)"
 
 # Which files of the folders are installed as they are: whoever makes packages in a clone asks git whether it knows them all.
 list-installed:

@@ -44,18 +44,10 @@ class Installing(unittest.TestCase):
         shutil.copy(REAL / "rsa_attached_ts.p7s", self.folder / "file")
         shutil.copy(REAL / "trust.txt", self.folder / "list")
 
-    def make(self, target):
+    def make(self, target, *places):
         """Runs make, with the program and the library as they are."""
-        words = [
-            "make",
-            "-o",
-            "cmsproof",
-            "-o",
-            "tools/installed/cmsproof/libcmsproof.so.1",
-            target,
-            f"DESTDIR={self.folder / 'root'}",
-            "PREFIX=/usr",
-        ]
+        where = places or (f"DESTDIR={self.folder / 'root'}", "PREFIX=/usr")
+        words = ["make", "-o", "cmsproof", "-o", "tools/installed/cmsproof/libcmsproof.so.1", target, *where]
         subprocess.run(words, cwd=self.folder / "tree", capture_output=True, check=True)
 
     def said(self, *words, **environment):
@@ -72,6 +64,15 @@ class Installing(unittest.TestCase):
             env={**os.environ, **environment},
         )
         return done.returncode, done.stdout.decode(), done.stderr.decode()
+
+    def test_what_is_installed_for_this_machine_is_compiled(self):
+        place = f"PREFIX={self.folder / 'local'}", f"PYTHON={sys.executable}"
+        self.make("install", *place)
+        modules = [path for path in (self.folder / "local" / "lib" / "cmsproof").rglob("*.py")]
+        self.assertTrue(modules)
+        self.assertEqual([path for path in modules if not os.path.exists(importlib.util.cache_from_source(path))], [])
+        self.make("uninstall", *place)
+        self.assertEqual([path for path in (self.folder / "local").rglob("*") if not path.is_dir()], [])
 
     def test_installed_tools_and_what_is_left_of_them(self):
         self.make("install")

@@ -173,7 +173,7 @@ install-tools: $(LIBRARY)
 	set -e; for module in $(MODULES); do install -m 644 "tools/installed/$$module" "$(LIBDIR)/$$module"; done
 	install -m 644 docs/REFUSALS.md "$(LIBDIR)/cmsproof_tools"
 	install -m 644 $(LIBRARY) "$(LIBDIR)/cmsproof"
-	test -n "$(DESTDIR)" || $(PYTHON) -m compileall -q "$(LIBDIR)"
+	@test -n "$(DESTDIR)" || $(PYTHON) -m compileall -q "$(LIBDIR)" || echo "cmsproof: the tools were not compiled, and start slower"
 
 # Which files of the folders are installed as they are: whoever makes packages in a clone asks git whether it knows them all.
 list-installed:

@@ -2,7 +2,6 @@
 import gc
 import json
 import os
-import re
 import shutil
 import signal
 import subprocess
@@ -66,17 +65,12 @@ class Beginning(unittest.TestCase):
     """What a tool does before it reads a file."""
 
     def test_modules_are_read(self):
-        text = f"a{chr(sys.maxunicode)}"
         with running.reading():
             self.assertFalse(gc.isenabled())
-            far, near = re.compile(f"[a-{text[1]}]+"), re.compile("(?i)A" + ".", re.DOTALL)
-        self.assertEqual((gc.isenabled(), re.compile), (True, running.COMPILE))
-        self.assertNotIsInstance(far, re.Pattern)
-        self.assertIsInstance(near, re.Pattern)
-        self.assertEqual((far.fullmatch(text)[0], far.pattern, near.match("a\n")[0]), (text, f"[a-{text[1]}]+", "a\n"))
+        self.assertTrue(gc.isenabled())
         with self.assertRaises(ImportError), running.reading():
             raise ImportError
-        self.assertEqual((gc.isenabled(), re.compile), (True, running.COMPILE))
+        self.assertTrue(gc.isenabled())
 
     def test_how_wide_the_help_is(self):
         for said in ("77", "1", "0", "-3", "", "wide", None):

@@ -6,7 +6,6 @@ import errno
 import gc
 import importlib
 import os
-import re
 import stat
 import sys
 from contextlib import contextmanager, suppress
@@ -27,7 +26,6 @@ OUTPUT, COMPLAINTS = 1, 2
 # how many octets are few enough to be kept
 SHORT = 1 << 14
 Function = TypeVar("Function", bound=Callable[..., Any])
-COMPILE = re.compile
 
 
 class Stop(Exception):
@@ -174,32 +172,14 @@ def kept_if_short(most: int) -> Callable[[Function], Function]:
     return keeping
 
 
-class Later:
-    """A pattern that is compiled once something is asked of it."""
-
-    def __init__(self, *words: Any) -> None:
-        self.words = words
-
-    def __getattr__(self, name: str) -> Any:
-        return getattr(COMPILE(*self.words), name)
-
-
-def compiled(pattern: Any, flags: int = 0) -> Any:
-    """As `re.compile`, but later, of a pattern with the last character of Unicode: `cryptography` 38 has one for names in texts, which no
-    tool reads with it, and which takes a sixth of the time of a short run."""
-    return Later(pattern, flags) if isinstance(pattern, str) and chr(sys.maxunicode) in pattern else COMPILE(pattern, flags)
-
-
 @contextmanager
 def reading() -> Iterator[None]:
     """A block in which modules are read. What they make stays, and is not looked through for what only cycles hold."""
     was_enabled = gc.isenabled()
     gc.disable()
-    setattr(re, "compile", compiled)
     try:
         yield
     finally:
-        setattr(re, "compile", COMPILE)
         if was_enabled:
             gc.enable()
 

@@ -1,5 +1,6 @@
 pub mod Bits
 pub mod Octets
+pub mod Steps
 pub mod Wanted
 pub mod Sums
 pub mod Lanes

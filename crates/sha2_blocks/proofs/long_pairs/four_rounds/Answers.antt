@@ -1,14 +1,8 @@
-use Rattle.std.proofs.Common.{ℕ, ◌+◌, arith}
-use Rattle.sha2_blocks.proofs.LongPairs.{both_after, both_next}
+use Rattle.std.proofs.Common.{slice_index}
+use Rattle.sha2_blocks.proofs.LongPairs.{both_next}
+use Rattle.sha2_blocks.proofs.Steps.{in_four}
 use Rattle.sha2_blocks.proofs.long_pairs.four_rounds.Goals as goal
 
 pub returns : goal.returns
-returns c = λ g h ws held both.
-    let t : ℕ = c.args.t in
-    let v1 = both_next g h ws c.args.v _ t _ (held t (omega arith)) both c.one_round-v.ensures in
-    let v2 = both_next g h ws _ _ (t + 1) _ (held (t + 1) (omega arith)) v1 c.one_round-v-2.ensures in
-    let v3 = both_next g h ws _ _ (t + 2) _ (held (t + 2) (omega arith))
-    (both_after _ g h ws _ (t + 2) (omega arith) v2) c.one_round-v-3.ensures in
-    let v4 = both_next g h ws _ _ (t + 3) _ (held (t + 3) (omega arith))
-    (both_after _ g h ws _ (t + 3) (omega arith) v3) c.one_round.ensures in
-    both_after _ g h ws _ (t + 4) (omega arith) v4
+returns c = λ g h ws held both. in_four _ (both_next g h ws) (slice_index c.args.sums.now) c.args.t held c.args.v _ _ _ _
+    c.one_round-v.ensures c.one_round-v-2.ensures c.one_round-v-3.ensures c.one_round.ensures both

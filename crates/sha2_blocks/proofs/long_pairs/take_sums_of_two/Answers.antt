@@ -1,6 +1,8 @@
-use Rattle.std.proofs.Common.{◌≡◌, ℕ, ◌+◌, ◌*◌, arith}
-use Rattle.sha2.specs.Sha512.{compress, schedule}
+use Rattle.std.proofs.Common.{◌≡◌, ◌*◌, arith}
+use Rattle.sha2.specs.Sha512.{compress, rounds, schedule}
+use Rattle.sha2_blocks.specs.Pairs.{AreBoth, HoldOnce}
 use Rattle.sha2_blocks.proofs.LongPairs.{both_after, both_none}
+use Rattle.sha2_blocks.proofs.Steps.{in_eight}
 use Rattle.sha2_blocks.proofs.Sums.{fewer_long}
 use Rattle.sha2_blocks.proofs.long_pairs.take_sums_of_two.Goals as goal
 
@@ -11,11 +13,9 @@ pub turns-preserved : goal.turns-preserved
 turns-preserved c = λ ws sums.
     let g = c.args.first.now in
     let h = c.args.second.now in
-    let t : ℕ = 8 * c.turns.turn in
-    let v0 =
-    c.four_rounds-v.ensures g h ws (fewer_long _ ws _ (t + 4) (omega arith) sums) (c.turns.invariant ws sums) in
-    let v1 = c.four_rounds-v-in-turns.ensures g h ws (fewer_long _ ws _ (t + 4 + 4) (omega arith) sums) v0 in
-    both_after _ g h ws _ (8 * (c.turns.turn + 1)) (omega arith) v1
+    in_eight (λ v n. AreBoth HoldOnce v (rounds g ws n) (rounds h ws n)) c.turns.turn
+    (λ n le. fewer_long _ ws _ n (omega arith) sums) _ _ _
+    (c.four_rounds-v.ensures g h ws) (c.four_rounds-v-in-turns.ensures g h ws) (c.turns.invariant ws sums)
 
 pub returns-clause-first : goal.returns-clause-first
 unfolding compress

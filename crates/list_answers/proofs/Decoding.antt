@@ -1,9 +1,9 @@
 -- Pairs of hexadecimal digits that are decoded while they are tested.
-use Rattle.std.proofs.Common.{◌≡◌, ℕ, zero, suc, ◌+◌, ◌*◌, ◌%◌, ◌<◌, ◌≤◌, Bool, true, List, [], ◌∷◌, ◌++◌, length, drop}
+use Rattle.std.proofs.Common.{◌≡◌, ℕ, suc, ◌+◌, ◌*◌, ◌%◌, ◌<◌, ◌≤◌, Bool, List, [], ◌∷◌, ◌++◌, length, drop}
 use Rattle.std.proofs.Common.{get_or, Option, Some, None}
-use Rattle.std.proofs.Common.{Ok, Err, unwrap_or, refl, sym, ap, subst, ◌∙◌, inl, inr, arith}
-use Rattle.std.specs.Prelude.{◌==◌, ◌≢◌, ◌&&◌, slice_index, IsErr}
-use Rattle.std.proofs.lemmas.Bool.{and_parts, cases_lt, eqb-true}
+use Rattle.std.proofs.Common.{Ok, Err, unwrap_or, refl, sym, ap, subst, ◌∙◌, arith}
+use Rattle.std.specs.Prelude.{◌==◌, ◌≢◌, slice_index, IsErr}
+use Rattle.std.proofs.lemmas.Bool.{eqb-true}
 use Rattle.std.proofs.lemmas.List.{drop_all, append-nil, append_assoc}
 use Rattle.hex.specs.Hex.{decode_of, decode_pairs, pair_value, hex_digit_value}
 use Rattle.hex.specs.declared.error.FromHexError.{FromHexError}
@@ -13,27 +13,15 @@ use Rattle.hex.proofs.Pairs.{cons_byte, decode_start}
 use Rattle.hex.proofs.HexLemmas.{decode_of-even, decode_of-odd}
 use Rattle.list_answers.specs.DigitLanes.{IsPair, ArePairs}
 use Rattle.list_answers.specs.declared.hexadecimal.TheConstants.{VALUES}
+use Rattle.list_answers.proofs.Tables.{right_there}
 
 -- ---- the table
 
 abbrev right_at : ℕ → Bool
 right_at c = slice_index VALUES c == unwrap_or (hex_digit_value c) 256
 
-abbrev right_below : ℕ → Bool
-right_below zero = true
-right_below (suc n) = right_at n && right_below n
-
-right_there : (n c : ℕ) → right_below n ≡ true → c < n → right_at c ≡ true
-right_there zero c h lt = absurd (omega arith)
-right_there (suc n) c h lt =
-    let parts = and_parts (right_at n) (right_below n) h in
-    elim (cases_lt c n) [
-      | inl below ↦ right_there n c parts.1 below
-      | inr top ↦ let e : c ≡ n = omega arith in rw e parts.0
-    ]
-
 pub value_there : (c : ℕ) → c < 256 → slice_index VALUES c ≡ unwrap_or (hex_digit_value c) 256
-value_there c lt = eqb-true (slice_index VALUES c) (unwrap_or (hex_digit_value c) 256) (right_there 256 c refl lt)
+value_there c lt = eqb-true (slice_index VALUES c) (unwrap_or (hex_digit_value c) 256) (right_there right_at 256 c refl lt)
 
 -- ---- a pair
 

@@ -3,10 +3,10 @@ use Rattle.std.proofs.Common.{◌≡◌, ℕ, zero, suc, ◌+◌, ◌-◌, ◌*�
 use Rattle.std.proofs.Common.{ltb, List, [], ◌∷◌, ◌++◌, length, map}
 use Rattle.std.proofs.Common.{replicate, get_or, Option, Some, None, unwrap_or, min, refl, sym, ap, subst, ◌∙◌, inl}
 use Rattle.std.proofs.Common.{inr, arith, Fits, w8, ltb-true, ltb-false}
-use Rattle.std.specs.Prelude.{◌==◌, ◌&&◌, bit_or}
+use Rattle.std.specs.Prelude.{◌==◌, bit_or}
 use Rattle.std.specs.List.{range_with_len}
 use Rattle.std.specs.Simd.Lanes.{zip2, sel_l, mask_l, top, chunk, number_l, digits_l, Each1}
-use Rattle.std.proofs.lemmas.Bool.{and_parts, cases_lt, eqb-true}
+use Rattle.std.proofs.lemmas.Bool.{cases_lt, eqb-true}
 use Rattle.std.proofs.lemmas.List.{length-map, get_or-map, get_or_append_left, get_or-append_right, ext_get_or}
 use Rattle.std.proofs.lemmas.List.FromFn.{get_or-map-range_with_len}
 use Rattle.std.proofs.lemmas.Simd.{length-zip2, length-sel_l, get_or-zip2, get_or-replicate, get_or-chunk, mask_l-mod}
@@ -14,6 +14,7 @@ use Rattle.std.proofs.lemmas.Simd.{Each1-get_or, Each1-from_get_or, Each1-zip2, 
 use Rattle.std.proofs.lemmas.Simd.{get_or_wider, get_or_narrower}
 use Rattle.hex.specs.Hex.{hex_digit_value}
 use Rattle.list_answers.specs.DigitLanes.{value_or_255, octets_of, AreBelow16, AreValues, ArePairs}
+use Rattle.list_answers.proofs.Tables.{right_there}
 
 -- ---- the value of one lane
 
@@ -36,22 +37,9 @@ lane x = smaller (number x) (letter x)
 abbrev right_at : ℕ → Bool
 right_at c = min (lane c) 16 == min (value_or_255 c) 16
 
-abbrev right_below : ℕ → Bool
-right_below zero = true
-right_below (suc n) = right_at n && right_below n
-
-right_there : (n c : ℕ) → right_below n ≡ true → c < n → right_at c ≡ true
-right_there zero c h lt = absurd (omega arith)
-right_there (suc n) c h lt =
-    let parts = and_parts (right_at n) (right_below n) h in
-    elim (cases_lt c n) [
-      | inl below ↦ right_there n c parts.1 below
-      | inr top ↦ let e : c ≡ n = omega arith in rw e parts.0
-    ]
-
 -- the values are the same, or both are 16 or more
 pub lane_is : (c : ℕ) → c < 256 → min (lane c) 16 ≡ min (value_or_255 c) 16
-lane_is c lt = eqb-true _ _ (right_there 256 c refl lt)
+lane_is c lt = eqb-true _ _ (right_there right_at 256 c refl lt)
 
 -- ---- sixteen lanes
 

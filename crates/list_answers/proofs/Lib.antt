@@ -1,3 +1,4 @@
+pub mod Tables
 pub mod Pairs
 pub mod Decoding
 pub mod LaneDigits

@@ -34,6 +34,16 @@ both_equal Greater s e = absurd cc
 equal_lists : (xs ys : List ℕ) → slice_cmp nat_cmp xs ys ≡ Equal → xs ≡ ys
 equal_lists xs ys e = slice_cmp-IsAntisymmetric nat_cmp-IsAntisymmetric xs ys e
 
+of_parts : (a b : Asked) → a.key ≡ b.key → a.digest_alg ≡ b.digest_alg → a.signature_alg ≡ b.signature_alg
+    → a.tail ≡ b.tail → a.signature ≡ b.signature → a ≡ b
+of_parts a b key digest_alg signature_alg tail signature = λ i. record {
+  key = key i;
+  digest_alg = digest_alg i;
+  signature_alg = signature_alg i;
+  tail = tail i;
+  signature = signature i;
+}
+
 -- only the same questions are equal in the order
 equal_questions : (a b : Asked) → asked_cmp a b ≡ Equal → a ≡ b
 equal_questions a b e =
@@ -41,18 +51,9 @@ equal_questions a b e =
     let t = both_equal _ _ k.1 in
     let y = both_equal _ _ t.1 in
     let d = both_equal _ _ y.1 in
-    let signature = equal_lists a.signature b.signature k.0 in
-    let tail = equal_lists a.tail b.tail t.0 in
-    let key = equal_lists a.key b.key y.0 in
-    let digest_alg = equal_lists a.digest_alg b.digest_alg d.0 in
-    let signature_alg = equal_lists a.signature_alg b.signature_alg d.1 in
-    λ i. record {
-      key = key i;
-      digest_alg = digest_alg i;
-      signature_alg = signature_alg i;
-      tail = tail i;
-      signature = signature i;
-    }
+    of_parts a b (equal_lists a.key b.key y.0) (equal_lists a.digest_alg b.digest_alg d.0)
+    (equal_lists a.signature_alg b.signature_alg d.1) (equal_lists a.tail b.tail t.0)
+    (equal_lists a.signature b.signature k.0)
 
 itself : (xs : List ℕ) → is_same xs xs ≡ true
 itself [] = refl
@@ -72,18 +73,8 @@ same_questions a b e =
     let g = and_parts (is_same a.key b.key && is_same a.digest_alg b.digest_alg)
     (is_same a.signature_alg b.signature_alg) t.0 in
     let d = and_parts (is_same a.key b.key) (is_same a.digest_alg b.digest_alg) g.0 in
-    let key = same a.key b.key d.0 in
-    let digest_alg = same a.digest_alg b.digest_alg d.1 in
-    let signature_alg = same a.signature_alg b.signature_alg g.1 in
-    let tail = same a.tail b.tail t.1 in
-    let signature = same a.signature b.signature s.1 in
-    λ i. record {
-      key = key i;
-      digest_alg = digest_alg i;
-      signature_alg = signature_alg i;
-      tail = tail i;
-      signature = signature i;
-    }
+    of_parts a b (same a.key b.key d.0) (same a.digest_alg b.digest_alg d.1)
+    (same a.signature_alg b.signature_alg g.1) (same a.tail b.tail t.1) (same a.signature b.signature s.1)
 
 differs : (b : Bool) → (b ≡ true → ⊥) → b ≡ false
 differs true h = absurd (h refl)

@@ -179,15 +179,17 @@ tail_decides b t long digits day clock e =
 
 -- ---- a text has no octet above 127
 
-fraction_octets : (r : List ℕ) (i : ℕ) → IsFraction r → get_or r i 0 < 128
-fraction_octets r i f =
+pub fraction_within : (r : List ℕ) (i : ℕ) → IsFraction r → i < length r → (32 < get_or r i 0) × (get_or r i 0 < 128)
+fraction_within r i f l =
     elim (cases_lt i (length r - 1)) [
-      | inr l ↦ elim (cases_eq i (length r - 1)) [
-        | inl e ↦ omega (arith, ap (λ (n : ℕ). get_or r n 0) e, f.end)
-        | inr e ↦ omega (arith, get_or_past r i 0 (omega arith))
-      ]
-      | inl l ↦ elim (cases_eq i 0) [
-        | inl e ↦ omega (arith, ap (λ (n : ℕ). get_or r n 0) e, f.point)
+      | inr end ↦
+          let e : i ≡ length r - 1 = omega arith in
+          let is = ap (λ (n : ℕ). get_or r n 0) e in
+          (omega (arith, is, f.end), omega (arith, is, f.end))
+      | inl before ↦ elim (cases_eq i 0) [
+        | inl e ↦
+            let is = ap (λ (n : ℕ). get_or r n 0) e in
+            (omega (arith, is, f.point), omega (arith, is, f.point))
         | inr e ↦
             let at : 1 + (i - 1) ≡ i = omega arith in
             let size : length (take (length r - 2) (drop 1 r)) ≡ length r - 2 = length-take (length r - 2) (drop 1 r)
@@ -197,9 +199,15 @@ fraction_octets r i f =
             ∙ get_or-drop 1 r (i - 1) 0 ∙ ap (λ (n : ℕ). get_or r n 0) at in
             let d = digit_from (get_or (take (length r - 2) (drop 1 r)) (i - 1) 0)
             (every_at is_digit (take (length r - 2) (drop 1 r)) (i - 1) f.digits (omega arith)) in
-            omega (arith, d.high, is)
+            (omega (arith, d.low, is), omega (arith, d.high, is))
       ]
     ]
+
+fraction_octets : (r : List ℕ) (i : ℕ) → IsFraction r → get_or r i 0 < 128
+fraction_octets r i f = elim (cases_lt i (length r)) [
+  | inl l ↦ (fraction_within r i f l).1
+  | inr l ↦ omega (arith, get_or_past r i 0 l)
+]
 
 tail_octets : (r : List ℕ) (i : ℕ) → (is_same r (90 ∷ []) || is_fraction r) ≡ true → get_or r i 0 < 128
 tail_octets r i h =

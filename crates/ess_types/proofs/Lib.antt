@@ -1,2 +1,3 @@
 pub mod SigningCertificateReaders
 pub mod SigningRows
+pub mod Spelled

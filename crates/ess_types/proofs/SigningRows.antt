@@ -11,6 +11,7 @@ use Rattle.digests.specs.Spelled.{with_null, alone, sha1, sha256, sha384, sha512
 use Rattle.ess_types.specs.SigningRows.{root, anchor, under_root, SigningRows}
 use Rattle.ess_types.specs.SigningCertificateValue.{GoodIssuerSerial}
 use Rattle.ess_types.proofs.SigningCertificateReaders.{signing_encodes, plain_encodes}
+use Rattle.ess_types.proofs.Spelled.{spelled}
 
 good_sha256 : GoodAlgorithm (with_null sha256)
 unfolding len
@@ -49,63 +50,29 @@ pub signing_rows : SigningRows
 unfolding len
 signing_rows = record {
   chain = (
-    (
-      refl,
-      record {
-        ids = (
-          record { algorithm = tt; hash = lit< tt; issuer_serial = tt; size = lit< tt },
-          (record { algorithm = tt; hash = lit< tt; issuer_serial = good_root; size = lit< tt }, tt),
-        );
-        list = lit< tt;
-        policies = tt;
-        size = lit< tt;
-      },
-    ),
+    spelled _ _ refl (
+      record { algorithm = tt; hash = lit< tt; issuer_serial = tt; size = lit< tt },
+      (record { algorithm = tt; hash = lit< tt; issuer_serial = good_root; size = lit< tt }, tt),
+    )
+        (lit< tt) tt (lit< tt),
     (refl, (refl, tt)),
   );
-  chain_as_v2 = (
-    refl,
-    record {
-      ids = (
-        record { algorithm = tt; hash = lit< tt; issuer_serial = tt; size = lit< tt },
-        (record { algorithm = tt; hash = lit< tt; issuer_serial = good_root; size = lit< tt }, tt),
-      );
-      list = lit< tt;
-      policies = tt;
-      size = lit< tt;
-    },
-  );
+  chain_as_v2 = spelled _ _ refl (
+    record { algorithm = tt; hash = lit< tt; issuer_serial = tt; size = lit< tt },
+    (record { algorithm = tt; hash = lit< tt; issuer_serial = good_root; size = lit< tt }, tt),
+  )
+      (lit< tt) tt (lit< tt);
   first_of_chain = refl;
-  by_sha384 = (
-    refl,
-    record {
-      ids = (record { algorithm = good_sha384; hash = lit< tt; issuer_serial = tt; size = lit< tt }, tt);
-      list = lit< tt;
-      policies = tt;
-      size = lit< tt;
-    },
-  );
-  by_sha512_256 = (
-    refl,
-    record {
-      ids = (
-        record { algorithm = good_sha512_256; hash = lit< tt; issuer_serial = tt; size = lit< tt },
-        (record { algorithm = good_sha512_256; hash = lit< tt; issuer_serial = good_root; size = lit< tt }, tt),
-      );
-      list = lit< tt;
-      policies = tt;
-      size = lit< tt;
-    },
-  );
-  by_default = (
-    refl,
-    record {
-      ids = (record { algorithm = tt; hash = lit< tt; issuer_serial = tt; size = lit< tt }, tt);
-      list = lit< tt;
-      policies = tt;
-      size = lit< tt;
-    },
-  );
+  by_sha384 = spelled _ _ refl
+      (record { algorithm = good_sha384; hash = lit< tt; issuer_serial = tt; size = lit< tt }, tt)
+      (lit< tt) tt (lit< tt);
+  by_sha512_256 = spelled _ _ refl (
+    record { algorithm = good_sha512_256; hash = lit< tt; issuer_serial = tt; size = lit< tt },
+    (record { algorithm = good_sha512_256; hash = lit< tt; issuer_serial = good_root; size = lit< tt }, tt),
+  )
+      (lit< tt) tt (lit< tt);
+  by_default = spelled _ _ refl (record { algorithm = tt; hash = lit< tt; issuer_serial = tt; size = lit< tt }, tt)
+      (lit< tt) tt (lit< tt);
   of_signer = (
     refl,
     record {
@@ -128,48 +95,22 @@ signing_rows = record {
       size = lit< tt;
     },
   );
-  by_sha1 = (
-    refl,
-    record {
-      ids = (record { algorithm = good_sha1; hash = lit< tt; issuer_serial = tt; size = lit< tt }, tt);
-      list = lit< tt;
-      policies = tt;
-      size = lit< tt;
-    },
-  );
-  by_spelled_default = (
-    refl,
-    record {
-      ids = (record { algorithm = good_sha256_alone; hash = lit< tt; issuer_serial = tt; size = lit< tt }, tt);
-      list = lit< tt;
-      policies = tt;
-      size = lit< tt;
-    },
-  );
-  by_null = (
-    refl,
-    record {
-      ids = (record { algorithm = good_sha256; hash = lit< tt; issuer_serial = tt; size = lit< tt }, tt);
-      list = lit< tt;
-      policies = tt;
-      size = lit< tt;
-    },
-  );
+  by_sha1 = spelled _ _ refl (record { algorithm = good_sha1; hash = lit< tt; issuer_serial = tt; size = lit< tt }, tt)
+      (lit< tt) tt (lit< tt);
+  by_spelled_default = spelled _ _ refl
+      (record { algorithm = good_sha256_alone; hash = lit< tt; issuer_serial = tt; size = lit< tt }, tt)
+      (lit< tt) tt (lit< tt);
+  by_null = spelled _ _ refl
+      (record { algorithm = good_sha256; hash = lit< tt; issuer_serial = tt; size = lit< tt }, tt)
+      (lit< tt) tt (lit< tt);
   default_alone = refl;
   null_is_another = refl;
   sha384_is_another = refl;
-  empty = ((refl, record { ids = tt; list = lit< tt; policies = tt; size = lit< tt }), tt);
+  empty = (spelled _ _ refl tt (lit< tt) tt (lit< tt), tt);
   none_first = refl;
   with_policies = (
-    (
-      refl,
-      record {
-        ids = (record { algorithm = tt; hash = lit< tt; issuer_serial = tt; size = lit< tt }, tt);
-        list = lit< tt;
-        policies = lit< tt;
-        size = lit< tt;
-      },
-    ),
+    spelled _ _ refl (record { algorithm = tt; hash = lit< tt; issuer_serial = tt; size = lit< tt }, tt)
+        (lit< tt) (lit< tt) (lit< tt),
     (refl, tt),
   );
   two_names = (
@@ -201,23 +142,16 @@ signing_rows = record {
     (refl, tt),
   );
   no_name = (
-    (
-      refl,
+    spelled _ _ refl (
       record {
-        ids = (
-          record {
-            algorithm = tt;
-            hash = lit< tt;
-            issuer_serial = record { names = tt; list = lit< tt; serial = (refl, lit< tt); size = lit< tt };
-            size = lit< tt;
-          },
-          tt,
-        );
-        list = lit< tt;
-        policies = tt;
+        algorithm = tt;
+        hash = lit< tt;
+        issuer_serial = record { names = tt; list = lit< tt; serial = (refl, lit< tt); size = lit< tt };
         size = lit< tt;
       },
-    ),
+      tt,
+    )
+        (lit< tt) tt (lit< tt),
     (refl, tt),
   );
   algorithm_in_v1 = λ v h. not_encoded (file signing_certificate) _ (fault kind.Tag 6) refl refl (plain_encodes _ v h);

@@ -1,135 +1,80 @@
 -- The worked rows of time-stamps and responses, by computing.
-use Rattle.std.proofs.Common.{[], ◌∷◌, drop, refl, lit<}
+use Rattle.std.proofs.Common.{◌≡◌, true, List, ℕ, [], ◌∷◌, drop, refl, lit<}
+use Rattle.std.specs.Prelude.{IfSome}
 use Rattle.der_core.specs.declared.fault.Kind.TheVariants as kind
 use Rattle.der_core.specs.Element.{len}
 use Rattle.der_core.specs.Reading.{fault}
 use Rattle.der_core.specs.Grammar.{file}
 use Rattle.der_grammar.specs.Table.{tst_info, response}
-use Rattle.der_core.specs.Values.{GoodAlgorithm}
+use Rattle.der_core.specs.Times.{is_generalized}
+use Rattle.der_core.specs.Values.{GoodAlgorithm, algorithm_parts, HasLength, IsOid, IsInteger, IsOpaque}
 use Rattle.der_core.proofs.Found.{not_encoded}
 use Rattle.digests.specs.Spelled.{with_null, sha256}
+use Rattle.cert_types.specs.ExtensionValue.{GoodExtensions, extensions_parts}
 use Rattle.tsp_types.specs.ImprintValue.{GoodImprint}
+use Rattle.tsp_types.specs.TstValue.{TstValue, GoodAccuracy, tst_parts, encoding, EncodesTst}
 use Rattle.tsp_types.specs.TstRows.{abc_by_sha256, name_of_authority, TstRows}
 use Rattle.tsp_types.specs.ResponseRows.{ResponseRows, FailRows}
 use Rattle.tsp_types.proofs.TstReaders.{tst_encodes}
 use Rattle.tsp_types.proofs.ResponseReaders.{response_encodes}
 
+good_null : (oid : List ℕ) → IsOid oid → HasLength (algorithm_parts (with_null oid)) → GoodAlgorithm (with_null oid)
+unfolding len
+good_null oid is size =
+    record { oid = is; parameters = (5, [], record { identifier = refl; size = lit< tt }, refl); size = size }
+
 good_sha256 : GoodAlgorithm (with_null sha256)
 unfolding len
-good_sha256 = record {
-  oid = (refl, lit< tt);
-  parameters = (5, [], record { identifier = refl; size = lit< tt }, refl);
-  size = lit< tt;
-}
+good_sha256 = good_null sha256 (refl, lit< tt) (lit< tt)
 
 good_abc : GoodImprint abc_by_sha256
 unfolding len
 good_abc = record { algorithm = good_sha256; digest = lit< tt; size = lit< tt }
 
+good_tst : (bytes : List ℕ) (v : TstValue) → bytes ≡ encoding v → IsOid v.policy → GoodImprint v.imprint
+    → IsInteger v.serial → (is_generalized v.time ≡ true) × HasLength v.time → IfSome v.accuracy GoodAccuracy
+    → IfSome v.nonce IsInteger → IfSome v.tsa (λ x. IsOpaque x × HasLength x)
+    → IfSome v.extensions (λ es. GoodExtensions es × HasLength (extensions_parts es)) → HasLength (tst_parts v)
+    → EncodesTst bytes v
+good_tst bytes v is policy imprint serial time accuracy nonce tsa extensions size = (
+  is,
+  record {
+    policy = policy;
+    imprint = imprint;
+    serial = serial;
+    time = time;
+    accuracy = accuracy;
+    nonce = nonce;
+    tsa = tsa;
+    extensions = extensions;
+    size = size;
+  },
+)
+
 pub tst_rows : TstRows
 unfolding len
 tst_rows = record {
-  accurate = (
-    refl,
-    record {
-      policy = (refl, lit< tt);
-      imprint = good_abc;
-      serial = (refl, lit< tt);
-      time = (refl, lit< tt);
-      accuracy =
-          record { seconds = (refl, lit< tt); millis = (refl, lit< tt); micros = (refl, lit< tt); size = lit< tt };
-      nonce = tt;
-      tsa = ((164, drop 2 name_of_authority, record { identifier = refl; size = lit< tt }, refl), lit< tt);
-      extensions = tt;
-      size = lit< tt;
-    },
-  );
-  thousandths = (
-    refl,
-    record {
-      policy = (refl, lit< tt);
-      imprint = record {
-        algorithm = record {
-          oid = (refl, lit< tt);
-          parameters = (5, [], record { identifier = refl; size = lit< tt }, refl);
-          size = lit< tt;
-        };
-        digest = lit< tt;
-        size = lit< tt;
-      };
-      serial = (refl, lit< tt);
-      time = (refl, lit< tt);
-      accuracy = record { seconds = tt; millis = (refl, lit< tt); micros = tt; size = lit< tt };
-      nonce = (refl, lit< tt);
-      tsa = tt;
-      extensions = tt;
-      size = lit< tt;
-    },
-  );
-  fraction = (
-    refl,
-    record {
-      policy = (refl, lit< tt);
-      imprint = record {
-        algorithm = record {
-          oid = (refl, lit< tt);
-          parameters = (5, [], record { identifier = refl; size = lit< tt }, refl);
-          size = lit< tt;
-        };
-        digest = lit< tt;
-        size = lit< tt;
-      };
-      serial = (refl, lit< tt);
-      time = (refl, lit< tt);
-      accuracy = record { seconds = (refl, lit< tt); millis = tt; micros = tt; size = lit< tt };
-      nonce = tt;
-      tsa = tt;
-      extensions = tt;
-      size = lit< tt;
-    },
-  );
-  least = (
-    refl,
-    record {
-      policy = (refl, lit< tt);
-      imprint = good_abc;
-      serial = (refl, lit< tt);
-      time = (refl, lit< tt);
-      accuracy = tt;
-      nonce = tt;
-      tsa = tt;
-      extensions = tt;
-      size = lit< tt;
-    },
-  );
-  whole = (
-    refl,
-    record {
-      policy = (refl, lit< tt);
-      imprint = good_abc;
-      serial = (refl, lit< tt);
-      time = (refl, lit< tt);
-      accuracy = record { seconds = tt; millis = tt; micros = tt; size = lit< tt };
-      nonce = (refl, lit< tt);
-      tsa = ((130, 97 ∷ [], record { identifier = refl; size = lit< tt }, refl), lit< tt);
-      extensions = ((record { id = (refl, lit< tt); value = lit< tt; size = lit< tt }, tt), lit< tt);
-      size = lit< tt;
-    },
-  );
-  no_extension = (
-    refl,
-    record {
-      policy = (refl, lit< tt);
-      imprint = good_abc;
-      serial = (refl, lit< tt);
-      time = (refl, lit< tt);
-      accuracy = tt;
-      nonce = tt;
-      tsa = tt;
-      extensions = (tt, lit< tt);
-      size = lit< tt;
-    },
-  );
+  accurate = good_tst _ _ refl (refl, lit< tt) good_abc (refl, lit< tt) (refl, lit< tt)
+      (record { seconds = (refl, lit< tt); millis = (refl, lit< tt); micros = (refl, lit< tt); size = lit< tt })
+      tt ((164, drop 2 name_of_authority, record { identifier = refl; size = lit< tt }, refl), lit< tt) tt (lit< tt);
+  thousandths = good_tst _ _ refl (refl, lit< tt)
+      (record { algorithm = good_null _ (refl, lit< tt) (lit< tt); digest = lit< tt; size = lit< tt })
+      (refl, lit< tt) (refl, lit< tt)
+      (record { seconds = tt; millis = (refl, lit< tt); micros = tt; size = lit< tt })
+      (refl, lit< tt) tt tt (lit< tt);
+  fraction = good_tst _ _ refl (refl, lit< tt)
+      (record { algorithm = good_null _ (refl, lit< tt) (lit< tt); digest = lit< tt; size = lit< tt })
+      (refl, lit< tt) (refl, lit< tt)
+      (record { seconds = (refl, lit< tt); millis = tt; micros = tt; size = lit< tt })
+      tt tt tt (lit< tt);
+  least = good_tst _ _ refl (refl, lit< tt) good_abc (refl, lit< tt) (refl, lit< tt)
+      tt tt tt tt (lit< tt);
+  whole = good_tst _ _ refl (refl, lit< tt) good_abc (refl, lit< tt) (refl, lit< tt)
+      (record { seconds = tt; millis = tt; micros = tt; size = lit< tt })
+      (refl, lit< tt) ((130, 97 ∷ [], record { identifier = refl; size = lit< tt }, refl), lit< tt)
+      ((record { id = (refl, lit< tt); value = lit< tt; size = lit< tt }, tt), lit< tt) (lit< tt);
+  no_extension = good_tst _ _ refl (refl, lit< tt) good_abc (refl, lit< tt) (refl, lit< tt)
+      tt tt tt (tt, lit< tt) (lit< tt);
   another_version = λ v h. not_encoded (file tst_info) _ (fault kind.Value 4) refl refl (tst_encodes _ v h);
   no_serial = λ v h. not_encoded (file tst_info) _ (fault kind.Tag 61) refl refl (tst_encodes _ v h);
   no_time = λ v h. not_encoded (file tst_info) _ (fault kind.Time 66) refl refl (tst_encodes _ v h);

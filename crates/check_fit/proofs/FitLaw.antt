@@ -71,7 +71,7 @@ abbrev some_alg : Alg → Option Alg
 some_alg alg = Some alg
 
 -- an algorithm that is allowed is the one that was named
-allowed_is : (policy : Policy) (named : Option Alg) (alg : Alg) → allowed policy named ≡ Some alg
+pub allowed_is : (policy : Policy) (named : Option Alg) (alg : Alg) → allowed policy named ≡ Some alg
     → (named ≡ Some alg) × (is_allowed policy alg ≡ true)
 allowed_is policy None alg h = absurd cc
 allowed_is policy (Some a) alg h = go (is_allowed policy a) refl h

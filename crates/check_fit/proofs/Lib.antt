@@ -1,3 +1,4 @@
+pub mod Fitted
 pub mod Comparing
 pub mod FitLaw
 pub mod FileLaw

@@ -19,69 +19,22 @@ use Rattle.check_fit.specs.FittingRows.{strict, id_data, id_signed_data, of_data
 use Rattle.check_fit.specs.FittingRows.{message_digest, by_sha256, abc_digest}
 use Rattle.check_fit.specs.FittingRows.{abc_digest_512_256, FittingRows, Fails, UnfitRows, AbcRows}
 use Rattle.check_fit.proofs.FitLaw.{element_is, fits_not_fails}
+use Rattle.check_fit.proofs.Fitted.{fitted}
 
 pub fitting_rows : (content : List ℕ) → FittingRows content
 fitting_rows content = record {
-  plain = record {
-    attributes = of_data ∷ digest_by Sha256 content ∷ [];
-    present = refl;
-    content_type = refl;
-    size = lit< tt;
-    alg = Sha256;
-    named = record { contents = refl; plain = tt };
-    allows = refl;
-    digest = refl;
-  };
-  among_others = record {
-    attributes = signing_time ∷ digest_by Sha256 content ∷ of_data ∷ [];
-    present = refl;
-    content_type = refl;
-    size = lit< tt;
-    alg = Sha256;
-    named = record { contents = refl; plain = tt };
-    allows = refl;
-    digest = refl;
-  };
-  with_null = record {
-    attributes = of_data ∷ digest_by Sha512 content ∷ [];
-    present = refl;
-    content_type = refl;
-    size = lit< tt;
-    alg = Sha512;
-    named = record { contents = refl; plain = refl };
-    allows = refl;
-    digest = refl;
-  };
-  by_sha512_256 = record {
-    attributes = of_data ∷ digest_by Sha512_256 content ∷ [];
-    present = refl;
-    content_type = refl;
-    size = lit< tt;
-    alg = Sha512_256;
-    named = record { contents = refl; plain = tt };
-    allows = refl;
-    digest = refl;
-  };
-  by_sha1 = record {
-    attributes = of_data ∷ digest_by Sha1 content ∷ [];
-    present = refl;
-    content_type = refl;
-    size = lit< tt;
-    alg = Sha1;
-    named = record { contents = refl; plain = tt };
-    allows = refl;
-    digest = refl;
-  };
-  of_another_type = record {
-    attributes = content_type (el 0x06 id_signed_data ∷ []) ∷ digest_by Sha256 content ∷ [];
-    present = refl;
-    content_type = refl;
-    size = lit< tt;
-    alg = Sha256;
-    named = record { contents = refl; plain = tt };
-    allows = refl;
-    digest = refl;
-  };
+  plain = fitted _ _ _ _ (of_data ∷ digest_by Sha256 content ∷ []) Sha256
+      refl refl (lit< tt) (record { contents = refl; plain = tt }) refl refl;
+  among_others = fitted _ _ _ _ (signing_time ∷ digest_by Sha256 content ∷ of_data ∷ []) Sha256
+      refl refl (lit< tt) (record { contents = refl; plain = tt }) refl refl;
+  with_null = fitted _ _ _ _ (of_data ∷ digest_by Sha512 content ∷ []) Sha512
+      refl refl (lit< tt) (record { contents = refl; plain = refl }) refl refl;
+  by_sha512_256 = fitted _ _ _ _ (of_data ∷ digest_by Sha512_256 content ∷ []) Sha512_256
+      refl refl (lit< tt) (record { contents = refl; plain = tt }) refl refl;
+  by_sha1 = fitted _ _ _ _ (of_data ∷ digest_by Sha1 content ∷ []) Sha1
+      refl refl (lit< tt) (record { contents = refl; plain = tt }) refl refl;
+  of_another_type = fitted _ _ _ _ (content_type (el 0x06 id_signed_data ∷ []) ∷ digest_by Sha256 content ∷ []) Sha256
+      refl refl (lit< tt) (record { contents = refl; plain = tt }) refl refl;
 }
 
 -- ---- signers that don't fit
@@ -149,26 +102,10 @@ other_octets a b p q e = omega (arith, p, q, e)
 
 pub abc_fit_rows : AbcRows
 abc_fit_rows = record {
-  abc = record {
-    attributes = of_data ∷ message_digest (el 0x04 abc_digest ∷ []) ∷ [];
-    present = refl;
-    content_type = refl;
-    size = lit< tt;
-    alg = Sha256;
-    named = record { contents = refl; plain = tt };
-    allows = refl;
-    digest = ap stated (sym abc_rows.sha256);
-  };
-  abc_512_256 = record {
-    attributes = of_data ∷ message_digest (el 0x04 abc_digest_512_256 ∷ []) ∷ [];
-    present = refl;
-    content_type = refl;
-    size = lit< tt;
-    alg = Sha512_256;
-    named = record { contents = refl; plain = tt };
-    allows = refl;
-    digest = ap stated (sym abc_rows.sha512_256);
-  };
+  abc = fitted _ _ _ _ (of_data ∷ message_digest (el 0x04 abc_digest ∷ []) ∷ []) Sha256
+      refl refl (lit< tt) (record { contents = refl; plain = tt }) refl (ap stated (sym abc_rows.sha256));
+  abc_512_256 = fitted _ _ _ _ (of_data ∷ message_digest (el 0x04 abc_digest_512_256 ∷ []) ∷ []) Sha512_256
+      refl refl (lit< tt) (record { contents = refl; plain = tt }) refl (ap stated (sym abc_rows.sha512_256));
   nothing = other_digest [] abc_digest (lit< tt) (λ e. absurd (not_that (e ∙ no_octet_rows.sha256)));
 }
   where

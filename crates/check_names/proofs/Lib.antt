@@ -1,3 +1,4 @@
+pub mod HashNames
 pub mod NamingLaw
 pub mod NamingRows
 pub mod Deciding

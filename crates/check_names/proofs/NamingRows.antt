@@ -1,35 +1,21 @@
 -- The worked rows of naming, by computing.
 use Rattle.std.proofs.Common.{◌≡◌, ℕ, List, [], ◌∷◌, get_or, Option, Some, None, refl, sym, ap, subst, ◌∙◌, arith, lit<}
 use Rattle.std.proofs.Common.{inl, inr}
-use Rattle.der_core.specs.Element.{len, el}
+use Rattle.der_core.specs.Element.{len}
 use Rattle.der_core.specs.Hex.{hex}
 use Rattle.der_grammar.specs.Vectors.{digest_of_abc, certificate_named}
 use Rattle.cert_types.specs.CertificateValue.{encoding}
 use Rattle.sha1.specs.Sha1 as sha1
 use Rattle.sha2.specs.Sha256 as sha256
 use Rattle.digests.specs.Messages.{digest_of}
-use Rattle.digests.specs.declared.algorithm.Alg.{Alg}
 use Rattle.digests.specs.declared.algorithm.Alg.TheVariants.{Sha1, Sha256}
 use Rattle.cms_types.specs.AttributeValue.{AttributeValue}
 use Rattle.check_fit.specs.Attributes.{single_value}
-use Rattle.ess_types.specs.SigningCertificateValue.{CertIdValue, SigningCertificateValue, EncodesSigningCertificateV2}
-use Rattle.ess_types.proofs.SigningCertificateReaders.{signing_unique}
-use Rattle.check_names.specs.Naming.{id_signing_certificate, id_signing_certificate_v2, HashedBy, NamesInV1, NamesInV2}
+use Rattle.check_names.specs.Naming.{id_signing_certificate, id_signing_certificate_v2, NamesInV1, NamesInV2}
 use Rattle.check_names.specs.Naming.{MustName}
 use Rattle.check_names.specs.NamingRows.{of_authority, digest_of_certificate, named_by, named_in_v1, NamingRows}
 use Rattle.check_names.specs.NamingRows.{IssuerRows, MatchingRows}
-
-abbrev id_of : List ℕ → CertIdValue
-id_of hash = record { algorithm = None; hash = hash; issuer_serial = None }
-
-abbrev certificate_of : List ℕ → SigningCertificateValue
-certificate_of hash = record { ids = id_of hash ∷ []; policies = None }
-
-abbrev octets_of : List ℕ → List ℕ
-octets_of hash = el 0x30 (el 0x30 (el 0x30 (el 0x04 hash)))
-
-abbrev Encoded : List ℕ → Type 0
-Encoded hash = EncodesSigningCertificateV2 (octets_of hash) (certificate_of hash)
+use Rattle.check_names.proofs.HashNames.{id_of, certificate_of, octets_of, Encoded, encoded, names_v2, other_hash}
 
 abbrev by_sha1 : List ℕ
 by_sha1 = hex "91349c0baeb5a3be6d99bd5d97022a3286874f07"
@@ -42,33 +28,9 @@ record AllEncoded : Type 0 where
 all_encoded : AllEncoded
 unfolding len
 all_encoded = record {
-  authority = (
-    refl,
-    record {
-      ids = (record { algorithm = tt; hash = lit< tt; issuer_serial = tt; size = lit< tt }, tt);
-      list = lit< tt;
-      policies = tt;
-      size = lit< tt;
-    },
-  );
-  v1 = (
-    refl,
-    record {
-      ids = (record { algorithm = tt; hash = lit< tt; issuer_serial = tt; size = lit< tt }, tt);
-      list = lit< tt;
-      policies = tt;
-      size = lit< tt;
-    },
-  );
-  abc = (
-    refl,
-    record {
-      ids = (record { algorithm = tt; hash = lit< tt; issuer_serial = tt; size = lit< tt }, tt);
-      list = lit< tt;
-      policies = tt;
-      size = lit< tt;
-    },
-  );
+  authority = encoded digest_of_certificate refl (lit< tt) (lit< tt) (lit< tt) (lit< tt);
+  v1 = encoded by_sha1 refl (lit< tt) (lit< tt) (lit< tt) (lit< tt);
+  abc = encoded digest_of_abc refl (lit< tt) (lit< tt) (lit< tt) (lit< tt);
 }
 
 spelled_v1 : certificate_named ≡ octets_of by_sha1
@@ -85,23 +47,11 @@ unfolding len digest_of sha1.sha1 sha1.digest_bytes sha1.hash_after sha1.compres
     sha1.first_words
 digest_v1 = refl
 
-names_v2 : (attributes : List AttributeValue)
+names_it : (attributes : List AttributeValue)
     → single_value attributes id_signing_certificate_v2 ≡ Some (octets_of digest_of_certificate)
     → NamesInV2 attributes of_authority
-names_v2 attributes once = record {
-  id = id_of digest_of_certificate;
-  first = record {
-    value = octets_of digest_of_certificate;
-    once = once;
-    certificate = certificate_of digest_of_certificate;
-    encodes = all_encoded.authority;
-    others = [];
-    is_first = refl;
-  };
-  alg = Sha256;
-  hashed = refl;
-  names = record { hash = sym digest_v2; issuer = tt };
-}
+names_it attributes once =
+    names_v2 attributes digest_of_certificate of_authority once all_encoded.authority digest_v2
 
 names_v1 : (attributes : List AttributeValue) → single_value attributes id_signing_certificate ≡ Some certificate_named
     → NamesInV1 attributes of_authority
@@ -121,32 +71,8 @@ names_v1 attributes once = record {
 not_empty : (a : AttributeValue) (xs : List AttributeValue) → a ∷ xs ≡ [] → ⊥
 not_empty a xs e = absurd cc
 
-some_value : (a b : List ℕ) (o : Option (List ℕ)) → o ≡ Some a → o ≡ Some b → a ≡ b
-some_value a b o e h = let z = sym e ∙ h in cc
-
 no_value : (a : List ℕ) (o : Option (List ℕ)) → o ≡ None → o ≡ Some a → ⊥
 no_value a o e h = let z = sym e ∙ h in cc
-
-one_id : (i j : CertIdValue) (others : List CertIdValue) (ids : List CertIdValue) → ids ≡ i ∷ others → ids ≡ j ∷ []
-    → i ≡ j
-one_id i j others ids e h = let z = sym e ∙ h in cc
-
--- an attribute of version 2 with another hash doesn't name the certificate
-other_hash : (attributes : List AttributeValue) (hash : List ℕ)
-    → single_value attributes id_signing_certificate_v2 ≡ Some (octets_of hash)
-    → Encoded hash → (hash ≡ digest_of Sha256 (encoding of_authority) → ⊥) → NamesInV2 attributes of_authority → ⊥
-other_hash attributes hash once encodes differs n =
-    let value : n.first.value ≡ octets_of hash = some_value n.first.value (octets_of hash)
-    (single_value attributes id_signing_certificate_v2) n.first.once once in
-    let same : n.first.certificate ≡ certificate_of hash =
-    signing_unique (octets_of hash) n.first.certificate (certificate_of hash)
-    (subst (λ (b : List ℕ). EncodesSigningCertificateV2 b n.first.certificate) value n.first.encodes) encodes in
-    let first : n.id ≡ id_of hash = one_id n.id (id_of hash) n.first.others n.first.certificate.ids n.first.is_first
-    (ap (λ (v : SigningCertificateValue). v.ids) same) in
-    let alg : n.alg ≡ Sha256 = subst (λ (i : CertIdValue). HashedBy i.algorithm n.alg) first n.hashed in
-    let by : hash ≡ digest_of n.alg (encoding of_authority) =
-    subst (λ (i : CertIdValue). i.hash ≡ digest_of n.alg (encoding of_authority)) first n.names.hash in
-    differs (by ∙ ap (λ (a : Alg). digest_of a (encoding of_authority)) alg)
 
 first_differs : (a b : ℕ) → a ≡ 0xba → b ≡ 0xb5 → a ≡ b → ⊥
 first_differs a b p q e = omega (arith, p, q, e)
@@ -166,20 +92,21 @@ naming_rows = record {
   version_2_alone = record {
     names = record {
       v1 = λ occurs. absurd (occurs refl);
-      v2 = λ occurs. names_v2 (named_by digest_of_certificate ∷ []) refl;
+      v2 = λ occurs. names_it (named_by digest_of_certificate ∷ []) refl;
     };
     some = inr (λ e. not_empty _ _ e);
   };
   in_both = record {
     names = record {
       v1 = λ occurs. names_v1 (named_in_v1 ∷ named_by digest_of_certificate ∷ []) refl;
-      v2 = λ occurs. names_v2 (named_in_v1 ∷ named_by digest_of_certificate ∷ []) refl;
+      v2 = λ occurs. names_it (named_in_v1 ∷ named_by digest_of_certificate ∷ []) refl;
     };
     some = inl (λ e. not_empty _ _ e);
   };
   in_neither = record { v1 = λ occurs. absurd (occurs refl); v2 = λ occurs. absurd (occurs refl) };
   neither = neither_named;
-  other_differs = λ n. other_hash (named_in_v1 ∷ named_by digest_of_abc ∷ []) digest_of_abc refl all_encoded.abc
+  other_differs = λ n. other_hash (named_in_v1 ∷ named_by digest_of_abc ∷ []) digest_of_abc of_authority refl
+      all_encoded.abc
       abc_differs (n.v2 (λ e. not_empty _ _ e));
   twice = λ n. (let f = n.v1 (λ e. not_empty _ _ e) in
       no_value f.first.value (single_value (named_in_v1 ∷ named_in_v1 ∷ []) id_signing_certificate) refl f.first.once);

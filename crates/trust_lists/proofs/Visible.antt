@@ -4,16 +4,16 @@ use Rattle.std.proofs.Common.{get_or, take, drop, Option, Some, None, refl}
 use Rattle.std.proofs.Common.{sym, ap, subst, ◌∙◌, arith, inl, inr, codes}
 use Rattle.std.specs.Prelude.{◌==◌, slice_index}
 use Rattle.std.specs.List.{All}
-use Rattle.std.proofs.lemmas.Bool.{cases_lt, cases_eq, or_cases, ne_eqb}
-use Rattle.std.proofs.lemmas.List.{get_or-take, get_or-drop, get_or_past, length-take, length-drop}
+use Rattle.std.proofs.lemmas.Bool.{cases_lt, or_cases, ne_eqb}
+use Rattle.std.proofs.lemmas.List.{get_or-drop, get_or_past, length-drop}
 use Rattle.std.proofs.lemmas.List.Elements.{All-nil, All-cons, All-append, All-from_get_or, All-from_recursion}
 use Rattle.std.proofs.lemmas.List.Splits.{slice_split_none, slice_split_at}
 use Rattle.hex.specs.Hex.{IsBytes, hex_digit_value, lower_digits, encode_with, encode_lower}
 use Rattle.hex.proofs.HexLemmas.{IsDigits, IsDigits-lower_digits}
 use Rattle.der_core.specs.Lists.{is_same}
 use Rattle.der_core.specs.Times.{is_fraction, is_generalized}
-use Rattle.der_time.proofs.Texts.{IsFraction, fraction_parts, generalized_parts, digit_at, digit_from, every_at}
-use Rattle.der_time.proofs.Texts.{same_from}
+use Rattle.der_time.proofs.Texts.{fraction_parts, generalized_parts, digit_at}
+use Rattle.der_time.proofs.Texts.{same_from, fraction_within}
 use Rattle.trust_lists.specs.declared.role.Role.{Role}
 use Rattle.trust_lists.specs.declared.role.Role.TheVariants.{Signer, Tsa}
 use Rattle.list_answers.specs.Texts.{parts, trimmed}
@@ -37,29 +37,10 @@ role_visible Signer = All-from_recursion (λ b. 32 < b) (codes "signer")
     (omega arith, (omega arith, (omega arith, (omega arith, (omega arith, (omega arith, tt))))))
 role_visible Tsa = All-from_recursion (λ b. 32 < b) (codes "tsa") (omega arith, (omega arith, (omega arith, tt)))
 
-fraction_visible : (r : List ℕ) (i : ℕ) → IsFraction r → i < length r → 32 < get_or r i 0
-fraction_visible r i f l =
-    elim (cases_lt i (length r - 1)) [
-      | inr end ↦ let e : i ≡ length r - 1 = omega arith in omega (arith, ap (λ (n : ℕ). get_or r n 0) e, f.end)
-      | inl before ↦ elim (cases_eq i 0) [
-        | inl e ↦ omega (arith, ap (λ (n : ℕ). get_or r n 0) e, f.point)
-        | inr e ↦
-            let at : 1 + (i - 1) ≡ i = omega arith in
-            let size : length (take (length r - 2) (drop 1 r)) ≡ length r - 2 = length-take (length r - 2) (drop 1 r)
-            ∙ omega (arith, length-drop 1 r) in
-            let is : get_or (take (length r - 2) (drop 1 r)) (i - 1) 0 ≡ get_or r i 0 =
-            get_or-take (length r - 2) (drop 1 r) (i - 1) 0 (omega arith)
-            ∙ get_or-drop 1 r (i - 1) 0 ∙ ap (λ (n : ℕ). get_or r n 0) at in
-            let d = digit_from (get_or (take (length r - 2) (drop 1 r)) (i - 1) 0)
-            (every_at _ (take (length r - 2) (drop 1 r)) (i - 1) f.digits (omega arith)) in
-            omega (arith, d.low, is)
-      ]
-    ]
-
 tail_visible : (r : List ℕ) (i : ℕ) → (is_same r (90 ∷ []) || is_fraction r) ≡ true → i < length r → 32 < get_or r i 0
 tail_visible r i h l =
     elim (or_cases (is_same r (90 ∷ [])) (is_fraction r) h) [
-      | inr e ↦ fraction_visible r i (fraction_parts r e) l
+      | inr e ↦ (fraction_within r i (fraction_parts r e) l).0
       | inl e ↦
           let is : r ≡ 90 ∷ [] = same_from r (90 ∷ []) e in
           let first : i ≡ 0 = omega (arith, ap length is) in

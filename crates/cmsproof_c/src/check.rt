@@ -7,8 +7,8 @@ ghost use Rattle.cmsproof_c.specs.Held.{IsCheck, VouchesSame};
 
 use crate::answers_handle::AnswersHandle;
 use crate::trust_handle::TrustHandle;
-use library_answers::{Answer, NO_LIST};
-use library_calls::tell_check;
+use library_answers::{Answer, NO_LIST, Told};
+use library_calls::{Input, tell_check};
 use std::alloc::Global;
 
 /// Takes the lists out of their handles, checks the file under them, and puts them back.
@@ -16,43 +16,35 @@ fn check_held(
     alloc: Global,
     trust: &mut TrustHandle,
     answers: &mut AnswersHandle,
-    file: &[u8],
-    content: &[u8],
-    content_given: bool,
+    input: Input,
     sha1: bool,
-    text: &mut [u8],
-    size: &mut usize,
-    said: &mut Answer,
-) -> u32
-    ensures verdict { IsCheck (list_in trust.old.inside.kept) answers.old.inside.kept file.now
-        (handed content_given content.now) sha1 said.new result text.old size.new text.new }
+    room: &mut [u8],
+) -> Told
+    ensures verdict { IsCheck (list_in trust.old.inside.kept) answers.old.inside.kept input.entry.file.now
+        (handed input.entry.given input.entry.content.now) sha1 result.said result.status room.old result.size
+        room.new }
     ensures trust { trust.new.inside.kept ≡ trust.old.inside.kept }
     ensures answers { VouchesSame answers.old.inside.kept answers.new.inside.kept }
 {
-    *size = 0;
-    *said = Answer::nothing();
     let Some(list) = trust.take(alloc) else {
-        return NO_LIST;
+        return Told {
+            status: NO_LIST,
+            size: 0,
+            said: Answer::nothing(),
+        };
     };
     let Some(mut asked) = answers.take(alloc) else {
         *trust = TrustHandle::of(list);
-        return NO_LIST;
+        return Told {
+            status: NO_LIST,
+            size: 0,
+            said: Answer::nothing(),
+        };
     };
-    let status = tell_check(
-        alloc,
-        &list,
-        &mut asked,
-        file,
-        content,
-        content_given,
-        sha1,
-        text,
-        size,
-        said,
-    );
+    let told = tell_check(alloc, &list, &mut asked, input, sha1, room);
     *trust = TrustHandle::of(list);
     *answers = AnswersHandle::of(asked);
-    status
+    told
 }
 
 /// Whether each signature of a file in memory existed by a moment, under the lists of two handles.
@@ -98,16 +90,13 @@ pub extern "C" fn cmsproof_check(
     // The answers list vouches for what it vouched for.
     ensures answers { VouchesSame answers.old.inside.kept answers.new.inside.kept }
 {
-    check_held(
-        alloc,
-        trust,
-        answers,
+    let input = Input {
         file,
         content,
-        content_given,
-        sha1,
-        text,
-        size,
-        said,
-    )
+        given: content_given,
+    };
+    let told = check_held(alloc, trust, answers, input, sha1, text);
+    *size = told.size;
+    *said = told.said;
+    told.status
 }

@@ -9,31 +9,26 @@ ghost use Rattle.cmsproof_c.specs.TrustKept.{list_in};
 ghost use Rattle.cmsproof_c.specs.Held.{AsksFile};
 
 use crate::trust_handle::TrustHandle;
-use library_answers::{Answer, NO_LIST};
+use library_answers::{Answer, NO_LIST, Told};
 use library_calls::tell_questions;
 use std::alloc::Global;
 
 /// Takes the list out of its handle, lists the questions under it, and puts it back.
-fn questions_held(
-    alloc: Global,
-    trust: &mut TrustHandle,
-    octets: &[u8],
-    text: &mut [u8],
-    size: &mut usize,
-    said: &mut Answer,
-) -> u32
-    ensures questions { AsksFile (list_in trust.old.inside.kept) octets.now said.new result text.old size.new
-        text.new }
+fn questions_held(alloc: Global, trust: &mut TrustHandle, octets: &[u8], room: &mut [u8]) -> Told
+    ensures questions { AsksFile (list_in trust.old.inside.kept) octets.now result.said result.status room.old
+        result.size room.new }
     ensures trust { trust.new.inside.kept ≡ trust.old.inside.kept }
 {
-    *size = 0;
-    *said = Answer::nothing();
     let Some(list) = trust.take(alloc) else {
-        return NO_LIST;
+        return Told {
+            status: NO_LIST,
+            size: 0,
+            said: Answer::nothing(),
+        };
     };
-    let status = tell_questions(alloc, &list, octets, text, size, said);
+    let told = tell_questions(alloc, &list, octets, room);
     *trust = TrustHandle::of(list);
-    status
+    told
 }
 
 /// The questions of a file, under the list of a handle.
@@ -60,5 +55,8 @@ pub extern "C" fn cmsproof_questions(
     // The trust list stays as it was.
     ensures trust { trust.new.inside.kept ≡ trust.old.inside.kept }
 {
-    questions_held(alloc, trust, octets, text, size, said)
+    let told = questions_held(alloc, trust, octets, text);
+    *size = told.size;
+    *said = told.said;
+    told.status
 }

@@ -27,17 +27,10 @@ pub extern "C" fn cmsproof_request(
     ensures { IsRequested (IsGiven algorithm.now octets.now) algorithm.now policy.now nonce.now certificate said.new
         result text.old size.new text.new }
 {
-    tell_request(
-        alloc,
-        algorithm,
-        octets,
-        policy,
-        nonce,
-        certificate,
-        text,
-        size,
-        said,
-    )
+    let told = tell_request(alloc, algorithm, octets, policy, nonce, certificate, text);
+    *size = told.size;
+    *said = told.said;
+    told.status
 }
 
 /// A time-stamp request of octets.
@@ -57,17 +50,10 @@ pub extern "C" fn cmsproof_request_of(
     ensures { IsRequested (IsHashed algorithm.now octets.now) algorithm.now policy.now nonce.now certificate said.new
         result text.old size.new text.new }
 {
-    tell_request_of(
-        alloc,
-        algorithm,
-        octets,
-        policy,
-        nonce,
-        certificate,
-        text,
-        size,
-        said,
-    )
+    let told = tell_request_of(alloc, algorithm, octets, policy, nonce, certificate, text);
+    *size = told.size;
+    *said = told.said;
+    told.status
 }
 
 /// A time-stamp request of the signature of the signer of this number, from 1, in a file.
@@ -89,7 +75,7 @@ pub extern "C" fn cmsproof_request_of_signature(
     ensures { IsSignatureRequested algorithm.now file.now signer_number policy.now nonce.now certificate
         said.new result text.old size.new text.new }
 {
-    tell_request_of_signature(
+    let told = tell_request_of_signature(
         alloc,
         algorithm,
         file,
@@ -98,9 +84,10 @@ pub extern "C" fn cmsproof_request_of_signature(
         nonce,
         certificate,
         text,
-        size,
-        said,
-    )
+    );
+    *size = told.size;
+    *said = told.said;
+    told.status
 }
 
 /// The token of a response that answers a request.
@@ -117,7 +104,10 @@ pub extern "C" fn cmsproof_token(
     // line.
     ensures { IsTokenOf request.now response.now said.new result text.old size.new text.new }
 {
-    tell_token(alloc, request, response, text, size, said)
+    let told = tell_token(alloc, request, response, text);
+    *size = told.size;
+    *said = told.said;
+    told.status
 }
 
 /// A file with a time-stamp token attached to one of its signers.
@@ -139,5 +129,8 @@ pub extern "C" fn cmsproof_attach(
         → IsMadeIfMemory (encoding (SignedContent w)) said.new result text.old size.new
         text.new }
 {
-    tell_attached(alloc, file, signer, token, text, size, said)
+    let told = tell_attached(alloc, file, signer, token, text);
+    *size = told.size;
+    *said = told.said;
+    told.status
 }

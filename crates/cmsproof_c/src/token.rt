@@ -6,7 +6,7 @@ ghost use Rattle.cmsproof_c.specs.Held.{IsTokenCheck, VouchesSame};
 
 use crate::answers_handle::AnswersHandle;
 use crate::trust_handle::TrustHandle;
-use library_answers::{Answer, NO_LIST};
+use library_answers::{Answer, NO_LIST, Told};
 use library_calls::tell_token_check;
 use std::alloc::Global;
 
@@ -16,27 +16,33 @@ fn check_held(
     trust: &mut TrustHandle,
     answers: &mut AnswersHandle,
     token: &[u8],
-    stamped: &[u8],
+    octets: &[u8],
     sha1: bool,
-    said: &mut Answer,
-) -> u32
-    ensures verdict { IsTokenCheck (list_in trust.old.inside.kept) answers.old.inside.kept token.now
-        stamped.now sha1 said.new result }
+) -> Told
+    ensures verdict { IsTokenCheck (list_in trust.old.inside.kept) answers.old.inside.kept token.now octets.now sha1
+        result.said result.status }
     ensures trust { trust.new.inside.kept ≡ trust.old.inside.kept }
     ensures answers { VouchesSame answers.old.inside.kept answers.new.inside.kept }
 {
-    *said = Answer::nothing();
     let Some(list) = trust.take(alloc) else {
-        return NO_LIST;
+        return Told {
+            status: NO_LIST,
+            size: 0,
+            said: Answer::nothing(),
+        };
     };
     let Some(mut asked) = answers.take(alloc) else {
         *trust = TrustHandle::of(list);
-        return NO_LIST;
+        return Told {
+            status: NO_LIST,
+            size: 0,
+            said: Answer::nothing(),
+        };
     };
-    let status = tell_token_check(&list, &mut asked, token, stamped, sha1, said);
+    let told = tell_token_check(&list, &mut asked, token, octets, sha1);
     *trust = TrustHandle::of(list);
     *answers = AnswersHandle::of(asked);
-    status
+    told
 }
 
 /// Whether a token is valid for octets that were stamped, under the lists of two handles.
@@ -61,5 +67,7 @@ pub extern "C" fn cmsproof_check_token(
     // The answers list vouches for what it vouched for.
     ensures answers { VouchesSame answers.old.inside.kept answers.new.inside.kept }
 {
-    check_held(alloc, trust, answers, token, stamped, sha1, said)
+    let told = check_held(alloc, trust, answers, token, stamped, sha1);
+    *said = told.said;
+    told.status
 }

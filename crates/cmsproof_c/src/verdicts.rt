@@ -1,23 +1,14 @@
 ghost use Rattle.std.specs.Prelude.{◌≡◌};
-ghost use Rattle.der_core.specs.Grammar.{file};
-ghost use Rattle.der_grammar.specs.Table as table;
-ghost use Rattle.tsp_types.specs.RequestValue.{EncodesRequest};
-ghost use Rattle.tsp_types.specs.ResponseValue.{EncodesResponse};
-ghost use Rattle.tsp_types.specs.TstValue.{EncodesTst};
-ghost use Rattle.cert_types.specs.CertificateValue.{EncodesCertificate};
-ghost use Rattle.lines_shown.specs.RequestLines.{ShowsRequest};
-ghost use Rattle.lines_shown.specs.ResponseLines.{ShowsResponse};
-ghost use Rattle.lines_shown.specs.TstLines.{ShowsTst};
-ghost use Rattle.lines_shown.specs.CertificateLines.{ShowsCertificate};
 ghost use Rattle.library_answers.specs.Numbers.{nothing};
 ghost use Rattle.library_calls.specs.Checked.{handed};
 ghost use Rattle.library_calls.specs.Fit.{IsFit};
 ghost use Rattle.library_calls.specs.Comparing.{IsComparison};
 ghost use Rattle.library_calls.specs.Matching.{IsMatch};
-ghost use Rattle.library_calls.specs.Shown.{IsShown, IsShownSigned, IsNoType};
+ghost use Rattle.library_calls.specs.Shown.{IsRequestShown, IsResponseShown, IsTstShown, IsCertificateShown};
+ghost use Rattle.library_calls.specs.Shown.{IsShownSigned, IsNoType};
 
 use library_answers::Answer;
-use library_calls::{tell_comparison, tell_fit, tell_match, tell_shown};
+use library_calls::{Input, tell_comparison, tell_fit, tell_match, tell_shown};
 use std::alloc::Global;
 
 /// Whether the content and the signed attributes of each signer of a file in memory belong together.
@@ -36,7 +27,15 @@ pub extern "C" fn cmsproof_fit(
     ensures { IsFit file.now (handed content_given content.now) sha1 said.new result text.old size.new
         text.new }
 {
-    tell_fit(alloc, file, content, content_given, sha1, text, size, said)
+    let input = Input {
+        file,
+        content,
+        given: content_given,
+    };
+    let told = tell_fit(alloc, input, sha1, text);
+    *size = told.size;
+    *said = told.said;
+    told.status
 }
 
 /// Whether a signer of one file and a signer of another sign the same.
@@ -55,16 +54,10 @@ pub extern "C" fn cmsproof_compare(
     ensures { IsComparison first.now first_signer second.now second_signer said.new result text.old size.new
         text.new }
 {
-    tell_comparison(
-        alloc,
-        first,
-        first_signer,
-        second,
-        second_signer,
-        text,
-        size,
-        said,
-    )
+    let told = tell_comparison(alloc, first, first_signer, second, second_signer, text);
+    *size = told.size;
+    *said = told.said;
+    told.status
 }
 
 /// Whether a response answers a request.
@@ -80,7 +73,10 @@ pub extern "C" fn cmsproof_match(
     // Whether it answers by the definitions, or the first rule that fails, in numbers and as the line.
     ensures { IsMatch request.now response.now said.new result text.old size.new text.new }
 {
-    tell_match(alloc, request, response, text, size, said)
+    let told = tell_match(alloc, request, response, text);
+    *size = told.size;
+    *said = told.said;
+    told.status
 }
 
 /// What an input of one of five types is: a request, a response, a TSTInfo, a SignedData or a certificate.
@@ -94,22 +90,21 @@ pub extern "C" fn cmsproof_show(
     said: &mut Answer,
 ) -> u32
     // The lines that show the request that the octets encode, or the fault that they have.
-    ensures request { kind ≡ 1 → IsShown ShowsRequest EncodesRequest (file table.request) input.now said.new result
-        text.old size.new text.new }
+    ensures request { kind ≡ 1 → IsRequestShown input.now said.new result text.old size.new text.new }
     // The same for a response.
-    ensures response { kind ≡ 2 → IsShown ShowsResponse EncodesResponse (file table.response) input.now said.new result
-        text.old size.new text.new }
+    ensures response { kind ≡ 2 → IsResponseShown input.now said.new result text.old size.new text.new }
     // The same for a TSTInfo.
-    ensures tst { kind ≡ 3 → IsShown ShowsTst EncodesTst (file table.tst_info) input.now said.new result
-        text.old size.new text.new }
+    ensures tst { kind ≡ 3 → IsTstShown input.now said.new result text.old size.new text.new }
     // The same for a SignedData, which may be a ContentInfo of another type.
     ensures signed { kind ≡ 4 → IsShownSigned input.now said.new result text.old size.new
         text.new }
     // The same for a certificate.
-    ensures certificate { kind ≡ 5 → IsShown ShowsCertificate EncodesCertificate (file table.certificate) input.now
-        said.new result text.old size.new text.new }
+    ensures certificate { kind ≡ 5 → IsCertificateShown input.now said.new result text.old size.new text.new }
     // For any other number status 4, no verdict, and no text.
     ensures other { IsNoType kind → (result ≡ 4) × (said.new ≡ nothing) × (size.new ≡ 0) × (text.new ≡ text.old) }
 {
-    tell_shown(alloc, kind, input, text, size, said)
+    let told = tell_shown(alloc, kind, input, text);
+    *size = told.size;
+    *said = told.said;
+    told.status
 }

@@ -10,7 +10,7 @@ ghost use Rattle.library_answers.specs.Failures.{failure_status, IsLine, IsMade,
 use crate::answer::{
     Answer, IS_MALFORMED, REFUSES, WRITTEN, kind_number, refused_answer, signer_rule_number,
 };
-use crate::text::{DONE, FAILED, MALFORMED, NO_MEMORY, NO_ROOM, REFUSED, USAGE, put};
+use crate::text::{DONE, FAILED, MALFORMED, NO_MEMORY, NO_ROOM, REFUSED, Told, USAGE, put};
 use cli_failures::{Failure, Message, Status};
 use cms_compare::{CompareFault, CompareRule, Which};
 use cms_types::CmsFault;
@@ -161,70 +161,99 @@ fn failure_line(alloc: Global, failure: &Failure) -> Option<Vec<u8>>
     Some(line.into_bytes())
 }
 
-/// Puts the line of a verdict with this status into its room, if there is any.
-pub fn tell_line(line: &[u8], verdict: u32, room: &mut [u8], size: &mut usize) -> u32
-    ensures { IsLine line.now verdict result room.old size.new room.new }
+/// Says this in numbers, and puts the line of a verdict with this status into its room, if there is any.
+pub fn tell_line(line: &[u8], verdict: u32, said: Answer, room: &mut [u8]) -> Told
+    // The numbers are those.
+    ensures said { result.said ≡ said }
+    // The line is in the room, if there is any; or the status is 6, and the room is as it was.
+    ensures line { IsLine line.now verdict result.status room.old result.size room.new }
 {
-    *size = 0;
-    if room.is_empty() || put(line, room, size) {
-        verdict
+    if room.is_empty() {
+        return Told {
+            status: verdict,
+            size: 0,
+            said,
+        };
+    }
+    let size = line.len();
+    if put(line, room) {
+        Told {
+            status: verdict,
+            size,
+            said,
+        }
     } else {
-        NO_ROOM
+        Told {
+            status: NO_ROOM,
+            size,
+            said,
+        }
     }
 }
 
 /// The same for the line of a verdict that is a failure.
-pub fn tell_failure(
-    alloc: Global,
-    failure: &Failure,
-    room: &mut [u8],
-    size: &mut usize,
-    said: &mut Answer,
-) -> u32
+pub fn tell_failure(alloc: Global, failure: &Failure, room: &mut [u8]) -> Told
     // The numbers are those of the failure.
-    ensures said { said.new ≡ failure_numbers failure.now }
+    ensures said { result.said ≡ failure_numbers failure.now }
     // The status is the failure's, and its line is in the room, if there is any; or it is 6 or 7, and the room is as it
     // was.
-    ensures line { IsLine (failure_text failure.now) (failure_status failure.now) result room.old size.new
+    ensures line { IsLine (failure_text failure.now) (failure_status failure.now) result.status room.old result.size
         room.new }
 {
-    *said = failure_answer(failure);
-    *size = 0;
+    let said = failure_answer(failure);
     if room.is_empty() {
-        return failure_status(failure);
+        return Told {
+            status: failure_status(failure),
+            size: 0,
+            said,
+        };
     }
     match failure_line(alloc, failure) {
-        Some(line) => tell_line(&line, failure_status(failure), room, size),
-        None => NO_MEMORY,
+        Some(line) => tell_line(&line, failure_status(failure), said, room),
+        None => Told {
+            status: NO_MEMORY,
+            size: 0,
+            said,
+        },
     }
 }
 
 /// Puts what a call made into its room.
-pub fn tell_made(octets: &[u8], room: &mut [u8], size: &mut usize, said: &mut Answer) -> u32
-    ensures { IsMade octets.now said.new result room.old size.new room.new }
+pub fn tell_made(octets: &[u8], room: &mut [u8]) -> Told
+    ensures { IsMade octets.now result.said result.status room.old result.size room.new }
 {
-    *said = Answer::ruled(WRITTEN, 0, 0);
-    if put(octets, room, size) {
-        DONE
+    let (size, said) = (octets.len(), Answer::ruled(WRITTEN, 0, 0));
+    if put(octets, room) {
+        Told {
+            status: DONE,
+            size,
+            said,
+        }
     } else {
-        NO_ROOM
+        Told {
+            status: NO_ROOM,
+            size,
+            said,
+        }
     }
 }
 
 /// Says why a call made nothing.
-pub fn tell_unmade(
-    alloc: Global,
-    failure: &Failure,
-    room: &mut [u8],
-    size: &mut usize,
-    said: &mut Answer,
-) -> u32
-    ensures { IsUnmade failure.now said.new result room.old size.new room.new }
+pub fn tell_unmade(alloc: Global, failure: &Failure, room: &mut [u8]) -> Told
+    ensures { IsUnmade failure.now result.said result.status room.old result.size room.new }
 {
-    *said = failure_answer(failure);
-    *size = 0;
-    if let Some(line) = failure_line(alloc, failure) {
-        let _ = put(&line, room, size);
+    let (status, said) = (failure_status(failure), failure_answer(failure));
+    let Some(line) = failure_line(alloc, failure) else {
+        return Told {
+            status,
+            size: 0,
+            said,
+        };
+    };
+    let _ = put(&line, room);
+    Told {
+        status,
+        size: line.len(),
+        said,
     }
-    failure_status(failure)
 }

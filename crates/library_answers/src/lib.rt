@@ -11,4 +11,4 @@ pub use answer::{
     token_answer,
 };
 pub use failing::{failure_answer, tell_failure, tell_line, tell_made, tell_unmade};
-pub use text::{DONE, FAILED, MALFORMED, NO_LIST, NO_MEMORY, REFUSED, USAGE, tell_verdict};
+pub use text::{DONE, FAILED, MALFORMED, NO_LIST, NO_MEMORY, REFUSED, Told, USAGE, tell_verdict};

@@ -1,8 +1,10 @@
 ghost use Rattle.std.specs.Prelude.{◌≡◌, ◌≤◌, ◌<◌, true, false, length, IfSome};
 ghost use Rattle.lines_report.specs.VerdictLine.{IsVerdictLine};
 ghost use Rattle.library_answers.specs.Failures.{Holds};
+ghost use Rattle.library_answers.specs.Numbers.{numbers_of};
 ghost use Rattle.library_answers.specs.Verdicts.{Tells, status_of};
 
+use crate::answer::{Answer, accepted_answer, refused_answer};
 use check_fit::{FileRule, Refused};
 use check_verdict::Accepted;
 use devices::FromWrite;
@@ -33,13 +35,23 @@ pub const NO_MEMORY: u32 = 7;
 /// A list that was handed in holds none.
 pub const NO_LIST: u32 = 8;
 
-/// Puts a text to the front of its room, if it fits there, and says how long it is.
-pub(crate) fn put(text: &[u8], room: &mut [u8], size: &mut usize) -> bool
-    ensures size { size.new ≡ length text.now }
-    ensures fits { result ≡ true → (length text.now ≤ length room.old) × Holds text.now room.old size.new room.new }
+/// How a call ends, beside the text in its room.
+#[derive(Clone, Copy, Debug)]
+pub struct Told {
+    /// The status.
+    pub status: u32,
+    /// The length of the text.
+    pub size: usize,
+    /// What was found, in numbers.
+    pub said: Answer,
+}
+
+/// Puts a text to the front of its room, if it fits there.
+pub(crate) fn put(text: &[u8], room: &mut [u8]) -> bool
+    ensures fits { result ≡ true → (length text.now ≤ length room.old)
+        × Holds text.now room.old (length text.now) room.new }
     ensures whole { result ≡ false → (length room.old < length text.now) × (room.new ≡ room.old) }
 {
-    *size = text.len();
     if text.len() > room.len() {
         return false;
     }
@@ -70,25 +82,48 @@ fn status_of(answer: &Result<Accepted, Refused>) -> u32
     }
 }
 
-/// Puts the line of an answer into its room, if there is any, and gives the status of the call.
-pub fn tell_verdict(
-    alloc: Global,
-    answer: &Result<Accepted, Refused>,
-    room: &mut [u8],
-    size: &mut usize,
-) -> u32
-    ensures { Tells answer.now result room.old size.new room.new }
+/// An answer in numbers.
+fn numbers_of(answer: &Result<Accepted, Refused>) -> Answer
+    ensures { result ≡ numbers_of answer.now }
 {
-    *size = 0;
+    match answer {
+        Ok(accepted) => accepted_answer(accepted.moment),
+        Err(refused) => refused_answer(*refused),
+    }
+}
+
+/// Says an answer in numbers and by its status, and puts its line into the room, if there is any.
+pub fn tell_verdict(alloc: Global, answer: &Result<Accepted, Refused>, room: &mut [u8]) -> Told
+    ensures said { result.said ≡ numbers_of answer.now }
+    ensures line { Tells answer.now result.status room.old result.size room.new }
+{
+    let said = numbers_of(answer);
     if room.is_empty() {
-        return status_of(answer);
+        return Told {
+            status: status_of(answer),
+            size: 0,
+            said,
+        };
     }
     let Some(line) = line_of(alloc, answer) else {
-        return NO_MEMORY;
+        return Told {
+            status: NO_MEMORY,
+            size: 0,
+            said,
+        };
     };
-    if put(&line, room, size) {
-        status_of(answer)
+    let size = line.len();
+    if put(&line, room) {
+        Told {
+            status: status_of(answer),
+            size,
+            said,
+        }
     } else {
-        NO_ROOM
+        Told {
+            status: NO_ROOM,
+            size,
+            said,
+        }
     }
 }

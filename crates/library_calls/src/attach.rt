@@ -6,7 +6,7 @@ ghost use Rattle.library_calls.specs.Attaching.{failure_of_attach, IsUnattached,
 use cli_failures::Failure;
 use cms_types::CmsFault;
 use devices::FromWrite;
-use library_answers::{Answer, tell_made, tell_unmade};
+use library_answers::{Told, tell_made, tell_unmade};
 use std::alloc::Global;
 use tsp_requester::{AttachFault, attach};
 
@@ -38,25 +38,15 @@ fn failure_of(fault: AttachFault) -> Failure<'static>
 }
 
 /// A file with a time-stamp token attached to one of its signers.
-pub fn tell_attached(
-    alloc: Global,
-    file: &[u8],
-    signer: u64,
-    token: &[u8],
-    text: &mut [u8],
-    size: &mut usize,
-    said: &mut Answer,
-) -> u32
+pub fn tell_attached(alloc: Global, file: &[u8], signer: u64, token: &[u8], room: &mut [u8]) -> Told
     // The octets of the new file, or the first rule that fails, in numbers and as the line.
-    ensures answer { IsAttaching file.now signer token.now said.new result text.old size.new
-        text.new }
+    ensures answer { IsAttaching file.now signer token.now result.said result.status room.old result.size room.new }
     // For every SignedData that is the file with the token, its encoding, if there is memory.
     ensures only { (w : SignedDataValue) → Attaches file.now signer token.now w
-        → IsMadeIfMemory (encoding (SignedContent w)) said.new result text.old size.new
-        text.new }
+        → IsMadeIfMemory (encoding (SignedContent w)) result.said result.status room.old result.size room.new }
 {
     match attached(alloc, file, signer, token) {
-        Ok(octets) => tell_made(&octets, text, size, said),
-        Err(fault) => tell_unmade(alloc, &failure_of(fault), text, size, said),
+        Ok(octets) => tell_made(&octets, room),
+        Err(fault) => tell_unmade(alloc, &failure_of(fault), room),
     }
 }

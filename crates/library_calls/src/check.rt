@@ -1,15 +1,24 @@
 ghost use Rattle.std.specs.Prelude.{◌≡◌, IfSome, option_map};
 ghost use Rattle.trust_lists.specs.Asking.{is_among};
-ghost use Rattle.check_verdict.specs.Questions.{Answers};
 ghost use Rattle.library_calls.specs.Checked.{handed, terms_under, IsKnownVerdict, IsChecked};
-ghost use Rattle.library_answers.specs.Numbers.{numbers_of};
 
 use check_fit::{Policy, Refused};
 use check_verdict::{Accepted, check};
 use devices::{Slice, Source};
-use library_answers::{Answer, accepted_answer, refused_answer, tell_verdict};
+use library_answers::{Told, tell_verdict};
 use std::alloc::Global;
 use trust_lists::{Answers, Trust};
+
+/// A file, and the content beside it, if it is given.
+#[derive(Clone, Copy, Debug)]
+pub struct Input<'i> {
+    /// The file.
+    pub file: &'i [u8],
+    /// The content.
+    pub content: &'i [u8],
+    /// Whether the content is given.
+    pub given: bool,
+}
 
 /// The source of a content, if it is given.
 pub(crate) fn source_of<'a>(given: bool, content: &'a [u8]) -> Option<Slice<'a>>
@@ -27,26 +36,15 @@ pub(crate) fn source_of<'a>(given: bool, content: &'a [u8]) -> Option<Slice<'a>>
 fn verdict_of(
     list: &Trust,
     asked: &mut Answers,
-    file: &[u8],
-    content: &[u8],
-    given: bool,
+    input: Input,
     sha1: bool,
 ) -> Result<Accepted, Refused>
-    ensures verdict { IsKnownVerdict (terms_under list.now asked.old sha1) file.now (handed given content.now) result }
+    ensures verdict { IsKnownVerdict (terms_under list.now asked.old sha1) input.entry.file.now
+        (handed input.entry.given input.entry.content.now) result }
     ensures same { is_among asked.new ≡ is_among asked.old }
 {
-    let mut source = source_of(given, content);
-    check(file, &mut source, list, &Policy { sha1 }, asked)
-}
-
-/// An answer in numbers.
-fn numbers_of(answer: &Result<Accepted, Refused>) -> Answer
-    ensures { result ≡ numbers_of answer.now }
-{
-    match answer {
-        Ok(accepted) => accepted_answer(accepted.moment),
-        Err(refused) => refused_answer(*refused),
-    }
+    let mut source = source_of(input.given, input.content);
+    check(input.file, &mut source, list, &Policy { sha1 }, asked)
 }
 
 /// Says whether each signature of a file existed by a moment, under these lists.
@@ -54,21 +52,16 @@ pub fn tell_check(
     alloc: Global,
     list: &Trust,
     asked: &mut Answers,
-    file: &[u8],
-    content: &[u8],
-    given: bool,
+    input: Input,
     sha1: bool,
-    text: &mut [u8],
-    size: &mut usize,
-    said: &mut Answer,
-) -> u32
+    room: &mut [u8],
+) -> Told
     // The verdict of the definitions, in numbers and as its line.
-    ensures verdict { IsChecked (terms_under list.now asked.old sha1) file.now (handed given content.now) said.new
-        result text.old size.new text.new }
+    ensures verdict { IsChecked (terms_under list.now asked.old sha1) input.entry.file.now
+        (handed input.entry.given input.entry.content.now) result.said result.status room.old result.size room.new }
     // The answers list vouches for what it vouched for.
     ensures same { is_among asked.new ≡ is_among asked.old }
 {
-    let verdict = verdict_of(list, asked, file, content, given, sha1);
-    *said = numbers_of(&verdict);
-    tell_verdict(alloc, &verdict, text, size)
+    let verdict = verdict_of(list, asked, input, sha1);
+    tell_verdict(alloc, &verdict, room)
 }

@@ -3,7 +3,7 @@ ghost use Rattle.library_calls.specs.Comparing.{IsComparison, compared_numbers, 
 
 use cli_failures::Failure;
 use cms_compare::{Compared, compare};
-use library_answers::{Answer, DONE, REFUSED, failure_answer, tell_failure, tell_line};
+use library_answers::{Answer, DONE, REFUSED, Told, failure_answer, tell_failure, tell_line};
 use std::alloc::Global;
 
 /// Signers sign the same.
@@ -48,20 +48,18 @@ pub fn tell_comparison(
     first_signer: u64,
     second: &[u8],
     second_signer: u64,
-    text: &mut [u8],
-    size: &mut usize,
-    said: &mut Answer,
-) -> u32
+    room: &mut [u8],
+) -> Told
     // How they compare by the definitions, or why they are not compared, in numbers and as the line.
-    ensures { IsComparison first.now first_signer second.now second_signer said.new result text.old size.new
-        text.new }
+    ensures { IsComparison first.now first_signer second.now second_signer result.said result.status room.old
+        result.size room.new }
 {
     match compare(first, first_signer, second, second_signer) {
         Ok(compared) => {
-            *said = compared_answer(compared);
             let line = compared_line(compared).as_bytes();
-            tell_line(line, compared_status(compared), text, size)
+            let said = compared_answer(compared);
+            tell_line(line, compared_status(compared), said, room)
         }
-        Err(fault) => tell_failure(alloc, &Failure::Uncompared(fault), text, size, said),
+        Err(fault) => tell_failure(alloc, &Failure::Uncompared(fault), room),
     }
 }

@@ -3,22 +3,24 @@ ghost use Rattle.std.specs.Fmt.{decimal};
 ghost use Rattle.library_calls.specs.Checked.{handed};
 ghost use Rattle.library_calls.specs.Fit.{FitsHanded, IsFit};
 ghost use Rattle.library_answers.specs.Failures.{IsLine};
+ghost use Rattle.library_answers.specs.Numbers.{ruled};
 
-use crate::check::source_of;
+use crate::check::{Input, source_of};
 use check_fit::{Policy, Refused, fits};
 use cli_failures::Failure;
-use library_answers::{Answer, DONE, NO_MEMORY, tell_failure, tell_line};
+use library_answers::{Answer, DONE, NO_MEMORY, Told, tell_failure, tell_line};
 use std::alloc::Global;
 
 /// Each signer fits.
 const FITS: u32 = 5;
 
 /// Whether the signers of a file fit its content.
-fn verdict_of(file: &[u8], content: &[u8], given: bool, sha1: bool) -> Result<usize, Refused>
-    ensures { FitsHanded (record { sha1 = sha1 }) file.now (handed given content.now) result }
+fn verdict_of(input: Input, sha1: bool) -> Result<usize, Refused>
+    ensures { FitsHanded (record { sha1 = sha1 }) input.entry.file.now (handed input.entry.given
+        input.entry.content.now) result }
 {
-    let mut source = source_of(given, content);
-    fits(file, &mut source, &Policy { sha1 })
+    let mut source = source_of(input.given, input.content);
+    fits(input.file, &mut source, &Policy { sha1 })
 }
 
 /// The line of that many signers that fit, if there is memory.
@@ -32,43 +34,40 @@ fn fits_line(alloc: Global, count: usize) -> Option<Vec<u8>>
 }
 
 /// Says that many signers fit.
-fn tell_count(alloc: Global, count: usize, room: &mut [u8], size: &mut usize) -> u32
-    ensures { IsLine (codes "fits " ++ decimal count ++ (10 ∷ [])) 1 result room.old size.new
-        room.new }
+fn tell_count(alloc: Global, count: usize, room: &mut [u8]) -> Told
+    ensures said { result.said ≡ record (ruled 5 0 0) { signer = count } }
+    ensures line { IsLine (codes "fits " ++ decimal count ++ (10 ∷ [])) 1 result.status room.old result.size room.new }
 {
-    *size = 0;
+    let said = Answer {
+        signer: count as u64,
+        ..Answer::ruled(FITS, 0, 0)
+    };
     if room.is_empty() {
-        return DONE;
+        return Told {
+            status: DONE,
+            size: 0,
+            said,
+        };
     }
     match fits_line(alloc, count) {
-        Some(line) => tell_line(&line, DONE, room, size),
-        None => NO_MEMORY,
+        Some(line) => tell_line(&line, DONE, said, room),
+        None => Told {
+            status: NO_MEMORY,
+            size: 0,
+            said,
+        },
     }
 }
 
 /// Whether the content and the signed attributes of each signer of a file in memory belong together.
-pub fn tell_fit(
-    alloc: Global,
-    file: &[u8],
-    content: &[u8],
-    content_given: bool,
-    sha1: bool,
-    text: &mut [u8],
-    size: &mut usize,
-    said: &mut Answer,
-) -> u32
+pub fn tell_fit(alloc: Global, input: Input, sha1: bool, room: &mut [u8]) -> Told
     // How many signers fit, or the first rule that fails, in numbers and as the line.
-    ensures { IsFit file.now (handed content_given content.now) sha1 said.new result text.old size.new
-        text.new }
+    ensures { IsFit input.entry.file.now (handed input.entry.given input.entry.content.now) sha1 result.said
+        result.status room.old
+        result.size room.new }
 {
-    match verdict_of(file, content, content_given, sha1) {
-        Ok(count) => {
-            *said = Answer {
-                signer: count as u64,
-                ..Answer::ruled(FITS, 0, 0)
-            };
-            tell_count(alloc, count, text, size)
-        }
-        Err(why) => tell_failure(alloc, &Failure::Refused(why), text, size, said),
+    match verdict_of(input, sha1) {
+        Ok(count) => tell_count(alloc, count, room),
+        Err(why) => tell_failure(alloc, &Failure::Refused(why), room),
     }
 }

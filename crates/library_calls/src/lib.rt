@@ -15,7 +15,7 @@ mod signature;
 mod token;
 
 pub use attach::tell_attached;
-pub use check::tell_check;
+pub use check::{Input, tell_check};
 pub use compare::tell_comparison;
 pub use fit::tell_fit;
 pub use lists::{read_answers, read_trust};

@@ -4,7 +4,7 @@ ghost use Rattle.library_calls.specs.Matching.{Answers, AnswersNot, IsMatch, IsT
 
 use cli_failures::{Failure, Message};
 use der_core::ReadFault;
-use library_answers::{Answer, DONE, tell_failure, tell_line, tell_made, tell_unmade};
+use library_answers::{Answer, DONE, Told, tell_failure, tell_line, tell_made, tell_unmade};
 use std::alloc::Global;
 use tsp_requester::answers;
 use tsp_types::{Request, Response};
@@ -46,41 +46,27 @@ fn token_of<'o>(request: &[u8], response: &'o [u8]) -> Result<&'o [u8], Failure<
 }
 
 /// Whether a response answers a request.
-pub fn tell_match(
-    alloc: Global,
-    request: &[u8],
-    response: &[u8],
-    text: &mut [u8],
-    size: &mut usize,
-    said: &mut Answer,
-) -> u32
+pub fn tell_match(alloc: Global, request: &[u8], response: &[u8], room: &mut [u8]) -> Told
     // Whether it answers by the definitions, or the first rule that fails, in numbers and as the line.
-    ensures { IsMatch request.now response.now said.new result text.old size.new text.new }
+    ensures { IsMatch request.now response.now result.said result.status room.old result.size room.new }
 {
     match token_of(request, response) {
         Ok(_) => {
-            *said = Answer::ruled(ANSWERS, 0, 0);
-            tell_line("answers\n".as_bytes(), DONE, text, size)
+            let said = Answer::ruled(ANSWERS, 0, 0);
+            tell_line("answers\n".as_bytes(), DONE, said, room)
         }
-        Err(why) => tell_failure(alloc, &why, text, size, said),
+        Err(why) => tell_failure(alloc, &why, room),
     }
 }
 
 /// The token of a response that answers a request.
-pub fn tell_token(
-    alloc: Global,
-    request: &[u8],
-    response: &[u8],
-    text: &mut [u8],
-    size: &mut usize,
-    said: &mut Answer,
-) -> u32
+pub fn tell_token(alloc: Global, request: &[u8], response: &[u8], room: &mut [u8]) -> Told
     // The token of a response that answers by the definitions, or the first rule that fails, in numbers and as the
     // line.
-    ensures { IsTokenOf request.now response.now said.new result text.old size.new text.new }
+    ensures { IsTokenOf request.now response.now result.said result.status room.old result.size room.new }
 {
     match token_of(request, response) {
-        Ok(token) => tell_made(token, text, size, said),
-        Err(why) => tell_unmade(alloc, &why, text, size, said),
+        Ok(token) => tell_made(token, room),
+        Err(why) => tell_unmade(alloc, &why, room),
     }
 }

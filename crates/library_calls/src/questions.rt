@@ -9,7 +9,9 @@ ghost use Rattle.library_calls.specs.Questions.{unasked_status};
 
 use check_questions::{QuestionsFault, questions};
 use devices::FromWrite;
-use library_answers::{Answer, IS_MALFORMED, MALFORMED, NO_MEMORY, REFUSED, REFUSES, tell_made};
+use library_answers::{
+    Answer, IS_MALFORMED, MALFORMED, NO_MEMORY, REFUSED, REFUSES, Told, tell_made,
+};
 use std::alloc::Global;
 use trust_lists::Trust;
 
@@ -55,23 +57,16 @@ fn fault_status(fault: QuestionsFault) -> u32
 }
 
 /// Puts the questions of a file into their room, or says why there are none.
-pub fn tell_questions(
-    alloc: Global,
-    list: &Trust,
-    octets: &[u8],
-    text: &mut [u8],
-    size: &mut usize,
-    said: &mut Answer,
-) -> u32
+pub fn tell_questions(alloc: Global, list: &Trust, octets: &[u8], room: &mut [u8]) -> Told
     // The text of the file's questions, the only one, or its size if there is too little room; or why there are none.
-    ensures { IsQuestioned list.now octets.now said.new result text.old size.new text.new }
+    ensures { IsQuestioned list.now octets.now result.said result.status room.old result.size room.new }
 {
     match text_of(alloc, list, octets) {
-        Ok(found) => tell_made(&found, text, size, said),
-        Err(fault) => {
-            *size = 0;
-            *said = fault_answer(fault);
-            fault_status(fault)
-        }
+        Ok(found) => tell_made(&found, room),
+        Err(fault) => Told {
+            status: fault_status(fault),
+            size: 0,
+            said: fault_answer(fault),
+        },
     }
 }

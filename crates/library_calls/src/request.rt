@@ -17,7 +17,7 @@ use cli_failures::Failure;
 use der_core::{Int, Oid};
 use der_oid_text::{OidFault, oid_parse};
 use digests::{Alg, Digest, digest};
-use library_answers::{Answer, tell_made, tell_unmade};
+use library_answers::{Told, tell_made, tell_unmade};
 use std::alloc::Global;
 use std::str;
 use tsp_types::{MakeFault, Request};
@@ -165,91 +165,79 @@ fn octets_of_signature(
 }
 
 /// Puts what was made into its room, or says why nothing was.
-fn tell(
-    alloc: Global,
-    made: Result<Vec<u8>, Failure<'static>>,
-    text: &mut [u8],
-    size: &mut usize,
-    said: &mut Answer,
-) -> u32
+fn tell(alloc: Global, made: Result<Vec<u8>, Failure<'static>>, room: &mut [u8]) -> Told
     ensures { MatchResult made.entry
-        (λ octets. IsMade octets.items said.new result text.old size.new text.new)
-        (λ why. IsUnmade why said.new result text.old size.new text.new) }
+        (λ octets. IsMade octets.items result.said result.status room.old result.size room.new)
+        (λ why. IsUnmade why result.said result.status room.old result.size room.new) }
 {
     match made {
-        Ok(octets) => tell_made(&octets, text, size, said),
-        Err(why) => tell_unmade(alloc, &why, text, size, said),
+        Ok(octets) => tell_made(&octets, room),
+        Err(why) => tell_unmade(alloc, &why, room),
     }
 }
 
 /// A time-stamp request of a digest.
 pub fn tell_request(
     alloc: Global,
-    algorithm: &[u8],
+    name: &[u8],
     octets: &[u8],
     policy: &[u8],
     nonce: &[u8],
     certificate: bool,
-    text: &mut [u8],
-    size: &mut usize,
-    said: &mut Answer,
-) -> u32
+    room: &mut [u8],
+) -> Told
     // The octets that encode the request of this digest, or the first value that is not as it must be.
-    ensures { IsRequested (IsGiven algorithm.now octets.now) algorithm.now policy.now nonce.now certificate said.new
-        result text.old size.new text.new }
+    ensures { IsRequested (IsGiven name.now octets.now) name.now policy.now nonce.now certificate result.said
+        result.status room.old result.size room.new }
 {
-    match given(algorithm, octets) {
+    match given(name, octets) {
         Ok(digest) => {
             let made = octets_of(alloc, &digest, policy, nonce, certificate);
-            tell(alloc, made, text, size, said)
+            tell(alloc, made, room)
         }
-        Err(why) => tell_unmade(alloc, &why, text, size, said),
+        Err(why) => tell_unmade(alloc, &why, room),
     }
 }
 
 /// A time-stamp request of octets.
 pub fn tell_request_of(
     alloc: Global,
-    algorithm: &[u8],
+    name: &[u8],
     octets: &[u8],
     policy: &[u8],
     nonce: &[u8],
     certificate: bool,
-    text: &mut [u8],
-    size: &mut usize,
-    said: &mut Answer,
-) -> u32
+    room: &mut [u8],
+) -> Told
     // The octets that encode the request of the digest of these, or the first value that is not as it must be.
-    ensures { IsRequested (IsHashed algorithm.now octets.now) algorithm.now policy.now nonce.now certificate said.new
-        result text.old size.new text.new }
+    ensures { IsRequested (IsHashed name.now octets.now) name.now policy.now nonce.now certificate result.said
+        result.status room.old result.size room.new }
 {
-    match hashed(algorithm, octets) {
+    match hashed(name, octets) {
         Ok(digest) => {
             let made = octets_of(alloc, &digest, policy, nonce, certificate);
-            tell(alloc, made, text, size, said)
+            tell(alloc, made, room)
         }
-        Err(why) => tell_unmade(alloc, &why, text, size, said),
+        Err(why) => tell_unmade(alloc, &why, room),
     }
 }
 
 /// A time-stamp request of the signature of the signer of this number, from 1, in a file.
 pub fn tell_request_of_signature(
     alloc: Global,
-    algorithm: &[u8],
+    name: &[u8],
     file: &[u8],
     signer: u64,
     policy: &[u8],
     nonce: &[u8],
     certificate: bool,
-    text: &mut [u8],
-    size: &mut usize,
-    said: &mut Answer,
-) -> u32
+    room: &mut [u8],
+) -> Told
     // The octets that encode the request of this signature's digest, or the first value that is not as it must be, or
     // why the file has no such signature.
-    ensures { IsSignatureRequested algorithm.now file.now signer policy.now nonce.now certificate said.new result
-        text.old size.new text.new }
+    ensures { IsSignatureRequested name.now file.now signer policy.now nonce.now certificate result.said result.status
+        room.old result.size room.new }
 {
-    let made = octets_of_signature(alloc, algorithm, file, signer, policy, nonce, certificate);
-    tell(alloc, made, text, size, said)
+    let made = octets_of_signature(alloc, name, file, signer, policy, nonce, certificate);
+    tell(alloc, made, room)
 }

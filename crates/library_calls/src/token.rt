@@ -6,7 +6,7 @@ ghost use Rattle.library_calls.specs.CheckedTokens.{IsTokenJudged, IsTokenChecke
 use check_fit::{Policy, TokenRefused};
 use check_verdict::{Accepted, check_token};
 use library_answers::{
-    Answer, DONE, FAILED, REFUSED, accepted_answer, device_answer, token_answer,
+    Answer, DONE, FAILED, REFUSED, Told, accepted_answer, device_answer, token_answer,
 };
 use trust_lists::{Answers, Trust};
 
@@ -53,14 +53,17 @@ pub fn tell_token_check(
     token: &[u8],
     stamped: &[u8],
     sha1: bool,
-    said: &mut Answer,
-) -> u32
-    // The verdict of the definitions, in numbers.
-    ensures verdict { IsTokenChecked (terms_under list.now asked.old sha1) token.now stamped.now said.new result }
+) -> Told
+    // The verdict of the definitions, in numbers, and no text.
+    ensures verdict { IsTokenChecked (terms_under list.now asked.old sha1) token.now stamped.now result.said
+        result.status }
     // The answers list vouches for what it vouched for.
     ensures same { is_among asked.new ≡ is_among asked.old }
 {
     let verdict = verdict_of(list, asked, token, stamped, sha1);
-    *said = numbers_of(&verdict);
-    status_of(&verdict)
+    Told {
+        status: status_of(&verdict),
+        size: 0,
+        said: numbers_of(&verdict),
+    }
 }

@@ -3,15 +3,18 @@ use Rattle.cmsproof_c.proofs.questions.cmsproof_questions.Goals as goal
 
 pub returns-clause-only : goal.returns-clause-only
 returns-clause-only c =
-    only_held c.args.octets.now c.questions_held.new.said c.questions_held.result _ c.questions_held.new.size _ _
-    c.questions_held.ensures.questions
+    only_held c.args.octets.now c.questions_held-told.result.said c.questions_held-told.result.status _
+    c.questions_held-told.result.size _ _
+    c.questions_held-told.ensures.questions
 
 pub returns-clause-malformed : goal.returns-clause-malformed
 returns-clause-malformed c =
-    malformed_held c.args.octets.now c.questions_held.new.said c.questions_held.result _ c.questions_held.new.size _ _
-    c.questions_held.ensures.questions
+    malformed_held c.args.octets.now c.questions_held-told.result.said c.questions_held-told.result.status _
+    c.questions_held-told.result.size _ _
+    c.questions_held-told.ensures.questions
 
 pub returns-clause-another : goal.returns-clause-another
 returns-clause-another c =
-    another_held c.args.octets.now c.questions_held.new.said c.questions_held.result _ c.questions_held.new.size _ _
-    c.questions_held.ensures.questions
+    another_held c.args.octets.now c.questions_held-told.result.said c.questions_held-told.result.status _
+    c.questions_held-told.result.size _ _
+    c.questions_held-told.ensures.questions

@@ -6,9 +6,9 @@ pub returns-in-Ok : goal.returns-in-Ok
 returns-in-Ok c = inl (
   c.in-Ok.compared,
   (c.compare.ensures.compared c.in-Ok.compared).0 c.in-Ok.is,
-  c.compared_answer.ensures,
+  c.tell_line.ensures.said ∙ c.compared_answer-said.ensures,
   line_as _ _ _ _ _ _ _ _
-      (c.as_bytes-line.ensures.value ∙ c.compared_line.ensures) c.compared_status.ensures c.tell_line.ensures,
+      (c.as_bytes-line.ensures.value ∙ c.compared_line.ensures) c.compared_status.ensures c.tell_line.ensures.line,
 )
 
 pub returns-in-Err : goal.returns-in-Err

@@ -6,8 +6,9 @@ use Rattle.library_calls.proofs.fit.verdict_of.Goals as goal
 
 pub returns : goal.returns
 returns c = subst
-    (λ (handed : Option (List ℕ)). FitsHanded (record { sha1 = c.args.sha1 }) c.args.file.now handed c.fits.result)
+    (λ (handed : Option (List ℕ)).
+    FitsHanded (record { sha1 = c.args.sha1 }) c.args.input.file.now handed c.fits.result)
     c.source_of-source.ensures.rest
-    (judges_handed _ (FitsSigned (record { sha1 = c.args.sha1 })) (λ s s' e. never_raised e) c.args.file.now
+    (judges_handed _ (FitsSigned (record { sha1 = c.args.sha1 })) (λ s s' e. never_raised e) c.args.input.file.now
     c.fits.ensures.0 c.source_of-source.result _ c.fits.result c.fits.ensures.1 c.source_of-source.ensures.tells
     c.fits.ensures.2)

@@ -1,12 +1,13 @@
 -- The digests of certificates of trusted entries that are kept.
-use Rattle.std.specs.Prelude.{◌≡◌, ℕ, List, Some, option_map}
-use Rattle.std.specs.List.{slice_get}
+use Rattle.std.specs.Prelude.{◌≡◌, ℕ, List, Some, IfSome, option_map}
+use Rattle.std.specs.List.{All, slice_get}
 use Rattle.cert_types.specs.CertificateValue.{CertificateValue, encoding}
 use Rattle.digests.specs.Digests.{alg_of, octets_of}
 use Rattle.digests.specs.Messages.{digest_of}
 use Rattle.digests.specs.declared.value.Digest.{Digest}
 use Rattle.trust_lists.specs.Entries.{EntryValue}
 use Rattle.check_verdict.specs.declared.hashed.KeptDigest.{KeptDigest}
+use Rattle.check_verdict.specs.declared.hashed.KeptDigests.{KeptDigests}
 
 -- there is an entry of this number, and the certificate is its own
 abbrev pub IsCertificateAt : List EntryValue → (number : ℕ) → CertificateValue → Type 0
@@ -20,3 +21,7 @@ IsDigestAt entries number d = (c : CertificateValue) → IsCertificateAt entries
 -- what is kept is a digest of the certificate of the entry of its number
 abbrev pub IsKeptDigest : List EntryValue → KeptDigest → Type 0
 IsKeptDigest entries kept = IsDigestAt entries kept.number kept.digest
+
+-- each is
+abbrev pub AreDigestsOf : List EntryValue → KeptDigests → Type 0
+AreDigestsOf entries kept = All (λ slot. IfSome slot (IsKeptDigest entries)) kept.slots

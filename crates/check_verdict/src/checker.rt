@@ -1,8 +1,9 @@
 //! What a check goes by, apart from the verifier, which each question changes.
 ghost use Rattle.std.specs.Prelude.{◌≡◌};
+ghost use Rattle.check_verdict.specs.KeptDigests.{AreDigestsOf};
 
 use crate::certificates::{Authorities, Recent, Signers};
-use crate::hashed::Hashed;
+use crate::hashed::{Hashed, KeptDigests};
 use check_fit::Policy;
 use std::marker::Model;
 use trust_lists::Trust;
@@ -42,12 +43,30 @@ impl<'l> Checker<'l> {
         // It goes by this list and this policy.
         ensures { result ≡ record { trust = trust.now; policy = policy } }
     {
+        Checker::with(trust, policy, KeptDigests::none())
+    }
+
+    /// With the digests that another `Checker` of the list kept, where the list is not borrowed from check to check.
+    pub fn with(trust: &'l Trust, policy: Policy, kept: KeptDigests) -> Checker<'l>
+        // They are of this list.
+        requires { AreDigestsOf trust.now kept }
+        // It goes by this list and this policy.
+        ensures { result ≡ record { trust = trust.now; policy = policy } }
+    {
         Checker {
             policy,
-            hashed: Hashed::of(trust),
+            hashed: Hashed::of(trust, kept),
             signers: Recent::of(trust),
             authorities: Recent::of(trust),
         }
+    }
+
+    /// The digests that are kept at the end.
+    pub fn into_kept(self) -> KeptDigests
+        // They are of the list that this went by.
+        ensures { AreDigestsOf self.entry.trust result }
+    {
+        self.hashed.kept()
     }
 
     /// The algorithms that the user allows.

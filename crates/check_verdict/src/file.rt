@@ -107,21 +107,32 @@ pub fn judge_signers<V: Verifier>(
     }
 }
 
-// The verdict of `check`, by what the file's octets are read as.
-fn judge_file<S: Source, V: Verifier>(
+/// The verdict of `check`, by a `Checker`, which serves for many files.
+///
+/// Errors: those of `check`.
+pub fn judge_file<S: Source, V: Verifier>(
     file: &[u8],
     content: &mut Option<S>,
     checker: &mut Checker,
     verifier: &mut V,
 ) -> Result<Accepted, Refused>
+    // For any source: the verdict is right for what it gave, and it is read only if none of C1 to C5 refuses. The
+    // verifier is asked only about signers that fit the content that was judged, under entries that passed the earlier
+    // filters.
     ensures asked { let terms = terms_for checker.old (V.vouches verifier.old) in
         ChecksAsking (facts_of S.tells S.rest S.failures) terms (λ test. V.asked_only test verifier.old verifier.new)
         file.now content.old content.new result }
+    // It is asked nothing if one of C1 to C5 refuses, or the content could not be read.
     ensures unasked { IsUnread result → (test : Asked → Bool) → V.asked_only test verifier.old verifier.new }
+    // It is asked only questions of the file.
     ensures only { AsksOnly (λ test. V.asked_only test verifier.old verifier.new)
         (IsQuestion checker.old.trust file.now) }
+    // What the verifier vouches for stays the same.
     ensures same { V.vouches verifier.new ≡ V.vouches verifier.old }
+    // The verifier failed exactly if the verdict says so.
     ensures count { CountsAsks result (V.failures verifier.old) (V.failures verifier.new) }
+    // What the check goes by stays the same.
+    ensures stays { checker.new ≡ checker.old }
 {
     let (signed, digests) = open_file(file, content, &checker.policy())?;
     let moment = judge_signers(

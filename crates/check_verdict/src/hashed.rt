@@ -1,7 +1,8 @@
 //! The digests of certificates of trusted entries that were computed last.
 ghost use Rattle.std.specs.Prelude.{◌≡◌, List, IfSome};
 ghost use Rattle.digests.specs.Digests.{alg_of};
-ghost use Rattle.check_verdict.specs.KeptDigests.{IsDigestAt, IsKeptDigest};
+ghost use Rattle.trust_lists.specs.Entries.{EntryValue};
+ghost use Rattle.check_verdict.specs.KeptDigests.{IsDigestAt, AreDigestsOf};
 
 use cert_types::Certificate;
 use check_names::CertificateHasher;
@@ -19,41 +20,59 @@ struct KeptDigest {
     digest: Digest,
 }
 
-/// A trust list, and the digests of certificates of its entries that were computed last, at most eight, each kept by
-/// the number of its entry: a certificate that is named again and again is hashed once. What is kept changes no answer.
+/// Digests of certificates of entries of a trust list that were computed last, at most eight, each kept by the number
+/// of its entry: a certificate that is named again and again is hashed once.
 ///
-/// Contracts see the entries of the list, in its order.
-#[derive(Debug, Drop)]
-pub(crate) struct Hashed<'l> {
-    trust: &'l Trust,
+/// They belong to one list: contracts say of which entries they are the digests (`AreDigestsOf`), and a `Checker` takes
+/// no others.
+#[derive(Clone, Copy, Debug)]
+pub struct KeptDigests {
     slots: [Option<KeptDigest>; SLOTS],
     // The slot that is taken next, or as many as there are for the first.
     next: usize,
 }
 
+impl KeptDigests {
+    /// No digest.
+    pub fn none() -> KeptDigests
+        // So it is of any list.
+        ensures { (entries : List EntryValue) → AreDigestsOf entries result }
+    {
+        KeptDigests {
+            slots: [None; SLOTS],
+            next: 0,
+        }
+    }
+}
+
+/// A trust list, and the digests that are kept of it. What is kept changes no answer.
+///
+/// Contracts see the entries of the list, in its order.
+#[derive(Debug, Drop)]
+pub(crate) struct Hashed<'l> {
+    trust: &'l Trust,
+    kept: KeptDigests,
+}
+
 impl<'l> Model for Hashed<'l> {
-    ghost use Rattle.std.specs.Prelude.{List, IfSome};
-    ghost use Rattle.std.specs.List.{All};
+    ghost use Rattle.std.specs.Prelude.{List};
     ghost use Rattle.trust_lists.specs.Entries.{EntryValue};
-    ghost use Rattle.check_verdict.specs.KeptDigests.{IsKeptDigest};
+    ghost use Rattle.check_verdict.specs.KeptDigests.{AreDigestsOf};
 
     ghost Value = { List EntryValue };
 
     ghost view = { λ h. h.trust.now };
 
-    ghost invariant = { λ h. All (λ slot. IfSome slot (IsKeptDigest h.trust.now)) h.slots };
+    ghost invariant = { λ h. AreDigestsOf h.trust.now h.kept };
 }
 
 impl<'l> Hashed<'l> {
-    /// The list, with no digest.
-    pub fn of(trust: &'l Trust) -> Hashed<'l>
+    /// The list, with these digests of it.
+    pub fn of(trust: &'l Trust, kept: KeptDigests) -> Hashed<'l>
+        requires { AreDigestsOf trust.now kept }
         ensures { result ≡ trust.now }
     {
-        Hashed {
-            trust,
-            slots: [None; SLOTS],
-            next: 0,
-        }
+        Hashed { trust, kept }
     }
 
     /// The list.
@@ -63,12 +82,19 @@ impl<'l> Hashed<'l> {
         self.trust
     }
 
+    /// The digests that are kept now.
+    pub fn kept(&self) -> KeptDigests
+        ensures { AreDigestsOf self.now result }
+    {
+        self.kept
+    }
+
     // The digest of the certificate of the entry of this number by this algorithm, if it is kept.
     fn found(&self, alg: Alg, number: usize) -> Option<Digest>
         ensures digest { IfSome result (IsDigestAt self.now number) }
         ensures by { IfSome result (λ d. alg_of d ≡ alg) }
     {
-        for slot in &self.slots {
+        for slot in &self.kept.slots {
             if let Some(kept) = slot
                 && kept.number == number
                 && kept.digest.alg() == alg
@@ -84,9 +110,9 @@ impl<'l> Hashed<'l> {
         requires { IsDigestAt self.old number digest }
         ensures { self.new ≡ self.old }
     {
-        let at = self.next % SLOTS;
-        self.slots[at] = Some(KeptDigest { number, digest });
-        self.next = at + 1;
+        let at = self.kept.next % SLOTS;
+        self.kept.slots[at] = Some(KeptDigest { number, digest });
+        self.kept.next = at + 1;
     }
 }
 

@@ -24,10 +24,11 @@ pub use accepted::Accepted;
 pub use asking::{holds, question_of};
 pub use candidates::next_candidate;
 pub use checker::Checker;
-pub use file::{check, judge_signers};
+pub use file::{check, judge_file, judge_signers};
+pub use hashed::KeptDigests;
 pub use laws::{
     files_are_judged, questions_suffice, rows_hold, rule_rows_hold, signers_are_judged,
     tokens_are_judged,
 };
 pub use one_signer::check_signer;
-pub use token::check_token;
+pub use token::{check_token, judge_token};

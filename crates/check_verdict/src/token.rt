@@ -12,21 +12,29 @@ use crate::token_stages::token_stages;
 use check_fit::{DeviceFault, Policy, TokenRefused};
 use trust_lists::{Trust, Verifier};
 
-/// The verdict of `check_token`, by what a check goes by.
-pub(crate) fn judge_token<V: Verifier>(
+/// The verdict of `check_token`, by a `Checker`, which serves for many tokens.
+///
+/// Errors: those of `check_token`.
+pub fn judge_token<V: Verifier>(
     token: &[u8],
     stamped: &[u8],
     checker: &mut Checker,
     verifier: &mut V,
 ) -> Result<Accepted, TokenRefused>
+    // It passes with the moment, or fails the rule first.
     ensures judged { let terms = terms_for checker.old (V.vouches verifier.old) in
         IsTokenVerdict terms token.now stamped.now result }
+    // If it passes, the verdict is its moment, unless the verifier failed.
     ensures complete { let terms = terms_for checker.old (V.vouches verifier.old) in
         (m : ℕ) → Passes terms token.now stamped.now m → PassesOrDevice m result }
+    // The verifier is asked only under entries that passed K10 to K13, and only if K1 to K9 hold.
     ensures only { (test : Asked → Bool) → ((q : Asked) → IsAskedOfToken checker.old.policy checker.old.trust
         stamped.now token.now q → test q ≡ true) → V.asked_only test verifier.old verifier.new }
+    // What the verifier vouches for stays the same.
     ensures same { V.vouches verifier.new ≡ V.vouches verifier.old }
+    // It failed exactly if the verdict says so.
     ensures count { CountsAsks result (V.failures verifier.old) (V.failures verifier.new) }
+    // What the check goes by stays the same.
     ensures stays { checker.new ≡ checker.old }
 {
     let claim = match claim_of(checker.policy(), stamped, token) {

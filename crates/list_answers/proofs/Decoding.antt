@@ -21,7 +21,8 @@ abbrev right_at : ℕ → Bool
 right_at c = slice_index VALUES c == unwrap_or (hex_digit_value c) 256
 
 pub value_there : (c : ℕ) → c < 256 → slice_index VALUES c ≡ unwrap_or (hex_digit_value c) 256
-value_there c lt = eqb-true (slice_index VALUES c) (unwrap_or (hex_digit_value c) 256) (right_there right_at 256 c refl lt)
+value_there c lt = eqb-true (slice_index VALUES c) (unwrap_or (hex_digit_value c) 256)
+    (right_there right_at 256 c refl lt)
 
 -- ---- a pair
 

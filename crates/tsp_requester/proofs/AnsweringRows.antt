@@ -49,7 +49,7 @@ use Rattle.tsp_requester.specs.declared.rules.MatchFault.{MatchFault}
 use Rattle.tsp_requester.specs.declared.rules.MatchFault.TheVariants as rule
 use Rattle.tsp_types.specs.TstValue.{id_tst_info}
 use Rattle.tsp_requester.specs.Answering.{TokenValue, IsTimeStamp, IsGranted, SameImprint, IsNamed, HasCertificate}
-use Rattle.tsp_requester.specs.Answering.{TokenFails, MatchFails}
+use Rattle.tsp_requester.specs.Answering.{TokenFails, MatchFails, Answering, HasNonce, HasPolicy, HasWhatIsAsked}
 use Rattle.tsp_requester.specs.AnsweringRows.{stamp, stamped, naming, naming_another, bare, signed, token, unreadable}
 use Rattle.tsp_requester.specs.AnsweringRows.{octets_of, request, response, granted}
 use Rattle.tsp_requester.specs.AnsweringRows.{plain, with_certificate, other_digest, other_algorithm, AnsweringRows}
@@ -176,109 +176,49 @@ unasked e = absurd cc
 unasked_too : flag.False ≡ flag.True → ⊥
 unasked_too e = absurd cc
 
+-- a token that answers, in a response that grants it
+answering : (asked : RequestValue) (answer : ResponseValue) (t : TokenValue) → IsGranted answer
+    → answer.token ≡ Some (octets_of t.signed) → IsTimeStamp (octets_of t.signed) t
+    → SameImprint asked.imprint t.stamp.imprint → HasNonce asked t.stamp → HasPolicy asked t.stamp
+    → HasWhatIsAsked asked t → Answering asked answer
+answering asked answer t grants holds is_stamp imprint nonce policy certificate = record {
+  granted = grants;
+  octets = octets_of t.signed;
+  holds = holds;
+  token = t;
+  is_stamp = is_stamp;
+  imprint = imprint;
+  nonce = nonce;
+  policy = policy;
+  certificate = certificate;
+}
+
 pub answering_rows : AnsweringRows
 answering_rows = record {
-  plainly = record {
-    granted = inl refl;
-    octets = octets_of (token None naming);
-    holds = refl;
-    token = token_of None naming;
-    is_stamp = is_stamp None naming tokens.alone;
-    imprint = record { algorithm = refl; digest = refl };
-    nonce = tt;
-    policy = tt;
-    certificate = λ e. absurd (unasked e);
-  };
-  with_mods = record {
-    granted = inr refl;
-    octets = octets_of (token None naming);
-    holds = refl;
-    token = token_of None naming;
-    is_stamp = is_stamp None naming tokens.alone;
-    imprint = record { algorithm = refl; digest = refl };
-    nonce = tt;
-    policy = tt;
-    certificate = λ e. absurd (unasked e);
-  };
-  spelled_false = record {
-    granted = inl refl;
-    octets = octets_of (token None naming);
-    holds = refl;
-    token = token_of None naming;
-    is_stamp = is_stamp None naming tokens.alone;
-    imprint = record { algorithm = refl; digest = refl };
-    nonce = tt;
-    policy = tt;
-    certificate = λ e. absurd (unasked_too e);
-  };
-  same_policy = record {
-    granted = inl refl;
-    octets = octets_of (token None naming);
-    holds = refl;
-    token = token_of None naming;
-    is_stamp = is_stamp None naming tokens.alone;
-    imprint = record { algorithm = refl; digest = refl };
-    nonce = tt;
-    policy = refl;
-    certificate = λ e. absurd (unasked e);
-  };
-  no_parameters = record {
-    granted = inl refl;
-    octets = octets_of (token None naming);
-    holds = refl;
-    token = token_of None naming;
-    is_stamp = is_stamp None naming tokens.alone;
-    imprint = record { algorithm = refl; digest = refl };
-    nonce = tt;
-    policy = tt;
-    certificate = λ e. absurd (unasked e);
-  };
-  same_nonce = record {
-    granted = inl refl;
-    octets = octets_of with_nonce;
-    holds = refl;
-    token = nonce_token;
-    is_stamp = is_nonce;
-    imprint = record { algorithm = refl; digest = refl };
-    nonce = refl;
-    policy = tt;
-    certificate = λ e. absurd (unasked e);
-  };
-  nonce_unasked = record {
-    granted = inl refl;
-    octets = octets_of with_nonce;
-    holds = refl;
-    token = nonce_token;
-    is_stamp = is_nonce;
-    imprint = record { algorithm = refl; digest = refl };
-    nonce = tt;
-    policy = tt;
-    certificate = λ e. absurd (unasked e);
-  };
-  certificate = record {
-    granted = inl refl;
-    octets = octets_of (token (Some (stamping_certificate ∷ [])) naming);
-    holds = refl;
-    token = token_of (Some (stamping_certificate ∷ [])) naming;
-    is_stamp = is_stamp (Some (stamping_certificate ∷ [])) naming tokens.certificate;
-    imprint = record { algorithm = refl; digest = refl };
-    nonce = tt;
-    policy = tt;
-    certificate = λ e. has (stamping_certificate ∷ []) (any_first (IsNamed attributes) stamping_certificate [] named);
-  };
-  behind_another = record {
-    granted = inl refl;
-    octets = octets_of (token (Some (unreadable ∷ stamping_certificate ∷ [])) naming);
-    holds = refl;
-    token = token_of (Some (unreadable ∷ stamping_certificate ∷ [])) naming;
-    is_stamp = is_stamp (Some (unreadable ∷ stamping_certificate ∷ [])) naming tokens.behind_another;
-    imprint = record { algorithm = refl; digest = refl };
-    nonce = tt;
-    policy = tt;
-    certificate = λ e. has (unreadable ∷ stamping_certificate ∷ [])
-        (any_behind (IsNamed attributes) unreadable (stamping_certificate ∷ [])
-        (any_first (IsNamed attributes) stamping_certificate [] named));
-  };
+  plainly = answering _ _ (token_of None naming) (inl refl) refl (is_stamp None naming tokens.alone)
+      (record { algorithm = refl; digest = refl }) tt tt (λ e. absurd (unasked e));
+  with_mods = answering _ _ (token_of None naming) (inr refl) refl (is_stamp None naming tokens.alone)
+      (record { algorithm = refl; digest = refl }) tt tt (λ e. absurd (unasked e));
+  spelled_false = answering _ _ (token_of None naming) (inl refl) refl (is_stamp None naming tokens.alone)
+      (record { algorithm = refl; digest = refl }) tt tt (λ e. absurd (unasked_too e));
+  same_policy = answering _ _ (token_of None naming) (inl refl) refl (is_stamp None naming tokens.alone)
+      (record { algorithm = refl; digest = refl }) tt refl (λ e. absurd (unasked e));
+  no_parameters = answering _ _ (token_of None naming) (inl refl) refl (is_stamp None naming tokens.alone)
+      (record { algorithm = refl; digest = refl }) tt tt (λ e. absurd (unasked e));
+  same_nonce = answering _ _ nonce_token (inl refl) refl is_nonce
+      (record { algorithm = refl; digest = refl }) refl tt (λ e. absurd (unasked e));
+  nonce_unasked = answering _ _ nonce_token (inl refl) refl is_nonce
+      (record { algorithm = refl; digest = refl }) tt tt (λ e. absurd (unasked e));
+  certificate = answering _ _ (token_of (Some (stamping_certificate ∷ [])) naming) (inl refl) refl
+      (is_stamp (Some (stamping_certificate ∷ [])) naming tokens.certificate)
+      (record { algorithm = refl; digest = refl }) tt tt
+      (λ e. has (stamping_certificate ∷ []) (any_first (IsNamed attributes) stamping_certificate [] named));
+  behind_another = answering _ _ (token_of (Some (unreadable ∷ stamping_certificate ∷ [])) naming) (inl refl) refl
+      (is_stamp (Some (unreadable ∷ stamping_certificate ∷ [])) naming tokens.behind_another)
+      (record { algorithm = refl; digest = refl }) tt tt
+      (λ e. has (unreadable ∷ stamping_certificate ∷ [])
+      (any_behind (IsNamed attributes) unreadable (stamping_certificate ∷ [])
+      (any_first (IsNamed attributes) stamping_certificate [] named)));
 }
 
 -- ---- responses that don't

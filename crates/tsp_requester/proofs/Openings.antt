@@ -7,7 +7,7 @@ use Rattle.der_core.specs.Values.{HasLength}
 use Rattle.tsp_requester.specs.declared.opening.Opening.{Opening}
 use Rattle.tsp_requester.specs.Pieces.{PiecesValue, opening_octets, openings_octets, attribute_inside, unsigned_inside}
 use Rattle.tsp_requester.specs.Pieces.{signer_inside, signers_inside}
-use Rattle.tsp_requester.specs.Pieces.{data_inside, file_of}
+use Rattle.tsp_requester.specs.Pieces.{data_inside, file_of, stamp_id, data_id}
 
 -- ---- lengths
 
@@ -44,7 +44,7 @@ abbrev Begins : Opening → List ℕ → List ℕ → Type 0
 Begins o inner whole = whole ≡ opening_octets o ++ inner
 
 module _ (p : PiecesValue) (token : List ℕ) where
-  pub inner_signer : (o4 o3 o2 o1 : Opening) → Begins o1 token (el 0x31 token)
+  inner_signer : (o4 o3 o2 o1 : Opening) → Begins o1 token (el 0x31 token)
       → Begins o2 (el 0x31 token) (el 0x30 (attribute_inside token))
       → Begins o3 (el 0x30 (attribute_inside token)) (el 0xa1 (unsigned_inside p token))
       → Begins o4 (el 0xa1 (unsigned_inside p token)) (el 0x30 (signer_inside p token))
@@ -59,7 +59,7 @@ module _ (p : PiecesValue) (token : List ℕ) where
       up_behind (opening_octets o4) (openings_octets (o3 ∷ o2 ∷ o1 ∷ [])) t (el 0x30 (signer_inside p token))
       (el 0xa1 (unsigned_inside p token)) p.behind e4 f3
 
-  pub whole_file : (o8 o7 o6 o5 : Opening) (os : List Opening)
+  whole_file : (o8 o7 o6 o5 : Opening) (os : List Opening)
       → el 0x30 (signer_inside p token) ++ p.behind ≡ openings_octets os ++ (token ++ p.behind)
       → Begins o5 (el 0x30 (signer_inside p token) ++ p.behind) (el 0x31 (signers_inside p token))
       → Begins o6 (el 0x31 (signers_inside p token)) (el 0x30 (data_inside p token))
@@ -76,3 +76,57 @@ module _ (p : PiecesValue) (token : List ℕ) where
       (el 0x30 (data_inside p token)) e7 f6 in
       sym (up (opening_octets o8) (openings_octets (o7 ∷ o6 ∷ o5 ∷ os)) t (file_of p token)
       (el 0xa0 (el 0x30 (data_inside p token))) e8 f7)
+
+-- ---- how long each is, from the inside
+
+-- this is how an element with this tag begins, whose contents these octets and so many others are
+abbrev pub Opens : Opening → (tag : ℕ) → (front : List ℕ) → (inside : ℕ) → Type 0
+Opens o tag front inside = (inner : List ℕ) → length inner ≡ inside
+    → Begins o inner (el tag (front ++ inner)) × (length (el tag (front ++ inner)) ≡ o.size)
+
+module _ (p : PiecesValue) (token : List ℕ) (o1 : Opening) (h1 : Opens o1 0x31 [] (length token)) where
+  pub opened_1 : Begins o1 token (el 0x31 token) × (length (el 0x31 token) ≡ o1.size)
+  opened_1 = h1 token refl
+
+  module _ (o2 : Opening) (h2 : Opens o2 0x30 stamp_id o1.size) where
+    pub opened_2 : Begins o2 (el 0x31 token) (el 0x30 (attribute_inside token))
+        × (length (el 0x30 (attribute_inside token)) ≡ o2.size)
+    opened_2 = h2 (el 0x31 token) opened_1.1
+
+    module _ (o3 : Opening) (h3 : Opens o3 0xa1 p.unsigned o2.size) where
+      pub opened_3 : Begins o3 (el 0x30 (attribute_inside token)) (el 0xa1 (unsigned_inside p token))
+          × (length (el 0xa1 (unsigned_inside p token)) ≡ o3.size)
+      opened_3 = h3 (el 0x30 (attribute_inside token)) opened_2.1
+
+      module _ (o4 : Opening) (h4 : Opens o4 0x30 p.signer_front o3.size) where
+        pub opened_4 : Begins o4 (el 0xa1 (unsigned_inside p token)) (el 0x30 (signer_inside p token))
+            × (length (el 0x30 (signer_inside p token)) ≡ o4.size)
+        opened_4 = h4 (el 0xa1 (unsigned_inside p token)) opened_3.1
+
+        module _ (o5 : Opening) (h5 : Opens o5 0x31 p.before (o4.size + length p.behind)) where
+          pub opened_5 : Begins o5 (el 0x30 (signer_inside p token) ++ p.behind) (el 0x31 (signers_inside p token))
+              × (length (el 0x31 (signers_inside p token)) ≡ o5.size)
+          opened_5 = h5 (el 0x30 (signer_inside p token) ++ p.behind)
+              (behind_length (el 0x30 (signer_inside p token)) p.behind o4.size opened_4.1)
+
+          module _ (o6 : Opening) (h6 : Opens o6 0x30 p.data_front o5.size) where
+            pub opened_6 : Begins o6 (el 0x31 (signers_inside p token)) (el 0x30 (data_inside p token))
+                × (length (el 0x30 (data_inside p token)) ≡ o6.size)
+            opened_6 = h6 (el 0x31 (signers_inside p token)) opened_5.1
+
+            module _ (o7 : Opening) (h7 : Opens o7 0xa0 [] o6.size) where
+              pub opened_7 : Begins o7 (el 0x30 (data_inside p token)) (el 0xa0 (el 0x30 (data_inside p token)))
+                  × (length (el 0xa0 (el 0x30 (data_inside p token))) ≡ o7.size)
+              opened_7 = h7 (el 0x30 (data_inside p token)) opened_6.1
+
+              module _ (o8 : Opening) (h8 : Opens o8 0x30 data_id o7.size) where
+                pub opened_8 : Begins o8 (el 0xa0 (el 0x30 (data_inside p token))) (file_of p token)
+                    × (length (file_of p token) ≡ o8.size)
+                opened_8 = h8 (el 0xa0 (el 0x30 (data_inside p token))) opened_7.1
+
+                -- they are the file's
+                pub opens_file : openings_octets (o8 ∷ o7 ∷ o6 ∷ o5 ∷ o4 ∷ o3 ∷ o2 ∷ o1 ∷ []) ++ (token ++ p.behind)
+                    ≡ file_of p token
+                opens_file = whole_file p token o8 o7 o6 o5 (o4 ∷ o3 ∷ o2 ∷ o1 ∷ [])
+                    (inner_signer p token o4 o3 o2 o1 opened_1.0 opened_2.0 opened_3.0 opened_4.0)
+                    opened_5.0 opened_6.0 opened_7.0 opened_8.0

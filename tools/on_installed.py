@@ -21,10 +21,12 @@ import contextlib
 import importlib
 import os
 import re
+import shutil
 import signal
 import subprocess
 import sys
 import tempfile
+import time
 import unittest
 from collections import Counter
 from pathlib import Path
@@ -71,6 +73,12 @@ def install(folder: Path, anew: bool) -> Path:
 # ---- the tests, in a process of their own
 
 
+def around() -> tuple[object, ...]:
+    """What a test may change for those behind it: the environment, the folder, and what tests replace in modules."""
+    modules = [vars(one) for one in (os, re, shutil, subprocess, time)]
+    return dict(os.environ), os.getcwd(), *({name: it for name, it in one.items() if callable(it)} for one in modules)
+
+
 class Result(unittest.TextTestResult):
     """What became of the tests, with the reason for each one that was left out."""
 
@@ -81,7 +89,14 @@ class Result(unittest.TextTestResult):
     def startTestRun(self):
         """Begins with no module of the repository."""
         super().startTestRun()
-        self.strangers = strangers()
+        self.strangers, self.around = strangers(), around()
+
+    def stopTest(self, test):
+        """Fails a test that leaves something else around it than it found."""
+        if (left := around()) != self.around:
+            self.around = left
+            self.failures.append((test, "it leaves another environment or folder, or something replaced in a module"))
+        super().stopTest(test)
 
     def addSkip(self, test, reason):
         """A test that is left out, or, where its class could not be set up, all tests of that class."""

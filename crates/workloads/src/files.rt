@@ -1,11 +1,11 @@
 //! Small files of several kinds, one after another.
 
 use crate::bad::Bad;
+use crate::job::Job;
 use crate::making::{Content, make};
 use crate::numbers::Numbers;
-use crate::parts::{Parts, Template};
+use crate::parts::Template;
 use digests::{Digest, digest};
-use std::alloc::Global;
 
 /// How many octets a small file's content has.
 const SIZE: usize = 3_000;
@@ -40,38 +40,32 @@ fn content_at(contents: &[u8], number: usize) -> &[u8] {
 }
 
 impl<'a> Files<'a> {
-    /// Files that follow from this number: with an RSA signer, an ECDSA signer, one of each, and with a signer that
-    /// names another digest than the file lists.
-    pub(crate) fn new(alloc: Global, parts: &'a Parts, seed: u64) -> Result<Files<'a>, Bad> {
-        let mut numbers = Numbers::new(seed);
-        let mut contents = vec![in alloc; 0; SIZE * CONTENTS]?;
+    /// The files of a job: with an RSA signer, an ECDSA signer, one of each, and with a signer that names another
+    /// digest than the file lists.
+    pub(crate) fn new(job: &Job<'a>) -> Result<Files<'a>, Bad> {
+        let mut numbers = Numbers::new(job.seed);
+        let mut contents = vec![in job.alloc; 0; SIZE * CONTENTS]?;
         numbers.fill(contents.as_mut_slice());
         let mut files = Files {
             numbers,
             contents,
-            kinds: Vec::new(alloc),
+            kinds: Vec::new(job.alloc),
         };
-        files.add_kind(alloc, parts, "rsa", 1)?;
-        files.add_kind(alloc, parts, "ecdsa", 1)?;
-        files.add_kind(alloc, parts, "rsa", 1)?;
-        files.add_kind(alloc, parts, "two", 2)?;
-        files.add_kind(alloc, parts, "ecdsa", 1)?;
-        files.add_kind(alloc, parts, "rsa", 1)?;
-        files.add_kind(alloc, parts, "two", 2)?;
-        files.add_kind(alloc, parts, "other", 1)?;
+        files.add_kind(job, "rsa", 1)?;
+        files.add_kind(job, "ecdsa", 1)?;
+        files.add_kind(job, "rsa", 1)?;
+        files.add_kind(job, "two", 2)?;
+        files.add_kind(job, "ecdsa", 1)?;
+        files.add_kind(job, "rsa", 1)?;
+        files.add_kind(job, "two", 2)?;
+        files.add_kind(job, "other", 1)?;
         Ok(files)
     }
 
     // One more kind.
-    fn add_kind(
-        &mut self,
-        alloc: Global,
-        parts: &'a Parts,
-        name: &str,
-        signers: usize,
-    ) -> Result<(), Bad> {
-        let template = parts.template(name)?;
-        let mut digests = Vec::new(alloc);
+    fn add_kind(&mut self, job: &Job<'a>, name: &str, signers: usize) -> Result<(), Bad> {
+        let template = job.parts.template(name)?;
+        let mut digests = Vec::new(job.alloc);
         for number in 0..CONTENTS {
             digests.push(digest(template.alg, content_at(self.contents.as_slice(), number)))?;
         }

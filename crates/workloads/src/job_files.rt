@@ -3,30 +3,22 @@
 
 use crate::bad::Bad;
 use crate::files::Files;
-use crate::lists::{list_text, trust_of};
+use crate::job::Job;
+use crate::lists::trust_of;
 use crate::numbers::Numbers;
-use crate::parts::Parts;
 use crate::results::Results;
 use crate::trusting::{Always, POLICY, stream_verdict, take_verdict};
 use cmsproof_api::{Slice, check};
-use std::alloc::Global;
 
 /// How many octets of a small file are kept at most.
 const ROOM: usize = 16_384;
 
-pub(crate) fn run(
-    alloc: Global,
-    parts: &Parts,
-    count: usize,
-    seed: u64,
-    results: &mut Results,
-) -> Result<(), Bad> {
-    let mut numbers = Numbers::new(seed ^ 1);
-    let trust = trust_of(alloc, list_text(alloc, parts, 46, &mut numbers)?.as_slice())?;
-    let mut files = Files::new(alloc, parts, seed)?;
-    let mut file = Vec::new(alloc);
-    let mut buffer = vec![in alloc; 0; ROOM]?;
-    for number in 0..count {
+pub(crate) fn run(job: &Job<'_>, results: &mut Results) -> Result<(), Bad> {
+    let trust = trust_of(job, 46, &mut Numbers::new(job.seed ^ 1))?;
+    let mut files = Files::new(job)?;
+    let mut file = Vec::new(job.alloc);
+    let mut buffer = vec![in job.alloc; 0; ROOM]?;
+    for number in 0..job.count {
         files.make(number, &mut file)?;
         // one in sixteen files ends with another octet than it must
         if number % 16 == 15 {
@@ -38,7 +30,7 @@ pub(crate) fn run(
             let mut none: Option<Slice> = None;
             check(file.as_slice(), &mut none, &trust, &POLICY, &mut Always)
         };
-        take_verdict(alloc, &verdict, results)?;
+        take_verdict(job.alloc, &verdict, results)?;
     }
     Ok(())
 }

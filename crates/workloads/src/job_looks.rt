@@ -3,42 +3,37 @@
 
 use crate::bad::{Bad, needed};
 use crate::files::Files;
-use crate::making::{Content, make};
+use crate::job::Job;
+use crate::making::made;
 use crate::numbers::Numbers;
-use crate::parts::Parts;
 use crate::results::Results;
 use crate::trusting::POLICY;
 use cmsproof_api::{FromWrite, Slice, attach, compare, fits};
-use digests::digest;
 use lines_shown::show_signed;
 use std::alloc::Global;
 
-pub(crate) fn run(
-    alloc: Global,
-    parts: &Parts,
-    count: usize,
-    seed: u64,
-    results: &mut Results,
-) -> Result<(), Bad> {
-    let mut files = Files::new(alloc, parts, seed)?;
-    let mut numbers = Numbers::new(seed ^ 6);
-    let mut before = Vec::new(alloc);
-    let mut file = Vec::new(alloc);
+pub(crate) fn run(job: &Job<'_>, results: &mut Results) -> Result<(), Bad> {
+    let mut files = Files::new(job)?;
+    let mut numbers = Numbers::new(job.seed ^ 6);
+    let mut before = Vec::new(job.alloc);
+    let mut file = Vec::new(job.alloc);
     files.make(0, &mut before)?;
-    for number in 0..count {
+    for number in 0..job.count {
         files.make(number, &mut file)?;
-        look(alloc, file.as_slice(), results)?;
+        look(job.alloc, file.as_slice(), results)?;
         if let Ok(compared) = compare(before.as_slice(), 1, file.as_slice(), 1) {
             results.take_number(compared as u64);
         }
         if number % 100 == 0 {
-            look_at_many(alloc, parts, &mut numbers, results)?;
+            // the same of a file of a hundred signers
+            let (many, _) = made(job, "many_ecdsa", 3_000, 100, &mut numbers)?;
+            look(job.alloc, many.as_slice(), results)?;
         }
         let spare = before;
         before = file;
         file = spare;
     }
-    attach_tokens(alloc, parts, results)
+    attach_tokens(job, results)
 }
 
 // Shows a file, and says how many of its signers fit.
@@ -55,32 +50,13 @@ fn look(alloc: Global, file: &[u8], results: &mut Results) -> Result<(), Bad> {
     Ok(())
 }
 
-// The same of a file of a hundred signers.
-fn look_at_many(
-    alloc: Global,
-    parts: &Parts,
-    numbers: &mut Numbers,
-    results: &mut Results,
-) -> Result<(), Bad> {
-    let template = parts.template("many_ecdsa")?;
-    let mut octets = [0; 3_000];
-    numbers.fill(&mut octets);
-    let content = Content {
-        octets: &octets,
-        digest: digest(template.alg, &octets),
-    };
-    let mut file = Vec::new(alloc);
-    make(template, &content, 100, numbers, &mut file)?;
-    look(alloc, file.as_slice(), results)
-}
-
 // Adds one token after another to a file.
-fn attach_tokens(alloc: Global, parts: &Parts, results: &mut Results) -> Result<(), Bad> {
-    let mut file = Vec::new(alloc);
-    file.extend_from_slice(parts.unstamped.as_slice())?;
+fn attach_tokens(job: &Job<'_>, results: &mut Results) -> Result<(), Bad> {
+    let mut file = Vec::new(job.alloc);
+    file.extend_from_slice(job.parts.unstamped.as_slice())?;
     for _ in 0..20 {
-        let mut sink = FromWrite::new(Vec::new(alloc));
-        let attached = attach(file.as_slice(), 1, parts.token.as_slice(), &mut sink);
+        let mut sink = FromWrite::new(Vec::new(job.alloc));
+        let attached = attach(file.as_slice(), 1, job.parts.token.as_slice(), &mut sink);
         needed(attached, "a token that can't be attached")?;
         file = sink.into_inner();
         results.take(file.as_slice());

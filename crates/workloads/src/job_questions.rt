@@ -2,9 +2,9 @@
 
 use crate::bad::{Bad, needed};
 use crate::files::Files;
-use crate::lists::{list_text, trust_of};
+use crate::job::Job;
+use crate::lists::trust_of;
 use crate::numbers::Numbers;
-use crate::parts::Parts;
 use crate::results::Results;
 use crate::trusting::{POLICY, take_verdict};
 use cmsproof_api::{Answers, FromWrite, Pass, Slice, Trust, check, questions_stream};
@@ -19,18 +19,11 @@ const ROOM: usize = 16_384;
 /// The first line of an answers list.
 const HEADING: &[u8] = b"cmsproof answers 1\n";
 
-pub(crate) fn run(
-    alloc: Global,
-    parts: &Parts,
-    count: usize,
-    seed: u64,
-    results: &mut Results,
-) -> Result<(), Bad> {
-    let mut numbers = Numbers::new(seed ^ 2);
-    let trust = trust_of(alloc, list_text(alloc, parts, 46, &mut numbers)?.as_slice())?;
-    let mut files = Files::new(alloc, parts, seed)?;
-    for batch in 0..count / BATCH {
-        run_batch(alloc, &trust, &mut files, batch, results)?;
+pub(crate) fn run(job: &Job<'_>, results: &mut Results) -> Result<(), Bad> {
+    let trust = trust_of(job, 46, &mut Numbers::new(job.seed ^ 2))?;
+    let mut files = Files::new(job)?;
+    for batch in 0..job.count / BATCH {
+        run_batch(job.alloc, &trust, &mut files, batch, results)?;
     }
     Ok(())
 }

@@ -1,10 +1,10 @@
-//! Texts of trust lists.
+//! Trust lists.
 
 use crate::bad::{Bad, needed};
+use crate::job::Job;
 use crate::numbers::Numbers;
-use crate::parts::{EntryLine, Parts};
+use crate::parts::EntryLine;
 use cmsproof_api::Trust;
-use std::alloc::Global;
 
 /// The first line of a trust list.
 const HEADING: &[u8] = b"cmsproof trust 1\n";
@@ -25,45 +25,41 @@ fn add_other(entry: &EntryLine, numbers: &mut Numbers, text: &mut Vec<u8>) -> Re
     Ok(())
 }
 
-/// The text of a list: so many entries that no file needs, and then those that files need.
-pub(crate) fn list_text(
-    alloc: Global,
-    parts: &Parts,
-    others: usize,
-    numbers: &mut Numbers,
-) -> Result<Vec<u8>, Bad> {
-    let entries = parts.entries.as_slice();
+/// A list: so many entries that no file needs, and then those that files need.
+pub(crate) fn trust_of(job: &Job<'_>, others: usize, numbers: &mut Numbers) -> Result<Trust, Bad> {
+    let entries = job.parts.entries.as_slice();
     if entries.is_empty() {
         return Err(Bad::Text("no entries"));
     }
-    let mut text = Vec::new(alloc);
+    let mut text = Vec::new(job.alloc);
     text.extend_from_slice(HEADING)?;
     for number in 0..others {
         add_other(&entries[number % entries.len()], numbers, &mut text)?;
     }
-    add_needed(entries, &mut text)?;
-    Ok(text)
+    with_needed(job, text)
 }
 
-// Adds the entries that files need.
-fn add_needed(entries: &[EntryLine], text: &mut Vec<u8>) -> Result<(), Bad> {
-    for entry in entries {
-        text.extend_from_slice(entry.line.as_slice())?;
-    }
-    Ok(())
-}
-
-/// The text of a list in which each certificate stands so often in the other role, and then once in its own.
-pub(crate) fn twisted_text(alloc: Global, parts: &Parts, often: usize) -> Result<Vec<u8>, Bad> {
-    let mut text = Vec::new(alloc);
+/// A list in which each certificate stands so often in the other role, and then once in its own.
+pub(crate) fn twisted_trust_of(job: &Job<'_>, often: usize) -> Result<Trust, Bad> {
+    let mut text = Vec::new(job.alloc);
     text.extend_from_slice(HEADING)?;
     for _ in 0..often {
-        for entry in parts.entries.as_slice() {
+        for entry in job.parts.entries.as_slice() {
             add_twisted(entry, &mut text)?;
         }
     }
-    add_needed(parts.entries.as_slice(), &mut text)?;
-    Ok(text)
+    with_needed(job, text)
+}
+
+// The list of a text to which the entries that files need are added.
+fn with_needed(job: &Job<'_>, mut text: Vec<u8>) -> Result<Trust, Bad> {
+    for entry in job.parts.entries.as_slice() {
+        text.extend_from_slice(entry.line.as_slice())?;
+    }
+    needed(
+        Trust::read(job.alloc, text.as_slice()),
+        "a trust list has a fault",
+    )
 }
 
 // Adds a certificate in the other role.
@@ -81,9 +77,4 @@ fn add_twisted(entry: &EntryLine, text: &mut Vec<u8>) -> Result<(), Bad> {
         _ => return Err(Bad::Text("an entry without a role")),
     }
     Ok(())
-}
-
-/// The list of a text.
-pub(crate) fn trust_of(alloc: Global, text: &[u8]) -> Result<Trust, Bad> {
-    needed(Trust::read(alloc, text), "a trust list has a fault")
 }

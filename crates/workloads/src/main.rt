@@ -8,6 +8,7 @@
 
 mod bad;
 mod files;
+mod job;
 mod job_contents;
 mod job_files;
 mod job_lists;
@@ -22,9 +23,9 @@ mod results;
 mod trusting;
 
 use bad::{Bad, needed};
+use job::Job;
 use parts::Parts;
 use results::Results;
-use std::alloc::Global;
 use std::rt::Files;
 use std::{env, fs, io};
 
@@ -50,32 +51,28 @@ fn words_read(words: &[String]) -> Option<Asked<'_>> {
     })
 }
 
-/// Does a job, of so many files or lists.
-fn done(alloc: Global, parts: &Parts, asked: &Asked<'_>, results: &mut Results) -> Result<(), Bad> {
-    match asked.job {
-        "files" => job_files::run(alloc, parts, asked.count, asked.seed, results),
-        "questions" => job_questions::run(alloc, parts, asked.count, asked.seed, results),
-        "lists" => job_lists::run(alloc, parts, asked.count, asked.seed, results),
-        "signers" => job_signers::run(alloc, parts, asked.count, asked.seed, results),
-        "contents" => job_contents::run(alloc, parts, asked.count, asked.seed, results),
-        "looks" => job_looks::run(alloc, parts, asked.count, asked.seed, results),
-        "all" => all_done(alloc, parts, asked, results),
+/// Does the job of this name.
+fn done(name: &str, job: &Job<'_>, results: &mut Results) -> Result<(), Bad> {
+    match name {
+        "files" => job_files::run(job, results),
+        "questions" => job_questions::run(job, results),
+        "lists" => job_lists::run(job, results),
+        "signers" => job_signers::run(job, results),
+        "contents" => job_contents::run(job, results),
+        "looks" => job_looks::run(job, results),
+        "all" => all_done(job, results),
         _ => Err(Bad::Text("a job that isn't known")),
     }
 }
 
 /// Does each job but that of large contents.
-fn all_done(
-    alloc: Global,
-    parts: &Parts,
-    asked: &Asked<'_>,
-    results: &mut Results,
-) -> Result<(), Bad> {
-    job_files::run(alloc, parts, asked.count, asked.seed, results)?;
-    job_questions::run(alloc, parts, asked.count, asked.seed, results)?;
-    job_lists::run(alloc, parts, 1, asked.seed, results)?;
-    job_signers::run(alloc, parts, 1, asked.seed, results)?;
-    job_looks::run(alloc, parts, asked.count, asked.seed, results)
+fn all_done(job: &Job<'_>, results: &mut Results) -> Result<(), Bad> {
+    let once = Job { count: 1, ..*job };
+    job_files::run(job, results)?;
+    job_questions::run(job, results)?;
+    job_lists::run(&once, results)?;
+    job_signers::run(&once, results)?;
+    job_looks::run(job, results)
 }
 
 /// Reads the parts, and does the job.
@@ -83,8 +80,14 @@ fn worked<R: Files + AllocGlobal>(rt: &R, words: &[String]) -> Result<Results, B
     let asked = words_read(words).ok_or(Bad::Text("not the words JOB COUNT PARTS SEED"))?;
     let text = needed(fs::read_to_string(rt, asked.parts), "no file of parts")?;
     let parts = Parts::read(rt.alloc(), text.as_str())?;
+    let job = Job {
+        alloc: rt.alloc(),
+        parts: &parts,
+        count: asked.count,
+        seed: asked.seed,
+    };
     let mut results = Results::new();
-    done(rt.alloc(), &parts, &asked, &mut results)?;
+    done(asked.job, &job, &mut results)?;
     Ok(results)
 }
 

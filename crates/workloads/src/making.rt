@@ -1,6 +1,7 @@
 //! Signed files, made of a template.
 
 use crate::bad::Bad;
+use crate::job::Job;
 use crate::numbers::Numbers;
 use crate::parts::{Piece, Step, Template};
 use digests::{Alg, Digest, digest};
@@ -124,4 +125,24 @@ pub(crate) fn make(
         content_end,
         content_end,
     )
+}
+
+/// A file by the template of this name, of so many signers, over a content of `size` octets, and the content's digest.
+pub(crate) fn made(
+    job: &Job<'_>,
+    name: &str,
+    size: usize,
+    signers: usize,
+    numbers: &mut Numbers,
+) -> Result<(Vec<u8>, Digest), Bad> {
+    let template = job.parts.template(name)?;
+    let mut octets = vec![in job.alloc; 0; size]?;
+    numbers.fill(octets.as_mut_slice());
+    let content = Content {
+        octets: octets.as_slice(),
+        digest: digest(template.alg, octets.as_slice()),
+    };
+    let mut file = Vec::new(job.alloc);
+    make(template, &content, signers, numbers, &mut file)?;
+    Ok((file, content.digest))
 }

@@ -12,6 +12,7 @@ use std::rt::Files;
 ///
 /// The token's file is opened and read first, then the other one, before either is judged. The new file is made only if
 /// the token can be attached (decision 125 of `docs/DECISIONS.md`). It may replace the file, but not the token's.
+#[inline(never)]
 pub fn attach<'a, R: Files + AllocGlobal>(
     rt: &R,
     words: &AttachWords<'a>,

@@ -1,5 +1,4 @@
 ghost use Rattle.std.specs.Prelude.{◌⊎◌, IfErr, IfOk};
-ghost use Rattle.std.specs.String.{string_bytes};
 ghost use Rattle.cli_commands.specs.Comparing.{IsSameLine, LacksMemoryToTell, ShowsSame, ShowsUnlike, TellsUnlike};
 
 use cli_failures::{Failure, files};
@@ -15,8 +14,8 @@ use std::rt::Files;
 pub fn compare<'a, R: Files + AllocGlobal>(
     rt: &R,
     words: &CompareWords<'a>,
-) -> Result<String, Failure<'a>>
-    ensures same { IfOk result (λ text. ShowsSame R.File.remaining words.now (string_bytes text)) }
+) -> Result<Vec<u8>, Failure<'a>>
+    ensures same { IfOk result (λ text. ShowsSame R.File.remaining words.now text.items) }
     ensures unlike { IfErr result (ShowsUnlike R.File.remaining words.now) }
 {
     let first = files::read_whole(rt, words.first_file)?;
@@ -37,13 +36,13 @@ fn text_of<'a>(
     first_signer: u64,
     second: &[u8],
     second_signer: u64,
-) -> Result<String, Failure<'a>>
-    ensures same { IfOk result (λ t. IsSameLine first.now first_signer second.now second_signer (string_bytes t)) }
+) -> Result<Vec<u8>, Failure<'a>>
+    ensures same { IfOk result (λ t. IsSameLine first.now first_signer second.now second_signer t.items) }
     ensures unlike { IfErr result (λ f. LacksMemoryToTell first.now first_signer second.now second_signer f
         ⊎ TellsUnlike first.now first_signer second.now second_signer f) }
 {
     match cmsproof_api::compare(first, first_signer, second, second_signer) {
-        Ok(Compared::Same) => Ok(String::from_str(alloc, "same\n")?),
+        Ok(Compared::Same) => Ok(String::from_str(alloc, "same\n")?.into_bytes()),
         Ok(Compared::Different) => Err(Failure::Different),
         Ok(Compared::Collision) => Err(Failure::Collision),
         Err(fault) => Err(Failure::Uncompared(fault)),

@@ -1,5 +1,4 @@
 ghost use Rattle.std.specs.Prelude.{ℕ, Result, MatchResult, IfErr, IfOk};
-ghost use Rattle.std.specs.String.{string_bytes};
 ghost use Rattle.cms_types.specs.SignedDataValue.{SignedDataValue};
 ghost use Rattle.cms_types.specs.declared.fault.CmsFault.{CmsFault};
 ghost use Rattle.check_fit.specs.declared.rules.Refused.{Refused};
@@ -17,8 +16,8 @@ use std::rt::Files;
 /// The content's file is opened first, then the other one is opened and read, and the content is read last, in pieces
 /// (decision 90 of `docs/DECISIONS.md`).
 #[inline(never)]
-pub fn fit<'a, R: Files + AllocGlobal>(rt: &R, words: &FitWords<'a>) -> Result<String, Failure<'a>>
-    ensures fits { IfOk result (λ text. ShowsFit R.File.remaining words.now (string_bytes text)) }
+pub fn fit<'a, R: Files + AllocGlobal>(rt: &R, words: &FitWords<'a>) -> Result<Vec<u8>, Failure<'a>>
+    ensures fits { IfOk result (λ text. ShowsFit R.File.remaining words.now text.items) }
     ensures refused { IfErr result (ShowsUnfit R.File.remaining words.now) }
 {
     let mut content = files::content_of(rt, words.content)?;
@@ -33,13 +32,13 @@ fn text_of<'a, S: Source>(
     file: &[u8],
     content: &mut Option<S>,
     policy: &Policy,
-) -> Result<String, Failure<'a>>
+) -> Result<Vec<u8>, Failure<'a>>
     ensures { (verdict : Result ℕ Refused) × (reading : Result SignedDataValue CmsFault) × IsReading file.now reading
         × FitsFile (facts_of S.tells S.rest S.failures) policy.now reading content.old content.new verdict
-        × MatchResult result (λ text. TellsFits verdict (string_bytes text)) (TellsUnfit verdict) }
+        × MatchResult result (λ text. TellsFits verdict text.items) (TellsUnfit verdict) }
 {
     match fits(file, content, policy) {
-        Ok(count) => Ok(format!(in alloc; "fits {count}\n")?),
+        Ok(count) => Ok(format!(in alloc; "fits {count}\n")?.into_bytes()),
         Err(refused) => Err(Failure::Refused(refused)),
     }
 }

@@ -1,6 +1,5 @@
 ghost use Rattle.std.specs.Prelude.{◌≡◌, ◌⊎◌, ℕ, List, Some, IfErr, IfOk, OnOk};
 ghost use Rattle.std.specs.Borrow.{Bor};
-ghost use Rattle.std.specs.String.{string_bytes};
 ghost use Rattle.cli_failures.specs.Failures.{failure_of_message};
 ghost use Rattle.cli_commands.specs.Matching.{Answers, ShowsAnswer, AnswersNot, IsFailureToTake, IsTokenApart};
 ghost use Rattle.cli_commands.specs.Matching.{RefusesToken, ShowsNoAnswer, IsWritten, IsTokenWritten};
@@ -15,11 +14,12 @@ use std::rt::Files;
 ///
 /// A token's file that is one of the two is refused. Then the request's file is opened and read, then the response's,
 /// before either is judged (decision 104 of `docs/DECISIONS.md`).
+#[inline(never)]
 pub fn matched<'a, R: Files + AllocGlobal>(
     rt: &R,
     words: &MatchWords<'a>,
-) -> Result<String, Failure<'a>>
-    ensures answers { IfOk result (λ text. ShowsAnswer R.File.remaining (string_bytes text)) }
+) -> Result<Vec<u8>, Failure<'a>>
+    ensures answers { IfOk result (λ text. ShowsAnswer R.File.remaining text.items) }
     ensures refused { IfErr result (ShowsNoAnswer R.File.remaining words.now) }
     // A file that was opened took the token, if it is known what such a file holds.
     ensures written { (path : Bor (List ℕ)) → words.now.token ≡ Some path
@@ -32,7 +32,7 @@ pub fn matched<'a, R: Files + AllocGlobal>(
     let token = token_of(request.as_slice(), response.as_slice())?;
     let line = String::from_str(rt.alloc(), "answers\n")?;
     take(rt, words.token, token)?;
-    Ok(line)
+    Ok(line.into_bytes())
 }
 
 /// Refuses a file that should take the token and is the request's or the response's.

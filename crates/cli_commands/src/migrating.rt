@@ -14,6 +14,7 @@ use std::rt::Files;
 ///
 /// That file is made only if the list is good (decision 113 of `docs/DECISIONS.md`), and is refused if it is the
 /// list's.
+#[inline(never)]
 pub fn migrate<'a, R: Files + AllocGlobal>(
     rt: &R,
     words: &MigrateWords<'a>,

@@ -23,6 +23,7 @@ use trust_lists::Digits;
 
 /// Makes a request of these values, and then the file that it goes into, which is refused if it is the one of the
 /// signature.
+#[inline(never)]
 pub fn make_file<'a, R: Files + AllocGlobal>(
     rt: &R,
     words: &RequestWords<'a>,

@@ -1,5 +1,5 @@
-ghost use Rattle.std.specs.Prelude.{IfErr, IfOk};
-ghost use Rattle.std.specs.String.{string_bytes};
+ghost use Rattle.std.specs.Prelude.{◌⊎◌, ℕ, List, IfErr, IfOk};
+ghost use Rattle.cli_failures.specs.Files.{IsFailureToRead, IsHeld};
 ghost use Rattle.lines_shown.specs.RequestLines.{ShowsRequest};
 ghost use Rattle.lines_shown.specs.ResponseLines.{ShowsResponse};
 ghost use Rattle.lines_shown.specs.TstLines.{ShowsTst};
@@ -8,66 +8,89 @@ ghost use Rattle.lines_shown.specs.SignedLines.{ShowsSigned};
 ghost use Rattle.cli_commands.specs.Showing.{ShowsNone, ShowsNoResponse, ShowsNoTst, ShowsNoCertificate};
 ghost use Rattle.cli_commands.specs.Showing.{ShowsNoSignedData};
 
-use cli_failures::Failure;
+use cli_failures::{Failure, files};
 use lines_shown::{show_certificate, show_request, show_response, show_signed, show_tst};
-use std::alloc::Global;
+use std::rt::Files;
 
-/// The lines that show the request that these octets encode.
+/// The lines that show the request in the file of this path.
+#[inline(never)]
 #[tactic(auto, using(crate::proofs::Shown::no_request))]
-pub fn request<'a>(alloc: Global, octets: &[u8]) -> Result<String, Failure<'a>>
-    ensures shown { IfOk result (λ text. ShowsRequest octets.now (string_bytes text)) }
-    ensures refused { IfErr result (ShowsNone octets.now) }
+pub fn request<'a, R: Files + AllocGlobal>(rt: &R, path: &'a str) -> Result<Vec<u8>, Failure<'a>>
+    ensures shown { IfOk result (λ text. (octets : List ℕ) × IsHeld R.File.remaining octets
+        × ShowsRequest octets text.items) }
+    ensures refused { IfErr result (λ f. IsFailureToRead path.entry f
+        ⊎ ((octets : List ℕ) × IsHeld R.File.remaining octets × ShowsNone octets f)) }
 {
-    match show_request::text_of(alloc, octets) {
-        Ok(text) => Ok(text),
+    let octets = files::read_whole(rt, path)?;
+    match show_request::text_of(rt.alloc(), octets.as_slice()) {
+        Ok(text) => Ok(text.into_bytes()),
         Err(fault) => Err(Failure::from(fault)),
     }
 }
 
-/// The lines that show the response that these octets encode.
+/// The lines that show the response in the file of this path.
+#[inline(never)]
 #[tactic(auto, using(crate::proofs::Shown::no_response))]
-pub fn response<'a>(alloc: Global, octets: &[u8]) -> Result<String, Failure<'a>>
-    ensures shown { IfOk result (λ text. ShowsResponse octets.now (string_bytes text)) }
-    ensures refused { IfErr result (ShowsNoResponse octets.now) }
+pub fn response<'a, R: Files + AllocGlobal>(rt: &R, path: &'a str) -> Result<Vec<u8>, Failure<'a>>
+    ensures shown { IfOk result (λ text. (octets : List ℕ) × IsHeld R.File.remaining octets
+        × ShowsResponse octets text.items) }
+    ensures refused { IfErr result (λ f. IsFailureToRead path.entry f
+        ⊎ ((octets : List ℕ) × IsHeld R.File.remaining octets × ShowsNoResponse octets f)) }
 {
-    match show_response::text_of(alloc, octets) {
-        Ok(text) => Ok(text),
+    let octets = files::read_whole(rt, path)?;
+    match show_response::text_of(rt.alloc(), octets.as_slice()) {
+        Ok(text) => Ok(text.into_bytes()),
         Err(fault) => Err(Failure::from(fault)),
     }
 }
 
-/// The lines that show the TSTInfo that these octets encode.
+/// The lines that show the TSTInfo in the file of this path.
+#[inline(never)]
 #[tactic(auto, using(crate::proofs::Shown::no_tst))]
-pub fn tst<'a>(alloc: Global, octets: &[u8]) -> Result<String, Failure<'a>>
-    ensures shown { IfOk result (λ text. ShowsTst octets.now (string_bytes text)) }
-    ensures refused { IfErr result (ShowsNoTst octets.now) }
+pub fn tst<'a, R: Files + AllocGlobal>(rt: &R, path: &'a str) -> Result<Vec<u8>, Failure<'a>>
+    ensures shown { IfOk result (λ text. (octets : List ℕ) × IsHeld R.File.remaining octets
+        × ShowsTst octets text.items) }
+    ensures refused { IfErr result (λ f. IsFailureToRead path.entry f
+        ⊎ ((octets : List ℕ) × IsHeld R.File.remaining octets × ShowsNoTst octets f)) }
 {
-    match show_tst::text_of(alloc, octets) {
-        Ok(text) => Ok(text),
+    let octets = files::read_whole(rt, path)?;
+    match show_tst::text_of(rt.alloc(), octets.as_slice()) {
+        Ok(text) => Ok(text.into_bytes()),
         Err(fault) => Err(Failure::from(fault)),
     }
 }
 
-/// The lines that show the certificate that these octets encode.
+/// The lines that show the certificate in the file of this path.
+#[inline(never)]
 #[tactic(auto, using(crate::proofs::Shown::no_certificate))]
-pub fn certificate<'a>(alloc: Global, octets: &[u8]) -> Result<String, Failure<'a>>
-    ensures shown { IfOk result (λ text. ShowsCertificate octets.now (string_bytes text)) }
-    ensures refused { IfErr result (ShowsNoCertificate octets.now) }
+pub fn certificate<'a, R: Files + AllocGlobal>(
+    rt: &R,
+    path: &'a str,
+) -> Result<Vec<u8>, Failure<'a>>
+    ensures shown { IfOk result (λ text. (octets : List ℕ) × IsHeld R.File.remaining octets
+        × ShowsCertificate octets text.items) }
+    ensures refused { IfErr result (λ f. IsFailureToRead path.entry f
+        ⊎ ((octets : List ℕ) × IsHeld R.File.remaining octets × ShowsNoCertificate octets f)) }
 {
-    match show_certificate::text_of(alloc, octets) {
-        Ok(text) => Ok(text),
+    let octets = files::read_whole(rt, path)?;
+    match show_certificate::text_of(rt.alloc(), octets.as_slice()) {
+        Ok(text) => Ok(text.into_bytes()),
         Err(fault) => Err(Failure::from(fault)),
     }
 }
 
-/// The lines that show the SignedData that these octets encode.
+/// The lines that show the SignedData in the file of this path.
+#[inline(never)]
 #[tactic(auto, using(crate::proofs::Shown::no_signed_data))]
-pub fn signed<'a>(alloc: Global, octets: &[u8]) -> Result<String, Failure<'a>>
-    ensures shown { IfOk result (λ text. ShowsSigned octets.now (string_bytes text)) }
-    ensures refused { IfErr result (ShowsNoSignedData octets.now) }
+pub fn signed<'a, R: Files + AllocGlobal>(rt: &R, path: &'a str) -> Result<Vec<u8>, Failure<'a>>
+    ensures shown { IfOk result (λ text. (octets : List ℕ) × IsHeld R.File.remaining octets
+        × ShowsSigned octets text.items) }
+    ensures refused { IfErr result (λ f. IsFailureToRead path.entry f
+        ⊎ ((octets : List ℕ) × IsHeld R.File.remaining octets × ShowsNoSignedData octets f)) }
 {
-    match show_signed::text_of(alloc, octets) {
-        Ok(text) => Ok(text),
+    let octets = files::read_whole(rt, path)?;
+    match show_signed::text_of(rt.alloc(), octets.as_slice()) {
+        Ok(text) => Ok(text.into_bytes()),
         Err(fault) => Err(Failure::from(fault)),
     }
 }

@@ -11,11 +11,11 @@ ghost use Rattle.cli_commands.specs.Requests.{IsRequestWritten};
 ghost use Rattle.cli_commands.specs.Tasks.{WritesApart, MakesText, MakesNoText};
 
 use crate::{attaching, checking, comparing, fit, matching, migrating, request, show};
-use cli_failures::{Failure, files};
+use cli_failures::Failure;
 use cli_tasks::TextTask;
 use std::rt::Files;
 
-/// Does a task, and returns what is to be printed of it.
+/// Does a task, and returns what is to be printed of it. Each command has its room on the stack apart from the others.
 pub fn text_of<'a, R: Files + AllocGlobal>(
     rt: &R,
     task: TextTask<'a>,
@@ -39,49 +39,26 @@ pub fn text_of<'a, R: Files + AllocGlobal>(
     // The failure is one of the task's.
     ensures failed { IfErr result (MakesNoText R.File.remaining task.entry) }
 {
-    match task {
+    match &task {
         TextTask::Request(words) => {
-            request::make_file(rt, &words)?;
+            request::make_file(rt, words)?;
             Ok(Vec::new(rt.alloc()))
         }
-        TextTask::ShowRequest(path) => {
-            let octets = files::read_whole(rt, path)?;
-            let text = show::request(rt.alloc(), octets.as_slice())?;
-            Ok(text.into_bytes())
-        }
-        TextTask::ShowResponse(path) => {
-            let octets = files::read_whole(rt, path)?;
-            let text = show::response(rt.alloc(), octets.as_slice())?;
-            Ok(text.into_bytes())
-        }
-        TextTask::ShowTst(path) => {
-            let octets = files::read_whole(rt, path)?;
-            let text = show::tst(rt.alloc(), octets.as_slice())?;
-            Ok(text.into_bytes())
-        }
-        TextTask::ShowSigned(path) => {
-            let octets = files::read_whole(rt, path)?;
-            let text = show::signed(rt.alloc(), octets.as_slice())?;
-            Ok(text.into_bytes())
-        }
-        TextTask::ShowCertificate(path) => {
-            let octets = files::read_whole(rt, path)?;
-            let text = show::certificate(rt.alloc(), octets.as_slice())?;
-            Ok(text.into_bytes())
-        }
-        TextTask::Fit(words) => Ok(fit::fit(rt, &words)?.into_bytes()),
-        TextTask::Match(words) => {
-            let text = matching::matched(rt, &words)?;
-            Ok(text.into_bytes())
-        }
-        TextTask::Check(words) => checking::check(rt, &words),
+        TextTask::ShowRequest(path) => show::request(rt, path),
+        TextTask::ShowResponse(path) => show::response(rt, path),
+        TextTask::ShowTst(path) => show::tst(rt, path),
+        TextTask::ShowSigned(path) => show::signed(rt, path),
+        TextTask::ShowCertificate(path) => show::certificate(rt, path),
+        TextTask::Fit(words) => fit::fit(rt, words),
+        TextTask::Match(words) => matching::matched(rt, words),
+        TextTask::Check(words) => checking::check(rt, words),
         TextTask::Migrate(words) => {
-            migrating::migrate(rt, &words)?;
+            migrating::migrate(rt, words)?;
             Ok(Vec::new(rt.alloc()))
         }
-        TextTask::Compare(words) => Ok(comparing::compare(rt, &words)?.into_bytes()),
+        TextTask::Compare(words) => comparing::compare(rt, words),
         TextTask::Attach(words) => {
-            attaching::attach(rt, &words)?;
+            attaching::attach(rt, words)?;
             Ok(Vec::new(rt.alloc()))
         }
     }

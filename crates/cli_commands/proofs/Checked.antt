@@ -21,8 +21,7 @@ use Rattle.cli_commands.specs.Lists.{IsTrustOf, IsAnswersOf}
 use Rattle.cli_commands.specs.Fit.{TellsUnfit}
 use Rattle.cli_commands.specs.Checking.{IsTerms, JudgesCheck, JudgesStream, IfKnown, TellsAccepted, ShowsAccepted}
 use Rattle.cli_commands.specs.Checking.{ShowsRefused}
-use Rattle.cli_commands.specs.Rereading.{OfPassOver}
-use Rattle.cli_commands.specs.Rooms.{IsLimit}
+use Rattle.cli_commands.specs.Rereading.{IsLimitFor, OfPassOver, Sayings}
 use Rattle.cli_commands.proofs.JudgedFiles.{judged_file, Gives}
 use Rattle.check_fit.specs.FileFitting.{SourceFacts}
 
@@ -36,18 +35,17 @@ terms holds words policy trust vouched p is (text, asked, read, says, same) =
     record { policy = p; trust = is; text = text; read = read; asked = asked; says = says; vouches = same }
 
 -- what the words say of the values that a check was called with
-pub record IsCalledBy {F S : Type 0} (holds : F → Option (List ℕ)) (words : CheckWords) (policy : Policy)
-    (trust : List EntryValue)
-    (vouched : List Asked) (room : ℕ) (before : Option S) : Type 0 where
+pub record IsCalledBy {F S : Type 0} (holds : F → Option (List ℕ)) (says : Sayings F) (opened : F)
+    (words : CheckWords) (policy : Policy) (trust : List EntryValue) (vouched : List Asked) (room : ℕ)
+    (before : Option S) : Type 0 where
   pub policy_is : policy ≡ record { sha1 = words.sha1 }
   pub trusted : IsTrustOf holds trust
   pub vouched_for : IsAnswersOf holds vouched
   pub handed : is_some before ≡ is_some words.content
-  pub again : Bool
-  pub buffer : IsLimit words.buffer again room
+  pub bounds : IsLimitFor says opened words.buffer room
 
-module _ {F S T : Type 0} (bytes : T → List ℕ) (holds : F → Option (List ℕ)) (facts : SourceFacts S)
-    (words : CheckWords) (policy : Policy)
+module _ {F S T : Type 0} (bytes : T → List ℕ) (holds : F → Option (List ℕ)) (says : Sayings F) (opened : F)
+    (facts : SourceFacts S) (words : CheckWords) (policy : Policy)
     (trust : List EntryValue) (vouched : List Asked) (room count count' : ℕ) (before after : Option S)
     (gives : Gives facts (IsContentHeld holds)) where
   abbrev by_lists : Terms
@@ -59,7 +57,7 @@ module _ {F S T : Type 0} (bytes : T → List ℕ) (holds : F → Option (List �
       OfPassOver (λ octets. ChecksStream facts by_lists octets before after) left room count count' before after verdict
 
   abbrev Called : Type 0
-  Called = IsCalledBy holds words policy trust vouched room before
+  Called = IsCalledBy holds says opened words policy trust vouched room before
 
   abbrev Told : F → Result T Failure → Type 0
   Told last r = (verdict : Result ℕ Refused) × Streamed (holds last) verdict
@@ -78,24 +76,24 @@ module _ {F S T : Type 0} (bytes : T → List ℕ) (holds : F → Option (List �
   )
 
   streamed : (octets : List ℕ) (verdict : Result ℕ Refused) → Called → AreOctets octets → Streamed (Some octets) verdict
-      → JudgesStream holds words octets verdict
+      → JudgesStream holds says words opened octets verdict
   streamed octets verdict called are (fails raised same) = inl refl
   streamed octets verdict called are (too_long unraised same stated) =
-      inr (inl (refl, (room, called.again, called.buffer, stated (refl, are))))
+      inr (inl (refl, (room, called.bounds, stated (refl, are))))
   streamed octets verdict called are (told unraised judged) =
       inr (inr (by_words octets verdict called (judged (refl, are))))
 
   held : (left : Option (List ℕ)) (verdict : Result ℕ Refused) → Called → Streamed left verdict
-      → IfKnown left (λ o. JudgesStream holds words o verdict)
+      → IfKnown left (λ o. JudgesStream holds says words opened o verdict)
   held None verdict called s = tt
   held (Some o) verdict called s = λ are. streamed o verdict called are s
 
-  yes : (o : List ℕ) (m : ℕ) → JudgesStream holds words o (Ok m) → JudgesCheck holds words o (Ok m)
+  yes : (o : List ℕ) (m : ℕ) → JudgesStream holds says words opened o (Ok m) → JudgesCheck holds words o (Ok m)
   yes o m (inl e) = absurd (let no : ⊥ = cc in no)
   yes o m (inr (inl (e, large))) = absurd (let no : ⊥ = cc in no)
   yes o m (inr (inr judged)) = judged
 
-  accepts : (left : Option (List ℕ)) (m : ℕ) → IfKnown left (λ o. JudgesStream holds words o (Ok m))
+  accepts : (left : Option (List ℕ)) (m : ℕ) → IfKnown left (λ o. JudgesStream holds says words opened o (Ok m))
       → IfKnown left (λ o. JudgesCheck holds words o (Ok m))
   accepts None m says = tt
   accepts (Some o) m says = λ are. yes o m (says are)
@@ -107,8 +105,8 @@ module _ {F S T : Type 0} (bytes : T → List ℕ) (holds : F → Option (List �
   shows_accepted last (Ok t) called (Err why, s, line) = absurd line
   shows_accepted last (Err f) called any = tt
 
-  pub shows_refused : (last : F) (r : Result T Failure) → Called → Told last r → IfErr r (ShowsRefused holds words)
+  pub shows_refused : (last : F) (r : Result T Failure) → Called → Told last r → IfErr r (ShowsRefused holds says words)
   shows_refused last (Ok t) called any = tt
   shows_refused last (Err f) called (Ok m, s, line) = inr (inr (inr (inl (inl line))))
   shows_refused last (Err f) called (Err why, s, line) =
-      inr (inr (inr (inr (last, (why, line, held (holds last) (Err why) called s)))))
+      inr (inr (inr (inr (opened, last, (why, line, held (holds last) (Err why) called s)))))

@@ -8,6 +8,7 @@ use Rattle.cli_failures.specs.declared.status.Status.{Status}
 use Rattle.cli_failures.specs.declared.status.Status.TheVariants as status
 use Rattle.cli_tasks.specs.declared.task.QuestionsWords.{QuestionsWords}
 use Rattle.cli_commands.specs.Asking.{AsksNot, KeepsUnlessFailed}
+use Rattle.cli_commands.specs.Rereading.{Sayings}
 use Rattle.cli_failures.specs.Failures.{failure_text, status_of}
 use Rattle.cli_commands.specs.Telling.{TellsMalformed, TellsRefusal}
 use Rattle.cli_commands.proofs.AskedAgain.{kept_then}
@@ -48,42 +49,41 @@ module _ (f : Failure) (result : Status) (before between after : Option (List �
       refusal_told f before after (of_status f result status.Refused refused_works reported is)
       (printed status.Refused refused_works told is)
 
-  pub questions_told : {F : Type 0} (holds : F → Option (List ℕ)) (words : QuestionsWords) → AsksNot holds words f
+  pub questions_told : {F : Type 0} (holds : F → Option (List ℕ)) (says : Sayings F) (words : QuestionsWords)
+      → AsksNot holds says words f
       → (result ≡ status.Malformed → Appends between after (failure_text f))
       → (result ≡ status.Refused → Appends between after (failure_text f))
       → (result ≡ status.Malformed) ⊎ (result ≡ status.Refused)
-      → (g : Failure) × AsksNot holds words g × (status_of g ≡ result) × Appends before after (failure_text g)
-  questions_told holds words fails malformed refused (inl is) = (
+      → (g : Failure) × AsksNot holds says words g × (status_of g ≡ result) × Appends before after (failure_text g)
+  questions_told holds says words fails malformed refused (inl is) = (
     f,
     fails,
     of_status f result status.Malformed malformed_works reported is ∙ sym is,
     printed status.Malformed malformed_works malformed is,
   )
-  questions_told holds words fails malformed refused (inr is) = (
+  questions_told holds says words fails malformed refused (inr is) = (
     f,
     fails,
     of_status f result status.Refused refused_works reported is ∙ sym is,
     printed status.Refused refused_works refused is,
   )
 
--- none of the failures of questions is one of usage
-no_usage : {F : Type 0} (holds : F → Option (List ℕ)) (words : QuestionsWords) (f : Failure) → AsksNot holds words f
-    → status_of f ≢ status.Usage
-no_usage holds words f (inl (inl (inl e))) is = cc
-no_usage holds words f (inl (inl (inr (inl e)))) is = cc
-no_usage holds words f (inl (inl (inr (inr (inl e))))) is = cc
-no_usage holds words f (inl (inl (inr (inr (inr e))))) is = cc
-no_usage holds words f (inl (inr (text, fault, read, says, e))) is = cc
-no_usage holds words f (inr (inl (inl e))) is = cc
-no_usage holds words f (inr (inl (inr e))) is = cc
-no_usage holds words f (inr (inr (trust, file, stream.Questions (questions.Malformed fault), says, known, e))) is = cc
-no_usage holds words f (inr (inr (trust, file, stream.Questions questions.NotSignedData, says, known, e))) is = cc
-no_usage holds words f (inr (inr (trust, file, stream.Questions questions.WriteFailed, says, known, e))) is = cc
-no_usage holds words f (inr (inr (trust, file, stream.ReadFailed, says, known, e))) is = cc
-no_usage holds words f (inr (inr (trust, file, stream.TooLong, says, known, e))) is = cc
+module _ {F : Type 0} (holds : F → Option (List ℕ)) (says : Sayings F) (words : QuestionsWords) (f : Failure) where
+  -- none of the failures of questions is one of usage
+  no_usage : AsksNot holds says words f → status_of f ≢ status.Usage
+  no_usage (inl (inl (inl e))) is = cc
+  no_usage (inl (inl (inr (inl e)))) is = cc
+  no_usage (inl (inl (inr (inr (inl e))))) is = cc
+  no_usage (inl (inl (inr (inr (inr e))))) is = cc
+  no_usage (inl (inr (text, fault, read, listed, e))) is = cc
+  no_usage (inr (inl (inl e))) is = cc
+  no_usage (inr (inl (inr e))) is = cc
+  no_usage (inr (inr (trust, opened, file, stream.Questions (questions.Malformed fault), listed, known, e))) is = cc
+  no_usage (inr (inr (trust, opened, file, stream.Questions questions.NotSignedData, listed, known, e))) is = cc
+  no_usage (inr (inr (trust, opened, file, stream.Questions questions.WriteFailed, listed, known, e))) is = cc
+  no_usage (inr (inr (trust, opened, file, stream.ReadFailed, listed, known, e))) is = cc
+  no_usage (inr (inr (trust, opened, file, stream.TooLong, listed, known, e))) is = cc
 
-pub never_usage : {F : Type 0} (holds : F → Option (List ℕ)) (words : QuestionsWords) (f : Failure) (result : Status)
-    → AsksNot holds words f
-    → Reported f result → result ≢ status.Usage
-never_usage holds words f result fails (inl e) is = no_usage holds words f fails (sym e ∙ is)
-never_usage holds words f result fails (inr e) is = cc
+  pub never_usage : (result : Status) → AsksNot holds says words f → Reported f result → result ≢ status.Usage
+  never_usage result fails (inl e) is = no_usage fails (sym e ∙ is)
+  never_usage result fails (inr e) is = cc

@@ -1,5 +1,5 @@
 -- Why the questions of a file were not printed, and what was then printed.
-use Rattle.std.proofs.Common.{◌≡◌, ℕ, Bool, List, Option, Some, None, Ok, Err, inr}
+use Rattle.std.proofs.Common.{◌≡◌, ℕ, List, Option, Some, None, Ok, Err, inr}
 use Rattle.std.specs.Borrow.{Bor}
 use Rattle.std.specs.Io.KnownBytes.{Appends}
 use Rattle.der_grammar.specs.TooLarge.{IsTooLarge}
@@ -13,34 +13,34 @@ use Rattle.cli_commands.specs.Asking.{IsTooLong, IsUnasked, AsksPass, ShowsQuest
 use Rattle.cli_commands.specs.Asking.{failure_of}
 use Rattle.cli_commands.specs.Checking.{IfKnown}
 use Rattle.cli_commands.specs.Lists.{IsTrustOf}
-use Rattle.cli_commands.specs.Rooms.{IsLimit}
+use Rattle.cli_commands.specs.Rereading.{IsLimitFor, Sayings}
 
 -- a pass over a file that was opened, with as much room as the words allow
-module _ {F : Type 0} (holds : F → Option (List ℕ)) (words : QuestionsWords) (trust : List EntryValue) (last : F)
-    (limit : ℕ) (again : Bool)
-    (trusted : IsTrustOf holds trust) (allowed : IsLimit words.buffer again limit)
+module _ {F : Type 0} (holds : F → Option (List ℕ)) (says : Sayings F) (words : QuestionsWords)
+    (trust : List EntryValue) (opened last : F) (limit : ℕ) (trusted : IsTrustOf holds trust)
+    (allowed : IsLimitFor says opened words.buffer limit)
     (before after : Option (List ℕ)) where
   pub shows : (u : Unit {0}) → AsksPass trust (holds last) limit (Ok u) before after
       → (text : List ℕ) × ShowsQuestions holds text × Appends before after text
   shows u ((text, is, took), none) = (text, (trust, last, trusted, is), took)
 
   by_words : (octets : List ℕ) (why : StreamQuestionsFault) → IsUnasked trust (λ o. IsTooLarge o limit) octets why
-      → IsUnasked trust (IsTooLong words) octets why
+      → IsUnasked trust (IsTooLong says words opened) octets why
   by_words octets (stream.Questions (fault.Malformed f)) is = is
   by_words octets (stream.Questions fault.NotSignedData) is = is
   by_words octets (stream.Questions fault.WriteFailed) is = is
   by_words octets stream.ReadFailed is = is
-  by_words octets stream.TooLong is = (limit, again, allowed, is)
+  by_words octets stream.TooLong is = (limit, allowed, is)
 
   if_known : (held : Option (List ℕ)) (why : StreamQuestionsFault)
       → IfKnown held (λ octets. IsUnasked trust (λ o. IsTooLarge o limit) octets why)
-      → IfKnown held (λ octets. IsUnasked trust (IsTooLong words) octets why)
+      → IfKnown held (λ octets. IsUnasked trust (IsTooLong says words opened) octets why)
   if_known None why is = tt
   if_known (Some octets) why is = λ are. by_words octets why (is are)
 
   pub not_asked : (why : StreamQuestionsFault) (f : Failure) → AsksPass trust (holds last) limit (Err why) before after
-      → f ≡ failure_of words.file why → AsksNot holds words f
-  not_asked why f (took, is) e = inr (inr (trust, last, why, trusted, if_known (holds last) why is, e))
+      → f ≡ failure_of words.file why → AsksNot holds says words f
+  not_asked why f (took, is) e = inr (inr (trust, opened, last, why, trusted, if_known (holds last) why is, e))
 
 pub kept_unless_failed : (trust : List EntryValue) (held : Option (List ℕ)) (room : ℕ) (why : StreamQuestionsFault)
     (path : Bor (List ℕ)) (f : Failure)

@@ -1,5 +1,6 @@
--- What `questions` prints for a file. `holds` is what an open file holds, if that is known.
-use Rattle.std.specs.Prelude.{◌≡◌, ◌≢◌, ◌⊎◌, ℕ, Bool, List, take, Option, Result, Ok, Err, IfErr}
+-- What `questions` prints for a file. `holds` is what an open file holds, if that is known, and `says` what it may say
+-- of itself.
+use Rattle.std.specs.Prelude.{◌≡◌, ◌≢◌, ◌⊎◌, ℕ, List, take, Option, Result, Ok, Err, IfErr}
 use Rattle.std.specs.Borrow.{Bor}
 use Rattle.std.specs.Io.KnownBytes.{Appends, Keeps}
 use Rattle.der_core.specs.OpenFaults.{FaultsOpenly}
@@ -24,8 +25,7 @@ use Rattle.cli_tasks.specs.declared.task.QuestionsWords.{QuestionsWords}
 use Rattle.cli_failures.specs.Files.{IsFailureToOpen}
 use Rattle.cli_commands.specs.Checking.{IfKnown}
 use Rattle.cli_commands.specs.Lists.{IsTrustOf, IsFailureOfTrust}
-use Rattle.cli_commands.specs.Rereading.{IsUnread}
-use Rattle.cli_commands.specs.Rooms.{IsLimit}
+use Rattle.cli_commands.specs.Rereading.{IsLimitFor, IsUnread, Sayings}
 
 -- the text of a file's questions
 abbrev pub IsTextOf : List EntryValue → (octets text : List ℕ) → Type 0
@@ -79,9 +79,10 @@ abbrev pub ShowsQuestions : {F : Type 0} → (holds : F → Option (List ℕ)) �
 ShowsQuestions {F} holds text = (trust : List EntryValue) × (file : F) × IsTrustOf holds trust
     × IsTextFor trust (holds file) text
 
--- X3: for a file of these octets, more must be kept than may be
-abbrev pub IsTooLong : QuestionsWords → (octets : List ℕ) → Type 0
-IsTooLong words octets = (limit : ℕ) × (again : Bool) × IsLimit words.buffer again limit × IsTooLarge octets limit
+-- X3: for a file of these octets, more must be kept than may be; what the file that was opened says decides, unless the
+-- words do
+abbrev pub IsTooLong : {F : Type 0} → (says : Sayings F) → QuestionsWords → (opened : F) → (octets : List ℕ) → Type 0
+IsTooLong says words opened octets = (limit : ℕ) × IsLimitFor says opened words.buffer limit × IsTooLarge octets limit
 
 -- the failure for each reason
 abbrev pub failure_of : (path : Bor (List ℕ)) → StreamQuestionsFault → Failure
@@ -90,16 +91,19 @@ failure_of path stream.ReadFailed = failure.Read path
 failure_of path stream.TooLong = failure.Refused (refused.Device device.TooLong)
 
 -- the questions of a file that was opened were not printed, for this reason
-abbrev pub AsksNone : {F : Type 0} → (holds : F → Option (List ℕ)) → QuestionsWords → Failure → Type 0
-AsksNone {F} holds words f = (trust : List EntryValue) × (file : F) × (why : StreamQuestionsFault)
-    × IsTrustOf holds trust × IfKnown (holds file) (λ octets. IsUnasked trust (IsTooLong words) octets why)
+abbrev pub AsksNone : {F : Type 0} → (holds : F → Option (List ℕ)) → (says : Sayings F) → QuestionsWords → Failure
+    → Type 0
+AsksNone {F} holds says words f = (trust : List EntryValue) × (opened file : F) × (why : StreamQuestionsFault)
+    × IsTrustOf holds trust
+    × IfKnown (holds file) (λ octets. IsUnasked trust (IsTooLong says words opened) octets why)
     × (f ≡ failure_of words.file why)
 
 -- the trust list's file fails or isn't a list, the file can't be opened, memory runs out, or its questions are not
 -- printed
-abbrev pub AsksNot : {F : Type 0} → (holds : F → Option (List ℕ)) → QuestionsWords → Failure → Type 0
-AsksNot holds words f = IsFailureOfTrust holds words.trust f
-    ⊎ (IsFailureToOpen words.file f ⊎ AsksNone holds words f)
+abbrev pub AsksNot : {F : Type 0} → (holds : F → Option (List ℕ)) → (says : Sayings F) → QuestionsWords → Failure
+    → Type 0
+AsksNot holds says words f = IsFailureOfTrust holds words.trust f
+    ⊎ (IsFailureToOpen words.file f ⊎ AsksNone holds says words f)
 
 -- what was printed so far is unchanged, unless the output failed
 abbrev pub KeepsUnlessFailed : (before after : Option (List ℕ)) → Failure → Type 0

@@ -1,6 +1,6 @@
 -- What `check` prints for a file, its content, a trust list and an answers list. `holds` is what an open file holds, if
--- that is known.
-use Rattle.std.specs.Prelude.{◌≡◌, ◌⊎◌, ℕ, Bool, List, Option, Result, Ok, Err, IfSome, IsSomeAnd, is_some}
+-- that is known, and `says` what it may say of itself.
+use Rattle.std.specs.Prelude.{◌≡◌, ◌⊎◌, ℕ, List, Option, Result, Ok, Err, IfSome, IsSomeAnd, is_some}
 use Rattle.devices.specs.Device.{AreOctets}
 use Rattle.der_core.specs.OpenFaults.{FaultsOpenly}
 use Rattle.der_core.specs.Grammar.{file}
@@ -20,7 +20,7 @@ use Rattle.cli_failures.specs.declared.failure.Failure.TheVariants as failure
 use Rattle.cli_failures.specs.Files.{IsFailureToOpen, IsHeld}
 use Rattle.cli_commands.specs.Judging.{JudgesFile, IsContentHeld}
 use Rattle.cli_commands.specs.Lists.{IsTrustOf, IsFailureOfTrust, IsFailureOfAnswers}
-use Rattle.cli_commands.specs.Rooms.{IsLimit}
+use Rattle.cli_commands.specs.Rereading.{IsLimitFor, Sayings}
 
 -- a file is accepted, and the text is the line that says so
 abbrev pub TellsAccepted : Result ℕ Refused → (text : List ℕ) → Type 0
@@ -49,16 +49,18 @@ JudgesCheck holds words octets verdict = (t : Terms) × IsTerms holds words t ×
 abbrev pub IsUnreadable : Result ℕ Refused → Type 0
 IsUnreadable verdict = verdict ≡ Err (refused.Device device.ReadFailed)
 
--- X3: for a file of these octets, more must be kept than may be
-abbrev pub IsTooLong : CheckWords → (octets : List ℕ) → Result ℕ Refused → Type 0
-IsTooLong words octets verdict = (verdict ≡ Err (refused.Device device.TooLong))
-    × ((limit : ℕ) × (again : Bool) × IsLimit words.buffer again limit × IsTooLarge octets limit)
+-- X3: for a file of these octets, more must be kept than may be; what the file that was opened says decides, unless the
+-- words do
+abbrev pub IsTooLong : {F : Type 0} → (says : Sayings F) → CheckWords → (opened : F) → (octets : List ℕ)
+    → Result ℕ Refused → Type 0
+IsTooLong says words opened octets verdict = (verdict ≡ Err (refused.Device device.TooLong))
+    × ((limit : ℕ) × IsLimitFor says opened words.buffer limit × IsTooLarge octets limit)
 
 -- the verdict of a pass over a file of these octets
-abbrev pub JudgesStream : {F : Type 0} → (holds : F → Option (List ℕ)) → CheckWords → (octets : List ℕ)
-    → Result ℕ Refused → Type 0
-JudgesStream holds words octets verdict = IsUnreadable verdict
-    ⊎ (IsTooLong words octets verdict ⊎ JudgesCheck holds words octets verdict)
+abbrev pub JudgesStream : {F : Type 0} → (holds : F → Option (List ℕ)) → (says : Sayings F) → CheckWords → (opened : F)
+    → (octets : List ℕ) → Result ℕ Refused → Type 0
+JudgesStream holds says words opened octets verdict = IsUnreadable verdict
+    ⊎ (IsTooLong says words opened octets verdict ⊎ JudgesCheck holds words octets verdict)
 
 -- this holds of the octets that a file holds, if it is known what it holds
 abbrev pub IfKnown : (held : Option (List ℕ)) → (List ℕ → Type 0) → Type 0
@@ -71,13 +73,14 @@ ShowsAccepted holds words held text = (m : ℕ) × IsVerdictLine (Ok m) text
     × IfKnown held (λ octets. JudgesCheck holds words octets (Ok m))
 
 -- the failure says that a file with these octets is refused
-abbrev pub ShowsRefusal : {F : Type 0} → (holds : F → Option (List ℕ)) → CheckWords
+abbrev pub ShowsRefusal : {F : Type 0} → (holds : F → Option (List ℕ)) → (says : Sayings F) → CheckWords → (opened : F)
     → (held : Option (List ℕ)) → Failure → Type 0
-ShowsRefusal holds words held f = (why : Refused) × (f ≡ failure.Refused why)
-    × IfKnown held (λ octets. JudgesStream holds words octets (Err why))
+ShowsRefusal holds says words opened held f = (why : Refused) × (f ≡ failure.Refused why)
+    × IfKnown held (λ octets. JudgesStream holds says words opened octets (Err why))
 
 -- a list's file fails or isn't a list, a file can't be opened, memory runs out, or the file that was opened is refused
-abbrev pub ShowsRefused : {F : Type 0} → (holds : F → Option (List ℕ)) → CheckWords → Failure → Type 0
-ShowsRefused {F} holds words f = IsFailureOfTrust holds words.trust f ⊎ (IsFailureOfAnswers holds words.answers f
+abbrev pub ShowsRefused : {F : Type 0} → (holds : F → Option (List ℕ)) → (says : Sayings F) → CheckWords → Failure
+    → Type 0
+ShowsRefused {F} holds says words f = IsFailureOfTrust holds words.trust f ⊎ (IsFailureOfAnswers holds words.answers f
     ⊎ (IsSomeAnd words.content (λ path. IsFailureToOpen path f) ⊎ (IsFailureToOpen words.file f
-    ⊎ ((file : F) × ShowsRefusal holds words (holds file) f))))
+    ⊎ ((opened file : F) × ShowsRefusal holds says words opened (holds file) f))))

@@ -33,6 +33,10 @@ abbrev pub OfReading : {F S : Type 0} → (position : F → Option ℕ) → (rem
 OfReading {F} position remaining Judges opened room count count' before after verdict = (last : F)
     × IsUnread position opened last × OfPassOver Judges (remaining last) room count count' before after verdict
 
+-- what open files of a type may say of themselves
+abbrev pub Sayings : Type 0 → Type 1
+Sayings F = F → Option Metadata → Type 0
+
 -- how many octets a file says that it has, if it says of itself that it is a regular file; of anything else, and of a
 -- file that says nothing, it is not known that it can be read again
 abbrev pub IsStatedBy : (about : Option Metadata) → (stated : Option ℕ) → Type 0
@@ -41,12 +45,11 @@ IsStatedBy (Some about) stated = (IsFile (file_type about) → stated ≡ Some (
     × (¬ (IsFile (file_type about)) → stated ≡ None)
 
 -- an open file says of itself something by which this is stated
-abbrev pub States : {F : Type 0} → (says : F → Option Metadata → Type 0) → F → (stated : Option ℕ) → Type 0
+abbrev pub States : {F : Type 0} → (says : Sayings F) → F → (stated : Option ℕ) → Type 0
 States says file stated = (about : Option Metadata) × says file about × IsStatedBy about stated
 
 -- the most octets that may be kept of a file that was opened: as many as the words say, and otherwise by whether the
 -- file says that it is one that can be read again
-abbrev pub IsLimitFor : {F : Type 0} → (says : F → Option Metadata → Type 0) → (opened : F) → (said : Option ℕ)
-    → (limit : ℕ) → Type 0
+abbrev pub IsLimitFor : {F : Type 0} → (says : Sayings F) → (opened : F) → (said : Option ℕ) → (limit : ℕ) → Type 0
 IsLimitFor says opened said limit = (stated : Option ℕ) × States says opened stated
     × IsLimit said (is_some stated) limit

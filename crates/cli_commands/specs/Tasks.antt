@@ -1,4 +1,5 @@
--- What a task prints once it is done, and how it fails. `holds` is what an open file holds, if that is known.
+-- What a task prints once it is done, and how it fails. `holds` is what an open file holds, if that is known, and
+-- `says` what it may say of itself.
 use Rattle.std.specs.Prelude.{◌≡◌, ◌≢◌, ◌⊎◌, ℕ, List, [], Option}
 use Rattle.lines_shown.specs.RequestLines.{ShowsRequest}
 use Rattle.lines_shown.specs.ResponseLines.{ShowsResponse}
@@ -21,6 +22,7 @@ use Rattle.cli_commands.specs.Fit.{ShowsFit, ShowsUnfit}
 use Rattle.cli_commands.specs.Matching.{IsTokenApart, ShowsAnswer, ShowsNoAnswer}
 use Rattle.cli_commands.specs.Migrating.{MigratesNot}
 use Rattle.cli_commands.specs.Refusals.{MakesNone}
+use Rattle.cli_commands.specs.Rereading.{Sayings}
 use Rattle.cli_commands.specs.Requests.{IsOutApart}
 use Rattle.cli_commands.specs.Showing.{ShowsNone, ShowsNoResponse, ShowsNoTst, ShowsNoCertificate, ShowsNoSignedData}
 
@@ -42,24 +44,25 @@ MakesText holds (Attach words) text = text ≡ []
 
 -- how such a task fails: a value isn't as it must be, a file named by the task fails, or what a file holds isn't as it
 -- must be
-abbrev pub MakesNoText : {F : Type 0} → (holds : F → Option (List ℕ)) → TextTask → Failure → Type 0
-MakesNoText holds (Request words) f = MakesNone holds words f
-MakesNoText holds (ShowRequest path) f = IsFailureToRead path f
+abbrev pub MakesNoText : {F : Type 0} → (holds : F → Option (List ℕ)) → (says : Sayings F) → TextTask → Failure
+    → Type 0
+MakesNoText holds says (Request words) f = MakesNone holds words f
+MakesNoText holds says (ShowRequest path) f = IsFailureToRead path f
     ⊎ ((octets : List ℕ) × IsHeld holds octets × ShowsNone octets f)
-MakesNoText holds (ShowResponse path) f = IsFailureToRead path f
+MakesNoText holds says (ShowResponse path) f = IsFailureToRead path f
     ⊎ ((octets : List ℕ) × IsHeld holds octets × ShowsNoResponse octets f)
-MakesNoText holds (ShowTst path) f = IsFailureToRead path f
+MakesNoText holds says (ShowTst path) f = IsFailureToRead path f
     ⊎ ((octets : List ℕ) × IsHeld holds octets × ShowsNoTst octets f)
-MakesNoText holds (ShowSigned path) f = IsFailureToRead path f
+MakesNoText holds says (ShowSigned path) f = IsFailureToRead path f
     ⊎ ((octets : List ℕ) × IsHeld holds octets × ShowsNoSignedData octets f)
-MakesNoText holds (ShowCertificate path) f = IsFailureToRead path f
+MakesNoText holds says (ShowCertificate path) f = IsFailureToRead path f
     ⊎ ((octets : List ℕ) × IsHeld holds octets × ShowsNoCertificate octets f)
-MakesNoText holds (Fit words) f = ShowsUnfit holds words f
-MakesNoText holds (Match words) f = ShowsNoAnswer holds words f
-MakesNoText holds (Migrate words) f = MigratesNot holds words f
-MakesNoText holds (Check words) f = ShowsRefused holds words f
-MakesNoText holds (Compare words) f = ShowsUnlike holds words f
-MakesNoText holds (Attach words) f = AttachesNot holds words f
+MakesNoText holds says (Fit words) f = ShowsUnfit holds words f
+MakesNoText holds says (Match words) f = ShowsNoAnswer holds words f
+MakesNoText holds says (Migrate words) f = MigratesNot holds words f
+MakesNoText holds says (Check words) f = ShowsRefused holds says words f
+MakesNoText holds says (Compare words) f = ShowsUnlike holds words f
+MakesNoText holds says (Attach words) f = AttachesNot holds words f
 
 -- the path of the file that such a task writes is none of those that it reads, but that `attach` may replace its file
 abbrev pub WritesApart : TextTask → Type 0
@@ -75,9 +78,9 @@ IsDoneBy holds (Questions words) text = ShowsQuestions holds text
 IsDoneBy holds (Text task) text = MakesText holds task text
 
 -- how a task fails
-abbrev pub FailsBy : {F : Type 0} → (holds : F → Option (List ℕ)) → Task → Failure → Type 0
-FailsBy holds (Questions words) f = AsksNot holds words f
-FailsBy holds (Text task) f = MakesNoText holds task f
+abbrev pub FailsBy : {F : Type 0} → (holds : F → Option (List ℕ)) → (says : Sayings F) → Task → Failure → Type 0
+FailsBy holds says (Questions words) f = AsksNot holds says words f
+FailsBy holds says (Text task) f = MakesNoText holds says task f
 
 -- the path of the file that a task writes is none of those that it reads, but that `attach` may replace its file
 abbrev pub IsApart : Task → Type 0

@@ -27,9 +27,11 @@ pub fn ask<'a, R: Files + AllocGlobal, O: Write>(
     words: &QuestionsWords<'a>,
     out: &mut O,
 ) -> Result<(), Failure<'a>>
+where
+    R::File: Describes,
     ensures asked { OnOk result ((text : List ℕ) × ShowsQuestions R.File.remaining text × Appends (O.contents out.old)
         (O.contents out.new) text) }
-    ensures refused { IfErr result (AsksNot R.File.remaining words.now) }
+    ensures refused { IfErr result (AsksNot R.File.remaining R.File.says words.now) }
     // Before the line of a refusal nothing was printed.
     ensures kept { IfErr result (KeepsUnlessFailed (O.contents out.old) (O.contents out.new)) }
 {
@@ -50,11 +52,14 @@ pub fn ask_by<'a, R: Files + AllocGlobal, O: Write>(
     out: &mut O,
     passing: &mut Pass,
 ) -> Result<(), Failure<'a>>
+where
+    R::File: Describes,
     // If the list is that of a file, the text and the failure are those of `ask`.
     ensures asked { IsTrustOf R.File.remaining trust.now → OnOk result ((text : List ℕ)
         × ShowsQuestions R.File.remaining text × Appends (O.contents out.old) (O.contents out.new) text) }
     // The same of the failure.
-    ensures refused { IsTrustOf R.File.remaining trust.now → IfErr result (AsksNot R.File.remaining words.now) }
+    ensures refused { IsTrustOf R.File.remaining trust.now
+        → IfErr result (AsksNot R.File.remaining R.File.says words.now) }
     // Nothing was printed if this fails, unless the output failed.
     ensures kept { IfErr result (KeepsUnlessFailed (O.contents out.old) (O.contents out.new)) }
 {

@@ -33,9 +33,11 @@ pub fn check<'a, R: Files + AllocGlobal>(
     rt: &R,
     words: &CheckWords<'a>,
 ) -> Result<Vec<u8>, Failure<'a>>
+where
+    R::File: Describes,
     ensures accepted { IfOk result (λ line. (file : R.File) × ShowsAccepted R.File.remaining words.now
         (R.File.remaining file) line.items) }
-    ensures refused { IfErr result (ShowsRefused R.File.remaining words.now) }
+    ensures refused { IfErr result (ShowsRefused R.File.remaining R.File.says words.now) }
 {
     let trust = lists::trust_in(rt, words.trust)?;
     let mut answers = lists::answers_in(rt, words.answers)?;
@@ -56,13 +58,16 @@ pub fn check_by<'a, R: Files + AllocGlobal>(
     passing: &mut Pass,
     checker: &mut Checker,
 ) -> Result<Vec<u8>, Failure<'a>>
+where
+    R::File: Describes,
     // If it goes by the lists of files and by the words, the line and the failure are those of `check`.
     ensures accepted { IsCheckerOf R.File.remaining words.now.sha1 checker.old
         → IsAnswersOf R.File.remaining answers.old → IfOk result (λ line. (file : R.File)
         × ShowsAccepted R.File.remaining words.now (R.File.remaining file) line.items) }
     // The same of the failure.
     ensures refused { IsCheckerOf R.File.remaining words.now.sha1 checker.old
-        → IsAnswersOf R.File.remaining answers.old → IfErr result (ShowsRefused R.File.remaining words.now) }
+        → IsAnswersOf R.File.remaining answers.old
+        → IfErr result (ShowsRefused R.File.remaining R.File.says words.now) }
     // What the answers list vouches for stays the same.
     ensures same { ◌≡◌ {A = Asked → Bool} (λ q. is_among answers.new q) (λ q. is_among answers.old q) }
     // What the check goes by stays the same.

@@ -22,5 +22,6 @@ mod texts;
 pub use asking::ask_by;
 pub use checking::check_by;
 pub use lists::{answers_in, trust_in};
+pub use rereading::Describes;
 pub use telling::{print, run};
 pub use texts::text_of;

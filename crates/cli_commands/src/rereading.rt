@@ -7,9 +7,10 @@ use cmsproof_api::{Algs, Pass, Source, SourceFault};
 use std::fs::{Metadata, OpenFile};
 use std::io::{Read, Seek};
 
-/// An open file that says of itself what it is.
-pub(crate) trait Describes {
-    // What it may say. No contract of `OpenFile` says so of a file: here a name stands for it.
+/// An open file that says of itself what it is, as each does.
+pub trait Describes {
+    // What it may say. No contract of `OpenFile` says so of a file: here a name stands for it, by which the contracts
+    // of the commands say that they go by what this file said, and by nothing else.
     ghost says: { Self → Option Metadata → Type 0 };
 
     /// What it says, if it says something.

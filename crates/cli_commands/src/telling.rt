@@ -16,6 +16,7 @@ ghost use Rattle.cli_commands.specs.Tasks.{IsApart, IsDoneBy, MakesText, FailsBy
 ghost use Rattle.cli_commands.specs.Telling.{TellsMalformed, TellsRefusal};
 
 use crate::asking::ask;
+use crate::rereading::Describes;
 use crate::texts::text_of;
 use cli_failures::{Failure, STANDARD_OUTPUT, Status, files};
 use cli_tasks::{QuestionsWords, Task, TextTask};
@@ -29,6 +30,7 @@ use std::rt::Files;
 pub fn run<R, O, E>(rt: &R, task: Task<'_>, out: &mut O, err: &mut E) -> Status
 where
     R: Files + AllocGlobal,
+    R::File: Describes,
     O: Write,
     E: Write,
     // With `Done` the output took what this task prints of what files hold, if it is known what it takes.
@@ -50,7 +52,7 @@ where
     ensures apart { result ≡ Status.Done → IsApart task.entry }
     // Why a file is refused is printed, and is a failure of this task.
     ensures told { (result ≡ Status.Malformed) ⊎ (result ≡ Status.Refused) → (f : Failure)
-        × FailsBy R.File.remaining task.entry f × (status_of f ≡ result)
+        × FailsBy R.File.remaining R.File.says task.entry f × (status_of f ≡ result)
         × Appends (O.contents out.old) (O.contents out.new) (failure_text f) }
     // With `Malformed` the output took a line of a file that is not of its form, if it is known what it takes.
     ensures malformed { result ≡ Status.Malformed → TellsMalformed (O.contents out.old) (O.contents out.new) }
@@ -59,7 +61,7 @@ where
     // If a value isn't as it must be, nothing is printed on the standard output.
     ensures silent { result ≡ Status.Usage → out.new ≡ out.old }
     // With `Usage` the failure is one of this task with that status.
-    ensures usage { result ≡ Status.Usage → (f : Failure) × FailsBy R.File.remaining task.entry f
+    ensures usage { result ≡ Status.Usage → (f : Failure) × FailsBy R.File.remaining R.File.says task.entry f
         × (status_of f ≡ Status.Usage) }
     // Only that, and what failed, is printed on the other output.
     ensures quiet { (result ≡ Status.Usage) ⊎ ((result ≡ Status.Failed) ⊎ (err.new ≡ err.old)) }
@@ -74,6 +76,7 @@ where
 fn tell_text<R, O, E>(rt: &R, task: TextTask<'_>, out: &mut O, err: &mut E) -> Status
 where
     R: Files + AllocGlobal,
+    R::File: Describes,
     O: Write,
     E: Write,
     ensures done { result ≡ Status.Done → (text : List ℕ) × MakesText R.File.remaining task.entry text
@@ -94,13 +97,13 @@ where
     ensures apart { result ≡ Status.Done → WritesApart task.entry }
     // Why a file is refused is printed, and is a failure of this task.
     ensures told { (result ≡ Status.Malformed) ⊎ (result ≡ Status.Refused) → (f : Failure)
-        × MakesNoText R.File.remaining task.entry f × (status_of f ≡ result)
+        × MakesNoText R.File.remaining R.File.says task.entry f × (status_of f ≡ result)
         × Appends (O.contents out.old) (O.contents out.new) (failure_text f) }
     ensures malformed { result ≡ Status.Malformed → TellsMalformed (O.contents out.old) (O.contents out.new) }
     ensures refused { result ≡ Status.Refused → TellsRefusal (O.contents out.old) (O.contents out.new) }
     // If a value isn't as it must be, nothing is printed on the standard output.
     ensures silent { result ≡ Status.Usage → out.new ≡ out.old }
-    ensures usage { result ≡ Status.Usage → (f : Failure) × MakesNoText R.File.remaining task.entry f
+    ensures usage { result ≡ Status.Usage → (f : Failure) × MakesNoText R.File.remaining R.File.says task.entry f
         × (status_of f ≡ Status.Usage) }
     // Only that, and what failed, is printed on the other output.
     ensures quiet { (result ≡ Status.Usage) ⊎ ((result ≡ Status.Failed) ⊎ (err.new ≡ err.old)) }
@@ -115,12 +118,13 @@ where
 fn tell_questions<R, O, E>(rt: &R, words: &QuestionsWords<'_>, out: &mut O, err: &mut E) -> Status
 where
     R: Files + AllocGlobal,
+    R::File: Describes,
     O: Write,
     E: Write,
     ensures done { result ≡ Status.Done → (text : List ℕ) × ShowsQuestions R.File.remaining text
         × Appends (O.contents out.old) (O.contents out.new) text }
     ensures told { (result ≡ Status.Malformed) ⊎ (result ≡ Status.Refused) → (f : Failure)
-        × AsksNot R.File.remaining words.now f × (status_of f ≡ result)
+        × AsksNot R.File.remaining R.File.says words.now f × (status_of f ≡ result)
         × Appends (O.contents out.old) (O.contents out.new) (failure_text f) }
     ensures malformed { result ≡ Status.Malformed → TellsMalformed (O.contents out.old) (O.contents out.new) }
     ensures refused { result ≡ Status.Refused → TellsRefusal (O.contents out.old) (O.contents out.new) }

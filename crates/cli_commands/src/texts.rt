@@ -10,6 +10,7 @@ ghost use Rattle.cli_commands.specs.Migrating.{IsMigrated};
 ghost use Rattle.cli_commands.specs.Requests.{IsRequestWritten};
 ghost use Rattle.cli_commands.specs.Tasks.{WritesApart, MakesText, MakesNoText};
 
+use crate::rereading::Describes;
 use crate::{attaching, checking, comparing, fit, matching, migrating, request, show};
 use cli_failures::Failure;
 use cli_tasks::TextTask;
@@ -20,6 +21,8 @@ pub fn text_of<'a, R: Files + AllocGlobal>(
     rt: &R,
     task: TextTask<'a>,
 ) -> Result<Vec<u8>, Failure<'a>>
+where
+    R::File: Describes,
     // The text is the one that the task prints.
     ensures done { IfOk result (λ text. MakesText R.File.remaining task.entry text.items) }
     // The file of a request holds it.
@@ -37,7 +40,7 @@ pub fn text_of<'a, R: Files + AllocGlobal>(
     // By its path, the file that was written is none that was read, but for FILE of `attach`.
     ensures apart { OnOk result (WritesApart task.entry) }
     // The failure is one of the task's.
-    ensures failed { IfErr result (MakesNoText R.File.remaining task.entry) }
+    ensures failed { IfErr result (MakesNoText R.File.remaining R.File.says task.entry) }
 {
     match &task {
         TextTask::Request(words) => {

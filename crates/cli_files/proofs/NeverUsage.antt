@@ -28,6 +28,7 @@ use Rattle.cli_commands.specs.Asking.{AsksNot, failure_of}
 use Rattle.cli_commands.specs.Checking.{ShowsRefused}
 use Rattle.cli_commands.specs.Fit.{ShowsUnfit}
 use Rattle.cli_commands.specs.Lists.{IsFailureOfAnswers, IsFailureOfTrust}
+use Rattle.cli_commands.specs.Rereading.{Sayings}
 use Rattle.cli_files.specs.Lines.{AreAll, AreTold, none, next, Begins, EndsFiles, IsAsked, IsCut, IsFailureOfList}
 use Rattle.cli_files.specs.Lines.{IsLine, IsLost}
 use Rattle.cli_files.specs.Lines.{check_of, fit_of, questions_of}
@@ -51,7 +52,7 @@ pub lost_fails : (f : Failure) → IsLost f → status_of f ≡ status.Failed
 lost_fails f (inl e) = cc
 lost_fails f (inr (output, e)) = cc
 
-module _ {F : Type 0} (holds : F → Option (List ℕ)) where
+module _ {F : Type 0} (holds : F → Option (List ℕ)) (says : Sayings F) where
   trust_fails : (path : Bor (List ℕ)) (f : Failure) → IsFailureOfTrust holds path f
       → (status_of f ≡ status.Malformed) ⊎ (status_of f ≡ status.Failed)
   trust_fails path f (inl fails) = inr (read_fails path f fails)
@@ -88,12 +89,12 @@ module _ {F : Type 0} (holds : F → Option (List ℕ)) where
   told_not_usage : (why : Refused) (f : Failure) → f ≡ failure.Refused why → status_of f ≢ status.Usage
   told_not_usage why f e = λ is. refused_not_usage why (let same : refused_status why ≡ status_of f = cc in same ∙ is)
 
-  check_not_usage : (words : CheckWords) (f : Failure) → ShowsRefused holds words f → status_of f ≢ status.Usage
+  check_not_usage : (words : CheckWords) (f : Failure) → ShowsRefused holds says words f → status_of f ≢ status.Usage
   check_not_usage words f (inl fails) = not_usage f (trust_fails words.trust f fails)
   check_not_usage words f (inr (inl fails)) = not_usage f (answers_fail words.answers f fails)
   check_not_usage words f (inr (inr (inl fails))) = not_usage f (inr (given_fails words.content f fails))
   check_not_usage words f (inr (inr (inr (inl fails)))) = not_usage f (inr (open_fails words.file f fails))
-  check_not_usage words f (inr (inr (inr (inr (file, (why, e, known)))))) = told_not_usage why f e
+  check_not_usage words f (inr (inr (inr (inr (opened, file, (why, e, known)))))) = told_not_usage why f e
 
   fit_not_usage : (words : FitWords) (f : Failure) → ShowsUnfit holds words f → status_of f ≢ status.Usage
   fit_not_usage words f (inl fails) = not_usage f (inr (given_fails words.content f fails))
@@ -111,27 +112,27 @@ module _ {F : Type 0} (holds : F → Option (List ℕ)) where
   stopped_not_usage path stream.ReadFailed = λ is. let no : ⊥ = cc in no
   stopped_not_usage path stream.TooLong = λ is. let no : ⊥ = cc in no
 
-  asking_not_usage : (words : QuestionsWords) (f : Failure) → AsksNot holds words f → status_of f ≢ status.Usage
+  asking_not_usage : (words : QuestionsWords) (f : Failure) → AsksNot holds says words f → status_of f ≢ status.Usage
   asking_not_usage words f (inl fails) = not_usage f (trust_fails words.trust f fails)
   asking_not_usage words f (inr (inl fails)) = not_usage f (inr (open_fails words.file f fails))
-  asking_not_usage words f (inr (inr (trust, file, why, is, known, e))) =
+  asking_not_usage words f (inr (inr (trust, opened, file, why, is, known, e))) =
       λ used. stopped_not_usage words.file why
       (let same : status_of (failure_of words.file why) ≡ status_of f = cc in same ∙ used)
 
   check_line : (e : CheckEach) (path : Bor (List ℕ)) (line : List ℕ) (ends : Status)
-      → IsLine holds (check_of e) path line ends
+      → IsLine holds says (check_of e) path line ends
       → ends ≢ status.Usage
   check_line e path line ends (said, inl (done, makes), is) = λ used. let no : ⊥ = cc in no
   check_line e path line ends (said, inr (f, fails, of, told), is) = λ used. check_not_usage _ f fails (of ∙ used)
 
   fit_line : (e : FitEach) (path : Bor (List ℕ)) (line : List ℕ) (ends : Status)
-      → IsLine holds (fit_of e) path line ends
+      → IsLine holds says (fit_of e) path line ends
       → ends ≢ status.Usage
   fit_line e path line ends (said, inl (done, makes), is) = λ used. let no : ⊥ = cc in no
   fit_line e path line ends (said, inr (f, fails, of, told), is) = λ used. fit_not_usage _ f fails (of ∙ used)
 
   asked_line : (e : QuestionsEach) (path : Bor (List ℕ)) (line : List ℕ) (ends : Status)
-      → IsAsked holds e path line ends
+      → IsAsked holds says e path line ends
       → ends ≢ status.Usage
   asked_line e path line ends (inl (done, asked)) = λ used. let no : ⊥ = cc in no
   asked_line e path line ends (inr (f, fails, of, told)) =
@@ -150,14 +151,14 @@ module _ {F : Type 0} (holds : F → Option (List ℕ)) where
       λ used. never path line ends is (sym e ∙ used)
 
   pub all_not_usage : (e : Each) (paths : List (Bor (List ℕ))) (text : List ℕ) (worst : Status)
-      → AreAll holds e paths text worst
+      → AreAll holds says e paths text worst
       → worst ≢ status.Usage
   all_not_usage (each.Check words) paths text worst told =
-      lines_not_usage (IsLine holds (check_of words)) (check_line words) paths text worst told
+      lines_not_usage (IsLine holds says (check_of words)) (check_line words) paths text worst told
   all_not_usage (each.Fit words) paths text worst told =
-      lines_not_usage (IsLine holds (fit_of words)) (fit_line words) paths text worst told
+      lines_not_usage (IsLine holds says (fit_of words)) (fit_line words) paths text worst told
   all_not_usage (each.Questions words) paths text worst (trust, asked, is, told, same) =
-      lines_not_usage (IsAsked holds words) (asked_line words) paths asked worst told
+      lines_not_usage (IsAsked holds says words) (asked_line words) paths asked worst told
 
   -- a failure was reported by its status, or its line was lost
   pub ends_so : (f : Failure) (result : Status)
@@ -200,25 +201,26 @@ module _ {F : Type 0} (holds : F → Option (List ℕ)) where
         → (result ≡ status_of f) ⊎ (result ≡ status.Failed)
         → (result ≡ status.Malformed → Appends (contents old) (contents after) (failure_text f))
         → Begins (contents old) (contents after) (failure_text f)
-        → EndsFiles holds e paths result (contents old) (contents after)
+        → EndsFiles holds says e paths result (contents old) (contents after)
     list_ends fails (inl ends) (inl is) told begun = inl (inr (f, fails, sym is, ends, told ends))
     list_ends fails (inl ends) (inr is) told begun = absurd (let no : ⊥ = cc in no)
     list_ends fails (inr ends) is told begun = inr (ends, inr (f, fails, begun))
 
     pub reported_ends : (IsFailureOfList holds e f × (mid ≡ old))
-        ⊎ (IsLost f × IsCut holds e paths (contents old) (contents mid))
+        ⊎ (IsLost f × IsCut holds says e paths (contents old) (contents mid))
         → (result ≡ status_of f) ⊎ (result ≡ status.Failed)
         → (result ≡ status.Malformed → Appends (contents mid) (contents after) (failure_text f))
         → Begins (contents mid) (contents after) (failure_text f)
         → (status_of f ≡ status.Failed → after ≡ mid)
-        → EndsFiles holds e paths result (contents old) (contents after)
+        → EndsFiles holds says e paths result (contents old) (contents after)
     reported_ends (inl (fails, same)) is told begun kept =
         list_ends fails (reported_so {Y = ⊥} e f result (inl (fails, same)) is) is
         (λ m. subst (λ (w : W). Appends (contents w) (contents after) (failure_text f)) same (told m))
         (subst (λ (w : W). Begins (contents w) (contents after) (failure_text f)) same begun)
     reported_ends (inr (lost, cut)) is told begun kept = inr (
       failed_so is,
-      inl (subst (λ (w : W). IsCut holds e paths (contents old) (contents w)) (sym (kept (lost_fails f lost))) cut),
+      inl (subst (λ (w : W). IsCut holds says e paths (contents old) (contents w))
+          (sym (kept (lost_fails f lost))) cut),
     )
       where
         failed_so : (result ≡ status_of f) ⊎ (result ≡ status.Failed) → result ≡ status.Failed

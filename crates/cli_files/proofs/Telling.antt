@@ -18,6 +18,7 @@ use Rattle.cli_tasks.specs.declared.task.QuestionsEach.{QuestionsEach}
 use Rattle.check_questions.specs.QuestionsText.{question_lines}
 use Rattle.cli_commands.specs.Asking.{AsksNot, ShowsQuestions}
 use Rattle.cli_commands.specs.Lists.{IsAnswersOf}
+use Rattle.cli_commands.specs.Rereading.{Sayings}
 use Rattle.cli_commands.specs.Tasks.{MakesText, MakesNoText}
 use Rattle.cli_files.proofs.Taking.{appends_both, begins_behind, begins_front}
 use Rattle.cli_files.specs.Names.{heading_of, line_of}
@@ -93,12 +94,13 @@ all_told IsLineOf paths count text worst le told =
     subst (λ (ps : List (Bor (List ℕ))). AreTold IsLineOf ps text worst) (take_all count paths le) told
 
 -- what a task says, by what the function that does it returned
-pub said_by : {F T : Type 0} (bytes : T → List ℕ) (holds : F → Option (List ℕ)) (task : TextTask) (r : Result T Failure)
-    (text : List ℕ) (ends : Status)
+pub said_by : {F T : Type 0} (bytes : T → List ℕ) (holds : F → Option (List ℕ)) (says : Sayings F) (task : TextTask)
+    (r : Result T Failure) (text : List ℕ) (ends : Status)
     → IsSaid bytes r text ends
-    → IfOk r (λ v. MakesText holds task (bytes v)) → IfErr r (MakesNoText holds task) → Says holds task text ends
-said_by bytes holds task (Ok v) text ends (is, done) makes fails = inl (done, rw is makes)
-said_by bytes holds task (Err f) text ends (is, of) makes fails = inr (f, fails, sym of, is)
+    → IfOk r (λ v. MakesText holds task (bytes v)) → IfErr r (MakesNoText holds says task)
+    → Says holds says task text ends
+said_by bytes holds says task (Ok v) text ends (is, done) makes fails = inl (done, rw is makes)
+said_by bytes holds says task (Err f) text ends (is, of) makes fails = inr (f, fails, sym of, is)
 
 -- a line that was not printed, of a file that a command failed for
 pub said_lost : {T : Type 0} (octets : T → List ℕ) (r : Result T Failure) (f : Failure) (name : List ℕ)
@@ -113,11 +115,11 @@ said_lost octets r f name before after (Err e) is (lost, begun) =
 
 -- what is printed of a file by `questions`, by what the function that makes it returned
 pub headed_by :
-    {F T : Type 0} (bytes : T → List ℕ) (holds : F → Option (List ℕ)) (e : QuestionsEach) (path : Bor (List ℕ))
-    (r : Result T Failure) (text : List ℕ) (ends : Status) → IsHeaded bytes r path.now text ends
-    → IfOk r (λ v. ShowsQuestions holds (bytes v)) → IfErr r (AsksNot holds (questions_of e path))
-    → IsAsked holds e path text ends
-headed_by bytes holds e path (Ok v) text ends (done, heads)
+    {F T : Type 0} (bytes : T → List ℕ) (holds : F → Option (List ℕ)) (says : Sayings F) (e : QuestionsEach)
+    (path : Bor (List ℕ)) (r : Result T Failure) (text : List ℕ) (ends : Status) → IsHeaded bytes r path.now text ends
+    → IfOk r (λ v. ShowsQuestions holds (bytes v)) → IfErr r (AsksNot holds says (questions_of e path))
+    → IsAsked holds says e path text ends
+headed_by bytes holds says e path (Ok v) text ends (done, heads)
     (trust, file, listed, ((signers, qs, are, is), known)) fails = inl (
       done,
       (
@@ -126,7 +128,7 @@ headed_by bytes holds e path (Ok v) text ends (done, heads)
         heads (question_lines qs) is,
       ),
     )
-headed_by bytes holds e path (Err f) text ends (of, is) asks fails = inr (f, fails, sym of, is)
+headed_by bytes holds says e path (Err f) text ends (of, is) asks fails = inr (f, fails, sym of, is)
 
 module _ {T : Type 0} (octets : T → List ℕ) (r : Result T Failure) (name : List ℕ) where
   -- what is printed of a file by `questions`, or a beginning of it

@@ -1,5 +1,5 @@
 -- What a command prints that is asked of several files, and how it ends. `holds` is what an open file holds, if that is
--- known. Begin here.
+-- known, and `says` what it may say of itself. Begin here.
 --
 -- `check` and `fit` print a line for each file, in the order of the files: its name, a colon and a space, and what the
 -- command for that file alone says. `questions` prints one text: its first line once, and for each file a comment with
@@ -31,6 +31,7 @@ use Rattle.cli_tasks.specs.declared.task.TextTask.{TextTask}
 use Rattle.cli_tasks.specs.declared.task.TextTask.TheVariants as text
 use Rattle.cli_commands.specs.Asking.{AsksNot, ShowsQuestions}
 use Rattle.cli_commands.specs.Lists.{IsFailureOfAnswers, IsFailureOfTrust, IsTrustOf}
+use Rattle.cli_commands.specs.Rereading.{Sayings}
 use Rattle.cli_commands.specs.Tasks.{MakesText, MakesNoText}
 use Rattle.cli_files.specs.Names.{heading_of, line_of}
 use Rattle.cli_files.specs.Paths.{ListsNone, end_of, path_of_name, names_of}
@@ -55,14 +56,16 @@ abbrev pub questions_of : QuestionsEach → (path : Bor (List ℕ)) → Question
 questions_of e path = record { trust = e.trust; buffer = e.buffer; file = path }
 
 -- what a task says, and how it ends: it is done and gives a text, or it fails
-abbrev pub Says : {F : Type 0} → (holds : F → Option (List ℕ)) → TextTask → (said : List ℕ) → Status → Type 0
-Says holds task said ends = ((ends ≡ status.Done) × MakesText holds task said)
-    ⊎ ((f : Failure) × MakesNoText holds task f × (status_of f ≡ ends) × (said ≡ failure_text f))
+abbrev pub Says : {F : Type 0} → (holds : F → Option (List ℕ)) → (says : Sayings F) → TextTask → (said : List ℕ)
+    → Status → Type 0
+Says holds says task said ends = ((ends ≡ status.Done) × MakesText holds task said)
+    ⊎ ((f : Failure) × MakesNoText holds says task f × (status_of f ≡ ends) × (said ≡ failure_text f))
 
 -- the line of a file, of which this task says it, and how that task ends
-abbrev pub IsLine : {F : Type 0} → (holds : F → Option (List ℕ)) → (task : Bor (List ℕ) → TextTask)
+abbrev pub IsLine : {F : Type 0} → (holds : F → Option (List ℕ)) → (says : Sayings F) → (task : Bor (List ℕ) → TextTask)
     → (path : Bor (List ℕ)) → (line : List ℕ) → Status → Type 0
-IsLine holds task path line ends = (said : List ℕ) × Says holds (task path) said ends × (line ≡ line_of path.now said)
+IsLine holds says task path line ends =
+    (said : List ℕ) × Says holds says (task path) said ends × (line ≡ line_of path.now said)
 
 -- the first line of the text of questions
 abbrev pub first_line : List ℕ
@@ -70,11 +73,13 @@ first_line = codes "cmsproof questions 1" ++ (10 ∷ [])
 
 -- what is printed of a file by `questions`, and how the command for that file alone ends: a comment with its name, and
 -- what that command prints behind the first line; or a comment with the line of a file that fails
-abbrev pub IsAsked : {F : Type 0} → (holds : F → Option (List ℕ)) → QuestionsEach → (path : Bor (List ℕ))
+abbrev pub IsAsked : {F : Type 0} → (holds : F → Option (List ℕ)) → (says : Sayings F) → QuestionsEach
+    → (path : Bor (List ℕ))
     → (text : List ℕ) → Status → Type 0
-IsAsked holds e path text ends = ((ends ≡ status.Done) × ((asked : List ℕ) × ShowsQuestions holds (first_line ++ asked)
+IsAsked holds says e path text ends =
+    ((ends ≡ status.Done) × ((asked : List ℕ) × ShowsQuestions holds (first_line ++ asked)
     × (text ≡ heading_of path.now ++ asked)))
-    ⊎ ((f : Failure) × AsksNot holds (questions_of e path) f × (status_of f ≡ ends)
+    ⊎ ((f : Failure) × AsksNot holds says (questions_of e path) f × (status_of f ≡ ends)
     × (text ≡ codes "# " ++ line_of path.now (failure_text f)))
 
 -- the worse of two statuses: one of the two, and none is greater
@@ -92,12 +97,14 @@ pub data AreTold (IsLineOf : (path : Bor (List ℕ)) → (line : List ℕ) → S
       → AreTold IsLineOf (paths ++ (path ∷ [])) (text ++ line) worst
 
 -- the same for what a command asks of each file
-abbrev pub AreAll : {F : Type 0} → (holds : F → Option (List ℕ)) → Each → (paths : List (Bor (List ℕ)))
+abbrev pub AreAll : {F : Type 0} → (holds : F → Option (List ℕ)) → (says : Sayings F) → Each
+    → (paths : List (Bor (List ℕ)))
     → (text : List ℕ) → Status → Type 0
-AreAll holds (each.Check e) paths text worst = AreTold (IsLine holds (check_of e)) paths text worst
-AreAll holds (each.Fit e) paths text worst = AreTold (IsLine holds (fit_of e)) paths text worst
-AreAll holds (each.Questions e) paths text worst = (trust : List EntryValue) × (asked : List ℕ) × IsTrustOf holds trust
-    × AreTold (IsAsked holds e) paths asked worst × (text ≡ first_line ++ asked)
+AreAll holds says (each.Check e) paths text worst = AreTold (IsLine holds says (check_of e)) paths text worst
+AreAll holds says (each.Fit e) paths text worst = AreTold (IsLine holds says (fit_of e)) paths text worst
+AreAll holds says (each.Questions e) paths text worst =
+    (trust : List EntryValue) × (asked : List ℕ) × IsTrustOf holds trust
+    × AreTold (IsAsked holds says e) paths asked worst × (text ≡ first_line ++ asked)
 
 -- a list that is read for all files fails
 abbrev pub IsFailureOfList : {F : Type 0} → (holds : F → Option (List ℕ)) → Each → Failure → Type 0
@@ -114,32 +121,36 @@ abbrev pub Begins : (before after : Option (List ℕ)) → (text : List ℕ) →
 Begins before after text = (count : ℕ) × Appends before after (take count text)
 
 -- a writer took a beginning of what is printed of the first of these files
-abbrev pub IsCut : {F : Type 0} → (holds : F → Option (List ℕ)) → Each → (paths : List (Bor (List ℕ)))
+abbrev pub IsCut : {F : Type 0} → (holds : F → Option (List ℕ)) → (says : Sayings F) → Each
+    → (paths : List (Bor (List ℕ)))
     → (before after : Option (List ℕ)) → Type 0
-IsCut holds e paths before after = (count : ℕ) × (text : List ℕ) × (worst : Status)
-    × AreAll holds e (take count paths) text worst × Begins before after text
+IsCut holds says e paths before after = (count : ℕ) × (text : List ℕ) × (worst : Status)
+    × AreAll holds says e (take count paths) text worst × Begins before after text
 
 -- a writer took all that is printed of these files, or the line of a list that fails, and the command ends so, if what
 -- the writer takes is known
-abbrev pub TellsFiles : {F : Type 0} → (holds : F → Option (List ℕ)) → Each → (paths : List (Bor (List ℕ)))
+abbrev pub TellsFiles : {F : Type 0} → (holds : F → Option (List ℕ)) → (says : Sayings F) → Each
+    → (paths : List (Bor (List ℕ)))
     → Status → (before after : Option (List ℕ)) → Type 0
-TellsFiles holds e paths ends before after = ((text : List ℕ) × AreAll holds e paths text ends
+TellsFiles holds says e paths ends before after = ((text : List ℕ) × AreAll holds says e paths text ends
     × Appends before after text)
     ⊎ ((f : Failure) × IsFailureOfList holds e f × (status_of f ≡ ends) × (ends ≡ status.Malformed)
     × Appends before after (failure_text f))
 
 -- a command stopped: a writer took a beginning of what is printed of the first files, or of the line of a list that
 -- fails
-abbrev pub Stops : {F : Type 0} → (holds : F → Option (List ℕ)) → Each → (paths : List (Bor (List ℕ)))
+abbrev pub Stops : {F : Type 0} → (holds : F → Option (List ℕ)) → (says : Sayings F) → Each
+    → (paths : List (Bor (List ℕ)))
     → (before after : Option (List ℕ)) → Type 0
-Stops holds e paths before after = IsCut holds e paths before after
+Stops holds says e paths before after = IsCut holds says e paths before after
     ⊎ ((f : Failure) × IsFailureOfList holds e f × Begins before after (failure_text f))
 
 -- what is printed of these files, and how the command ends: it is told, or the command failed and stopped
-abbrev pub EndsFiles : {F : Type 0} → (holds : F → Option (List ℕ)) → Each → (paths : List (Bor (List ℕ)))
+abbrev pub EndsFiles : {F : Type 0} → (holds : F → Option (List ℕ)) → (says : Sayings F) → Each
+    → (paths : List (Bor (List ℕ)))
     → Status → (before after : Option (List ℕ)) → Type 0
-EndsFiles holds e paths ends before after = TellsFiles holds e paths ends before after
-    ⊎ ((ends ≡ status.Failed) × Stops holds e paths before after)
+EndsFiles holds says e paths ends before after = TellsFiles holds says e paths ends before after
+    ⊎ ((ends ≡ status.Failed) × Stops holds says e paths before after)
 
 -- these are the files: those that the words name, or those that a file names, which names some, all in UTF-8
 abbrev pub AreFiles : {F : Type 0} → (holds : F → Option (List ℕ)) → Several → List (Bor (List ℕ)) → Type 0
@@ -154,16 +165,16 @@ AreUnlisted holds (several.Words words) = ⊥
 AreUnlisted holds (several.Listed words) = (text : List ℕ) × IsHeld holds text × ListsNone (end_of words.null) text
 
 -- a writer took all that is printed of the files that a command is asked of, as TellsFiles says
-abbrev pub TellsMany : {F : Type 0} → (holds : F → Option (List ℕ)) → Many → Status
+abbrev pub TellsMany : {F : Type 0} → (holds : F → Option (List ℕ)) → (says : Sayings F) → Many → Status
     → (before after : Option (List ℕ)) → Type 0
-TellsMany holds many ends before after = (paths : List (Bor (List ℕ))) × AreFiles holds many.files paths
-    × TellsFiles holds many.each paths ends before after
+TellsMany holds says many ends before after = (paths : List (Bor (List ℕ))) × AreFiles holds many.files paths
+    × TellsFiles holds says many.each paths ends before after
 
 -- the same for the files that a command is asked of, or nothing was printed, since the list of the files failed
-abbrev pub EndsMany : {F : Type 0} → (holds : F → Option (List ℕ)) → Each → Several → Status
+abbrev pub EndsMany : {F : Type 0} → (holds : F → Option (List ℕ)) → (says : Sayings F) → Each → Several → Status
     → (before after : Option (List ℕ)) → Type 0
-EndsMany holds e files ends before after = ((paths : List (Bor (List ℕ))) × AreFiles holds files paths
-    × EndsFiles holds e paths ends before after) ⊎ ((ends ≡ status.Failed) × Keeps before after)
+EndsMany holds says e files ends before after = ((paths : List (Bor (List ℕ))) × AreFiles holds files paths
+    × EndsFiles holds says e paths ends before after) ⊎ ((ends ≡ status.Failed) × Keeps before after)
 
 -- what a function returned for a file says so, and the command for the file ends so
 abbrev pub IsSaid : {T : Type 0} → (octets : T → List ℕ) → Result T Failure → (text : List ℕ) → Status → Type 0

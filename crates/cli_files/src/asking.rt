@@ -12,7 +12,7 @@ use crate::lines::put_failure;
 use crate::names::heading_of;
 use crate::worst::worse;
 use crate::writing::put;
-use cli_commands::{ask_by, trust_in};
+use cli_commands::{Describes, ask_by, trust_in};
 use cli_failures::{Failure, Status};
 use cli_tasks::{QuestionsEach, QuestionsWords};
 use cmsproof_api::{Pass, QuestionsFault, Trust};
@@ -42,13 +42,14 @@ pub fn ask_all<'a, R, O>(
 ) -> Result<Status, Failure<'a>>
 where
     R: Files + AllocGlobal,
+    R::File: Describes,
     O: Write,
     ensures told { IfOk result (λ worst. (text : List ℕ)
-        × AreAll R.File.remaining (asked.Questions each.now) paths.now text worst
+        × AreAll R.File.remaining R.File.says (asked.Questions each.now) paths.now text worst
         × Appends (O.contents out.old) (O.contents out.new) text) }
     // Before the line of a list nothing was printed.
     ensures refused { IfErr result (λ f. (IsFailureOfTrust R.File.remaining each.now.trust f × (out.new ≡ out.old))
-        ⊎ (IsLost f × IsCut R.File.remaining (asked.Questions each.now) paths.now (O.contents out.old)
+        ⊎ (IsLost f × IsCut R.File.remaining R.File.says (asked.Questions each.now) paths.now (O.contents out.old)
         (O.contents out.new))) }
 {
     let trust = trust_in(rt, each.trust)?;
@@ -76,10 +77,13 @@ fn questions_by<'a, R: Files + AllocGlobal>(
     trust: &Trust,
     passing: &mut Pass,
 ) -> Result<Vec<u8>, Failure<'a>>
+where
+    R::File: Describes,
     // If the list is that of a file, the text and the failure are those of `questions`.
     ensures asked { IsTrustOf R.File.remaining trust.now
         → IfOk result (λ text. ShowsQuestions R.File.remaining text.items) }
-    ensures refused { IsTrustOf R.File.remaining trust.now → IfErr result (AsksNot R.File.remaining words.now) }
+    ensures refused { IsTrustOf R.File.remaining trust.now
+        → IfErr result (AsksNot R.File.remaining R.File.says words.now) }
 {
     let mut text = Vec::new(rt.alloc());
     match ask_by(rt, words, trust, &mut text, passing) {

@@ -7,7 +7,7 @@ ghost use Rattle.cli_files.specs.Lines.{AreAll, IsCut, IsLost};
 
 use crate::lines::put_said;
 use crate::worst::worse;
-use cli_commands::{answers_in, check_by, trust_in};
+use cli_commands::{Describes, answers_in, check_by, trust_in};
 use cli_failures::{Failure, Status};
 use cli_tasks::{CheckEach, CheckWords};
 use cmsproof_api::{Checker, Pass, Policy};
@@ -30,14 +30,16 @@ pub fn check_all<'a, R, O>(
 ) -> Result<Status, Failure<'a>>
 where
     R: Files + AllocGlobal,
+    R::File: Describes,
     O: Write,
     ensures told { IfOk result (λ worst. (text : List ℕ)
-        × AreAll R.File.remaining (asked.Check each.now) paths.now text worst
+        × AreAll R.File.remaining R.File.says (asked.Check each.now) paths.now text worst
         × Appends (O.contents out.old) (O.contents out.new) text) }
     // Before the line of a list nothing was printed.
     ensures refused { IfErr result (λ f. ((IsFailureOfTrust R.File.remaining each.now.trust f
         ⊎ IsFailureOfAnswers R.File.remaining each.now.answers f) × (out.new ≡ out.old)) ⊎ (IsLost f
-        × IsCut R.File.remaining (asked.Check each.now) paths.now (O.contents out.old) (O.contents out.new))) }
+        × IsCut R.File.remaining R.File.says (asked.Check each.now) paths.now (O.contents out.old)
+        (O.contents out.new))) }
 {
     let trust = trust_in(rt, each.trust)?;
     let mut answers = answers_in(rt, each.answers)?;

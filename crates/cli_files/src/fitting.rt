@@ -6,7 +6,7 @@ ghost use Rattle.cli_files.specs.Lines.{AreAll, IsCut, IsLost};
 
 use crate::lines::put_said;
 use crate::worst::worse;
-use cli_commands::text_of;
+use cli_commands::{Describes, text_of};
 use cli_failures::{Failure, Status};
 use cli_tasks::{FitEach, FitWords, TextTask};
 use std::io::Write;
@@ -23,11 +23,12 @@ pub fn fit_all<'a, R, O>(
 ) -> Result<Status, Failure<'a>>
 where
     R: Files + AllocGlobal,
+    R::File: Describes,
     O: Write,
     ensures told { IfOk result (λ worst. (text : List ℕ)
-        × AreAll R.File.remaining (asked.Fit each.now) paths.now text worst
+        × AreAll R.File.remaining R.File.says (asked.Fit each.now) paths.now text worst
         × Appends (O.contents out.old) (O.contents out.new) text) }
-    ensures lost { IfErr result (λ f. IsLost f × IsCut R.File.remaining (asked.Fit each.now) paths.now
+    ensures lost { IfErr result (λ f. IsLost f × IsCut R.File.remaining R.File.says (asked.Fit each.now) paths.now
         (O.contents out.old) (O.contents out.new)) }
 {
     let mut worst = Status::Done;

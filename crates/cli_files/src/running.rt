@@ -10,6 +10,7 @@ use crate::checking::check_all;
 use crate::fitting::fit_all;
 use crate::paths::paths_in;
 use crate::stopping::stop;
+use cli_commands::Describes;
 use cli_failures::{Failure, Status, files};
 use cli_tasks::{Each, ListWords, Many, Several};
 use std::alloc::Global;
@@ -26,12 +27,13 @@ const LIST: &str = "files-from";
 pub fn run<R, O, E>(rt: &R, many: &Many<'_>, out: &mut O, err: &mut E) -> Status
 where
     R: Files + AllocGlobal,
+    R::File: Describes,
     O: Write,
     E: Write,
     // With a status other than `Usage` the output took what is printed of all the files, and the status is the worst of
     // theirs; or it took the line of a list that isn't as it must be; or the command failed and stopped, and the output
     // took a beginning of that, if it is known what it takes. A list of the files names some, all in UTF-8.
-    ensures told { result ≢ Status.Usage → EndsMany R.File.remaining many.now.each many.now.files result
+    ensures told { result ≢ Status.Usage → EndsMany R.File.remaining R.File.says many.now.each many.now.files result
         (O.contents out.old) (O.contents out.new) }
     // With `Usage` the files are in a list that names none, or in which a name isn't UTF-8.
     ensures usage { result ≡ Status.Usage → AreUnlisted R.File.remaining many.now.files }
@@ -56,9 +58,11 @@ fn tell_listed<R, O, E>(
 ) -> Status
 where
     R: Files + AllocGlobal,
+    R::File: Describes,
     O: Write,
     E: Write,
-    ensures told { result ≢ Status.Usage → EndsMany R.File.remaining each.now (Several.Listed words.now) result
+    ensures told { result ≢ Status.Usage
+        → EndsMany R.File.remaining R.File.says each.now (Several.Listed words.now) result
         (O.contents out.old) (O.contents out.new) }
     ensures usage { result ≡ Status.Usage → AreUnlisted R.File.remaining (Several.Listed words.now) }
     ensures silent { result ≡ Status.Usage → out.new ≡ out.old }
@@ -103,9 +107,11 @@ fn named_in(alloc: Global, text: &[u8], null: bool) -> Result<Vec<&str>, Failure
 fn tell<R, O, E>(rt: &R, each: &Each<'_>, paths: &[&str], out: &mut O, err: &mut E) -> Status
 where
     R: Files + AllocGlobal,
+    R::File: Describes,
     O: Write,
     E: Write,
-    ensures told { EndsFiles R.File.remaining each.now paths.now result (O.contents out.old) (O.contents out.new) }
+    ensures told { EndsFiles R.File.remaining R.File.says each.now paths.now result (O.contents out.old)
+        (O.contents out.new) }
     ensures silent { result ≢ Status.Usage }
     ensures quiet { (result ≡ Status.Failed) ⊎ (err.new ≡ err.old) }
 {
@@ -126,12 +132,15 @@ fn all<'a, R, O>(
 ) -> Result<Status, Failure<'a>>
 where
     R: Files + AllocGlobal,
+    R::File: Describes,
     O: Write,
-    ensures told { IfOk result (λ worst. (text : List ℕ) × AreAll R.File.remaining each.now paths.now text worst
+    ensures told { IfOk result
+        (λ worst. (text : List ℕ) × AreAll R.File.remaining R.File.says each.now paths.now text worst
         × Appends (O.contents out.old) (O.contents out.new) text) }
     // Before the line of a list nothing was printed.
     ensures refused { IfErr result (λ f. (IsFailureOfList R.File.remaining each.now f × (out.new ≡ out.old))
-        ⊎ (IsLost f × IsCut R.File.remaining each.now paths.now (O.contents out.old) (O.contents out.new))) }
+        ⊎ (IsLost f × IsCut R.File.remaining R.File.says each.now paths.now (O.contents out.old)
+        (O.contents out.new))) }
 {
     match each {
         Each::Check(words) => check_all(rt, words, paths, out),

@@ -1,5 +1,5 @@
 -- What the program prints once it has done what its words ask for. `holds` is what an open file holds, if that is
--- known.
+-- known, and `says` what it may say of itself.
 use Rattle.std.specs.Prelude.{◌≡◌, ◌⊎◌, ℕ, List, Option}
 use Rattle.std.specs.Borrow.{Bor}
 use Rattle.std.specs.String.{string_bytes}
@@ -7,24 +7,28 @@ use Rattle.cli_failures.specs.declared.status.Status.TheVariants as status
 use Rattle.cli_tasks.specs.declared.task.Many.{Many}
 use Rattle.cli_words.specs.declared.meaning.Meaning.{Meaning}
 use Rattle.cli_words.specs.declared.meaning.Meaning.TheVariants as meaning
+use Rattle.cli_commands.specs.Rereading.{Sayings}
 use Rattle.cli_commands.specs.Tasks.{IsDoneBy}
 use Rattle.cli_commands.specs.Telling.{TellsMalformed, TellsRefusal}
 use Rattle.cli_files.specs.Lines.{AreAll, AreFiles, TellsMany}
 
 -- of a task what its command prints, of what is asked of several files the lines of all, and of help its text
-abbrev pub IsToldBy : {F : Type 0} → (holds : F → Option (List ℕ)) → Meaning → (text : List ℕ) → Type 0
-IsToldBy holds (meaning.Task task) text = IsDoneBy holds task text
-IsToldBy holds (meaning.Many many) text = (paths : List (Bor (List ℕ))) × AreFiles holds many.files paths
-    × AreAll holds many.each paths text status.Done
-IsToldBy holds (meaning.Help help) text = text ≡ string_bytes help
+abbrev pub IsToldBy : {F : Type 0} → (holds : F → Option (List ℕ)) → (says : Sayings F) → Meaning → (text : List ℕ)
+    → Type 0
+IsToldBy holds says (meaning.Task task) text = IsDoneBy holds task text
+IsToldBy holds says (meaning.Many many) text = (paths : List (Bor (List ℕ))) × AreFiles holds many.files paths
+    × AreAll holds says many.each paths text status.Done
+IsToldBy holds says (meaning.Help help) text = text ≡ string_bytes help
 
 -- a writer took the line of a file that isn't of its form, or the lines of several of which this is the worst that is
 -- said, if what it takes is known
-abbrev pub TellsFaults : {F : Type 0} → (holds : F → Option (List ℕ)) → (before after : Option (List ℕ)) → Type 0
-TellsFaults holds before after = TellsMalformed before after
-    ⊎ ((many : Many) × TellsMany holds many status.Malformed before after)
+abbrev pub TellsFaults : {F : Type 0} → (holds : F → Option (List ℕ)) → (says : Sayings F)
+    → (before after : Option (List ℕ)) → Type 0
+TellsFaults holds says before after = TellsMalformed before after
+    ⊎ ((many : Many) × TellsMany holds says many status.Malformed before after)
 
 -- the same of a rule that refuses a file
-abbrev pub TellsRefusals : {F : Type 0} → (holds : F → Option (List ℕ)) → (before after : Option (List ℕ)) → Type 0
-TellsRefusals holds before after = TellsRefusal before after
-    ⊎ ((many : Many) × TellsMany holds many status.Refused before after)
+abbrev pub TellsRefusals : {F : Type 0} → (holds : F → Option (List ℕ)) → (says : Sayings F)
+    → (before after : Option (List ℕ)) → Type 0
+TellsRefusals holds says before after = TellsRefusal before after
+    ⊎ ((many : Many) × TellsMany holds says many status.Refused before after)

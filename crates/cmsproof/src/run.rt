@@ -4,6 +4,7 @@ ghost use Rattle.cli_words.specs.declared.meaning.Meaning.{Meaning};
 ghost use Rattle.cmsproof.specs.Telling.{IsToldBy, TellsFaults, TellsRefusals};
 
 use crate::asking::asked;
+use cli_commands::Describes;
 use cli_failures::{Failure, Status};
 use cli_words::Meaning;
 use std::convert::AsStr;
@@ -18,19 +19,20 @@ use std::rt::{Env, Files};
 pub fn run<R, S, O, E>(rt: &R, words: &[S], out: &mut O, err: &mut E) -> Status
 where
     R: Files + AllocGlobal,
+    R::File: Describes,
     S: AsStr,
     O: Write,
     E: Write,
     // Once it is done, what was asked for is on the standard output.
     ensures done { result ≡ Status.Done → (meaning : Meaning) × (text : List ℕ)
-        × IsToldBy R.File.remaining meaning text × Appends (O.contents out.old) (O.contents out.new) text }
+        × IsToldBy R.File.remaining R.File.says meaning text × Appends (O.contents out.old) (O.contents out.new) text }
     // After a fault of the words or of a value nothing is on the standard output; for a fault of a file its line is,
     // and likewise for a file that is refused. Of several files there is a line for each, if one of them is the worst.
     ensures silent { result ≡ Status.Usage → out.new ≡ out.old }
     ensures malformed { result ≡ Status.Malformed
-        → TellsFaults R.File.remaining (O.contents out.old) (O.contents out.new) }
+        → TellsFaults R.File.remaining R.File.says (O.contents out.old) (O.contents out.new) }
     ensures refused { result ≡ Status.Refused
-        → TellsRefusals R.File.remaining (O.contents out.old) (O.contents out.new) }
+        → TellsRefusals R.File.remaining R.File.says (O.contents out.old) (O.contents out.new) }
     ensures quiet { (result ≡ Status.Usage) ⊎ ((result ≡ Status.Failed) ⊎ (err.new ≡ err.old)) }
 {
     match asked(rt, words) {
@@ -43,15 +45,16 @@ where
 fn tell<R, O, E>(rt: &R, meaning: Meaning<'_>, out: &mut O, err: &mut E) -> Status
 where
     R: Files + AllocGlobal,
+    R::File: Describes,
     O: Write,
     E: Write,
-    ensures done { result ≡ Status.Done → (text : List ℕ) × IsToldBy R.File.remaining meaning.entry text
+    ensures done { result ≡ Status.Done → (text : List ℕ) × IsToldBy R.File.remaining R.File.says meaning.entry text
         × Appends (O.contents out.old) (O.contents out.new) text }
     ensures silent { result ≡ Status.Usage → out.new ≡ out.old }
     ensures malformed { result ≡ Status.Malformed
-        → TellsFaults R.File.remaining (O.contents out.old) (O.contents out.new) }
+        → TellsFaults R.File.remaining R.File.says (O.contents out.old) (O.contents out.new) }
     ensures refused { result ≡ Status.Refused
-        → TellsRefusals R.File.remaining (O.contents out.old) (O.contents out.new) }
+        → TellsRefusals R.File.remaining R.File.says (O.contents out.old) (O.contents out.new) }
     ensures quiet { (result ≡ Status.Usage) ⊎ ((result ≡ Status.Failed) ⊎ (err.new ≡ err.old)) }
 {
     match meaning {

@@ -3,7 +3,7 @@ use Rattle.cli_commands.proofs.telling.tell_questions.Goals as goal
 
 pub returns-in-Err-clause-told : goal.returns-in-Err-clause-told
 returns-in-Err-clause-told g c =
-    questions_told c.in-Err.failure c.report.result _ _ _ c.report.ensures.status c.in-Err.ensures.kept _ _
+    questions_told c.in-Err.failure c.report.result _ _ _ c.report.ensures.status c.in-Err.ensures.kept _ _ _
     c.in-Err.ensures.refused c.report.ensures.told c.report.ensures.refused
 
 pub returns-in-Err-clause-malformed : goal.returns-in-Err-clause-malformed
@@ -17,4 +17,4 @@ returns-in-Err-clause-refused g c =
 
 pub returns-in-Err-clause-silent : goal.returns-in-Err-clause-silent
 returns-in-Err-clause-silent g c =
-    never_usage _ _ c.in-Err.failure c.report.result c.in-Err.ensures.refused c.report.ensures.status
+    never_usage _ _ _ c.in-Err.failure c.report.result c.in-Err.ensures.refused c.report.ensures.status

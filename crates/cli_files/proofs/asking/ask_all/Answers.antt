@@ -28,7 +28,7 @@ loop-path-preserved g c =
     get_or c.args.paths.now c.loop-path.path-index (record { ref_ptr = (0, 0); now = [] }) in (
       headed,
       begun,
-      told_next (IsAsked g.R.File.Read.remaining c.args.each.now) c.args.paths.now
+      told_next (IsAsked g.R.File.Read.remaining g.R.File.Describes.says c.args.each.now) c.args.paths.now
           (record { ref_ptr = (0, 0); now = [] })
           c.loop-path.path-index (c.loop-path.path-index + 1) headed (g.O.Write.contents c.loop-path.out)
           (g.O.Write.contents c.put_asked.new.out) c.loop-path.worst c.worse-worst.result c.loop-path-test.true
@@ -36,7 +36,8 @@ loop-path-preserved g c =
             line = text;
             ends = c.in_ok-put_asked.field-0;
             says = headed_by
-                (λ (v : _). v.items) g.R.File.Read.remaining c.args.each.now path c.questions_by-said.result text
+                (λ (v : _). v.items) g.R.File.Read.remaining g.R.File.Describes.says c.args.each.now path
+                c.questions_by-said.result text
                 c.in_ok-put_asked.field-0 said (c.questions_by-said.ensures.asked c.in_ok-trust.ensures.found)
                 (c.questions_by-said.ensures.refused c.in_ok-trust.ensures.found);
             takes = took;
@@ -50,11 +51,13 @@ returns-in_err-put_asked-clause-refused g c =
     let (lost, (text, ends, said, cut)) = c.in_err-put_asked.ensures.lost in
     let (headed, begun, told) = c.loop-path.invariant in
     let path : Bor (List ℕ) = get_or c.args.paths.now c.loop-path.path-index (record { ref_ptr = (0, 0); now = [] }) in
-    let (count, texts, worst, all, part) = cut_next (IsAsked g.R.File.Read.remaining c.args.each.now) c.args.paths.now
+    let (count, texts, worst, all, part) =
+    cut_next (IsAsked g.R.File.Read.remaining g.R.File.Describes.says c.args.each.now) c.args.paths.now
     (record { ref_ptr = (0, 0); now = [] }) c.loop-path.path-index headed (g.O.Write.contents c.loop-path.out)
     (g.O.Write.contents c.put_asked.new.out) c.loop-path.worst ends text c.loop-path-test.true told
     (headed_by
-    (λ (v : _). v.items) g.R.File.Read.remaining c.args.each.now path c.questions_by-said.result text ends said
+    (λ (v : _). v.items) g.R.File.Read.remaining g.R.File.Describes.says c.args.each.now path c.questions_by-said.result
+    text ends said
     (c.questions_by-said.ensures.asked c.in_ok-trust.ensures.found)
     (c.questions_by-said.ensures.refused c.in_ok-trust.ensures.found)) cut in
     rw (p.1, p.2) (inr (
@@ -77,7 +80,8 @@ returns-clause-told g c =
         _,
         text,
         c.in_ok-trust.ensures.found,
-        all_told (IsAsked g.R.File.Read.remaining c.args.each.now) c.args.paths.now c.loop-path.path-index text
+        all_told (IsAsked g.R.File.Read.remaining g.R.File.Describes.says c.args.each.now) c.args.paths.now
+            c.loop-path.path-index text
             c.loop-path.worst
             (omega arith) told,
         refl,

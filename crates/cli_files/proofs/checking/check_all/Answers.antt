@@ -29,7 +29,8 @@ loop-path-preserved g c =
     let h = c.loop-path.invariant in
     let path : Bor (List ℕ) = get_or c.args.paths.now c.loop-path.path-index (record { ref_ptr = (0, 0); now = [] }) in
     record {
-      told = told_next (IsLine g.R.File.Read.remaining (check_of c.args.each.now)) c.args.paths.now
+      told =
+          told_next (IsLine g.R.File.Read.remaining g.R.File.Describes.says (check_of c.args.each.now)) c.args.paths.now
           (record { ref_ptr = (0, 0); now = [] })
           c.loop-path.path-index (c.loop-path.path-index + 1)
           (g.O.Write.contents c.args.out.now) (g.O.Write.contents c.loop-path.out)
@@ -39,7 +40,7 @@ loop-path-preserved g c =
             ends = c.in_ok-put_said.field-0;
             says = (
               text,
-              said_by (λ (v : _). v.items) g.R.File.Read.remaining
+              said_by (λ (v : _). v.items) g.R.File.Read.remaining g.R.File.Describes.says
                   (check_of c.args.each.now path) c.check_by-said.result text
                   c.in_ok-put_said.field-0 said
                   (c.check_by-said.ensures.accepted h.goes_by h.answers)
@@ -62,13 +63,13 @@ returns-in_err-put_said-clause-refused g c =
     let path : Bor (List ℕ) = get_or c.args.paths.now c.loop-path.path-index (record { ref_ptr = (0, 0); now = [] }) in
     rw (p.1, p.2) (inr (
       lost,
-      cut_next (IsLine g.R.File.Read.remaining (check_of c.args.each.now)) c.args.paths.now
+      cut_next (IsLine g.R.File.Read.remaining g.R.File.Describes.says (check_of c.args.each.now)) c.args.paths.now
           (record { ref_ptr = (0, 0); now = [] }) c.loop-path.path-index (g.O.Write.contents c.args.out.now)
           (g.O.Write.contents c.loop-path.out)
           (g.O.Write.contents c.put_said.new.out) c.loop-path.worst ends
           (line_of path.now text) c.loop-path-test.true h.told (
             text,
-            said_by (λ (v : _). v.items) g.R.File.Read.remaining
+            said_by (λ (v : _). v.items) g.R.File.Read.remaining g.R.File.Describes.says
                 (check_of c.args.each.now path) c.check_by-said.result text ends said
                 (c.check_by-said.ensures.accepted h.goes_by h.answers)
                 (c.check_by-said.ensures.refused h.goes_by h.answers),

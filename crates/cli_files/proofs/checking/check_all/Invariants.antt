@@ -8,7 +8,8 @@ use Rattle.cli_files.proofs.checking.check_all.Given as goal
 abbrev pub invariant-loop-path : goal.invariant-loop-path
 invariant-loop-path g l = record {
   told : (text : List ℕ)
-      × AreTold (IsLine g.R.File.Read.remaining (check_of l.each)) (take l.path-index l.paths) text l.worst
+      × AreTold (IsLine g.R.File.Read.remaining g.R.File.Describes.says (check_of l.each))
+      (take l.path-index l.paths) text l.worst
       × Appends (g.O.Write.contents l.fn.out) (g.O.Write.contents l.out) text;
   goes_by : IsCheckerOf g.R.File.Read.remaining l.each.sha1 l.checker;
   answers : IsAnswersOf g.R.File.Read.remaining l.answers;

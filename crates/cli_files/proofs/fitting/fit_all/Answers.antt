@@ -14,7 +14,7 @@ pub loop-path-preserved : goal.loop-path-preserved
 loop-path-preserved g c =
     let (text, said, took) = c.in_ok-put_said.ensures.put in
     let path : Bor (List ℕ) = get_or c.args.paths.now c.loop-path.path-index (record { ref_ptr = (0, 0); now = [] }) in
-    told_next (IsLine g.R.File.Read.remaining (fit_of c.args.each.now)) c.args.paths.now
+    told_next (IsLine g.R.File.Read.remaining g.R.File.Describes.says (fit_of c.args.each.now)) c.args.paths.now
     (record { ref_ptr = (0, 0); now = [] })
     c.loop-path.path-index (c.loop-path.path-index + 1)
     (g.O.Write.contents c.args.out.now) (g.O.Write.contents c.loop-path.out) (g.O.Write.contents c.put_said.new.out)
@@ -23,7 +23,8 @@ loop-path-preserved g c =
       ends = c.in_ok-put_said.field-0;
       says = (
         text,
-        said_by (λ (v : _). v.items) g.R.File.Read.remaining (fit_of c.args.each.now path) c.text_of-said.result text
+        said_by (λ (v : _). v.items) g.R.File.Read.remaining g.R.File.Describes.says
+            (fit_of c.args.each.now path) c.text_of-said.result text
             c.in_ok-put_said.field-0 said c.text_of-said.ensures.done c.text_of-said.ensures.failed,
         refl,
       );
@@ -38,13 +39,13 @@ returns-in_err-put_said-clause-lost g c =
     let path : Bor (List ℕ) = get_or c.args.paths.now c.loop-path.path-index (record { ref_ptr = (0, 0); now = [] }) in
     rw (p.1, p.2) (
       lost,
-      cut_next (IsLine g.R.File.Read.remaining (fit_of c.args.each.now)) c.args.paths.now
+      cut_next (IsLine g.R.File.Read.remaining g.R.File.Describes.says (fit_of c.args.each.now)) c.args.paths.now
           (record { ref_ptr = (0, 0); now = [] }) c.loop-path.path-index (g.O.Write.contents c.args.out.now)
           (g.O.Write.contents c.loop-path.out)
           (g.O.Write.contents c.put_said.new.out) c.loop-path.worst ends
           (line_of path.now text) c.loop-path-test.true c.loop-path.invariant (
             text,
-            said_by (λ (v : _). v.items) g.R.File.Read.remaining
+            said_by (λ (v : _). v.items) g.R.File.Read.remaining g.R.File.Describes.says
                 (fit_of c.args.each.now path) c.text_of-said.result text ends said
                 c.text_of-said.ensures.done c.text_of-said.ensures.failed,
             refl,

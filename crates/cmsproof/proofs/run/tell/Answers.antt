@@ -5,20 +5,23 @@ use Rattle.cmsproof.proofs.run.tell.Goals as goal
 pub returns-in-Many-clause-done : goal.returns-in-Many-clause-done
 returns-in-Many-clause-done g c = λ ends.
     rw c.in-Many.is
-    (many_done g.R.File.Read.remaining c.in-Many.many c.run-in-Many.result _ _ c.run-in-Many.ensures.told ends)
+    (many_done g.R.File.Read.remaining g.R.File.Describes.says c.in-Many.many c.run-in-Many.result _ _
+    c.run-in-Many.ensures.told ends)
 
 pub returns-in-Many-clause-malformed : goal.returns-in-Many-clause-malformed
 returns-in-Many-clause-malformed g c = λ ends.
     inr (
       c.in-Many.many,
-      many_malformed g.R.File.Read.remaining c.in-Many.many c.run-in-Many.result _ _ c.run-in-Many.ensures.told ends,
+      many_malformed g.R.File.Read.remaining g.R.File.Describes.says c.in-Many.many c.run-in-Many.result _ _
+          c.run-in-Many.ensures.told ends,
     )
 
 pub returns-in-Many-clause-refused : goal.returns-in-Many-clause-refused
 returns-in-Many-clause-refused g c = λ ends.
     inr (
       c.in-Many.many,
-      many_refused g.R.File.Read.remaining c.in-Many.many c.run-in-Many.result _ _ c.run-in-Many.ensures.told ends,
+      many_refused g.R.File.Read.remaining g.R.File.Describes.says c.in-Many.many c.run-in-Many.result _ _
+          c.run-in-Many.ensures.told ends,
     )
 
 pub returns-in-Task-clause-malformed : goal.returns-in-Task-clause-malformed

@@ -44,6 +44,57 @@ pub static ALGORITHMS: [&str; 7] = [
 /// What a file may be read as.
 pub static KINDS: [&str; 4] = ["request", "response", "signed", "tst"];
 
+/// The list of whom to trust, of `check` and `questions`.
+const TRUST: Word = Word {
+    name: "trust",
+    takes: Takes::Text("TRUST"),
+    required: true,
+    help: "The trust list, as --trust trusted.txt (no default)",
+};
+
+/// The content that is handed in, of `fit` and `check`.
+const CONTENT: Word = Word {
+    name: "content",
+    takes: Takes::Text("CONTENT"),
+    required: false,
+    help: "The file that was signed, as --content document.pdf, if FILE doesn't hold it (by default FILE does); it \
+           is read once, in pieces, and may have up to 2^40 octets",
+};
+
+/// How many octets may be kept, of `check` and `questions`.
+const BUFFER: Word = Word {
+    name: "buffer",
+    takes: Takes::Octets,
+    required: false,
+    help: "How many octets of FILE may be kept while it is read, 1 to 1073741824, as --buffer 65536 (by default \
+           67108864 of a regular file, and 1048576 of what can be read only once)",
+};
+
+/// The list of the files, in the place of their names.
+const FILES_FROM: Word = Word {
+    name: "files-from",
+    takes: Takes::List("FILE", "LIST"),
+    required: false,
+    help: "Reads the names of the files from LIST, a line for each, in place of FILE, as --files-from names.txt or \
+           --files-from - (by default the files are named on the command line)",
+};
+
+/// How a name in such a list ends.
+const NULL: Word = Word {
+    name: "null",
+    takes: Takes::NothingOf("files-from", '0'),
+    required: false,
+    help: "Each name in LIST ends in an octet 0, as `find -print0` writes them (by default in a line feed)",
+};
+
+/// The files, of `fit` and `questions`.
+const FILES: Word = Word {
+    name: "FILE",
+    takes: Takes::Places("files-from"),
+    required: false,
+    help: "The files to read, as signed.p7s (no default)",
+};
+
 /// The words of `request`, in the order of its help.
 pub static REQUEST: [Word; 8] = [
     Word {
@@ -125,38 +176,16 @@ pub static CERTIFICATE: [Word; 1] = [Word {
 
 /// The words of `fit`, in the order of its help.
 pub static FIT: [Word; 5] = [
-    Word {
-        name: "content",
-        takes: Takes::Text("CONTENT"),
-        required: false,
-        help: "The file that was signed, as --content document.pdf, if FILE doesn't hold it (by default FILE does); it \
-               is read once, in pieces, and may have up to 2^40 octets",
-    },
+    CONTENT,
     Word {
         name: "sha1",
         takes: Takes::Nothing,
         required: false,
         help: "Allows SHA-1 as a signer's digest algorithm (by default it is refused)",
     },
-    Word {
-        name: "files-from",
-        takes: Takes::List("FILE", "LIST"),
-        required: false,
-        help: "Reads the names of the files from LIST, a line for each, in place of FILE, as --files-from names.txt or \
-               --files-from - (by default the files are named on the command line)",
-    },
-    Word {
-        name: "null",
-        takes: Takes::NothingOf("files-from", '0'),
-        required: false,
-        help: "Each name in LIST ends in an octet 0, as `find -print0` writes them (by default in a line feed)",
-    },
-    Word {
-        name: "FILE",
-        takes: Takes::Places("files-from"),
-        required: false,
-        help: "The files to read, as signed.p7s (no default)",
-    },
+    FILES_FROM,
+    NULL,
+    FILES,
 ];
 
 /// The words of `match`, in the order of its help.
@@ -184,51 +213,23 @@ pub static MATCH: [Word; 3] = [
 
 /// The words of `check`, in the order of its help.
 pub static CHECK: [Word; 8] = [
-    Word {
-        name: "trust",
-        takes: Takes::Text("TRUST"),
-        required: true,
-        help: "The trust list, as --trust trusted.txt (no default)",
-    },
+    TRUST,
     Word {
         name: "answers",
         takes: Takes::Text("ANSWERS"),
         required: true,
         help: "The answers list, as --answers answers.txt (no default)",
     },
-    Word {
-        name: "content",
-        takes: Takes::Text("CONTENT"),
-        required: false,
-        help: "The file that was signed, as --content document.pdf, if FILE doesn't hold it (by default FILE does); it \
-               is read once, in pieces, and may have up to 2^40 octets",
-    },
+    CONTENT,
     Word {
         name: "sha1",
         takes: Takes::Nothing,
         required: false,
         help: "Allows SHA-1 as a digest algorithm of signers and imprints (by default it is refused)",
     },
-    Word {
-        name: "buffer",
-        takes: Takes::Octets,
-        required: false,
-        help: "How many octets of FILE may be kept while it is read, 1 to 1073741824, as --buffer 65536 (by default \
-               67108864 of a regular file, and 1048576 of what can be read only once)",
-    },
-    Word {
-        name: "files-from",
-        takes: Takes::List("FILE", "LIST"),
-        required: false,
-        help: "Reads the names of the files from LIST, a line for each, in place of FILE, as --files-from names.txt or \
-               --files-from - (by default the files are named on the command line)",
-    },
-    Word {
-        name: "null",
-        takes: Takes::NothingOf("files-from", '0'),
-        required: false,
-        help: "Each name in LIST ends in an octet 0, as `find -print0` writes them (by default in a line feed)",
-    },
+    BUFFER,
+    FILES_FROM,
+    NULL,
     Word {
         name: "FILE",
         takes: Takes::Places("files-from"),
@@ -239,40 +240,7 @@ pub static CHECK: [Word; 8] = [
 ];
 
 /// The words of `questions`, in the order of its help.
-pub static QUESTIONS: [Word; 5] = [
-    Word {
-        name: "trust",
-        takes: Takes::Text("TRUST"),
-        required: true,
-        help: "The trust list, as --trust trusted.txt (no default)",
-    },
-    Word {
-        name: "buffer",
-        takes: Takes::Octets,
-        required: false,
-        help: "How many octets of FILE may be kept while it is read, 1 to 1073741824, as --buffer 65536 (by default \
-               67108864 of a regular file, and 1048576 of what can be read only once)",
-    },
-    Word {
-        name: "files-from",
-        takes: Takes::List("FILE", "LIST"),
-        required: false,
-        help: "Reads the names of the files from LIST, a line for each, in place of FILE, as --files-from names.txt or \
-               --files-from - (by default the files are named on the command line)",
-    },
-    Word {
-        name: "null",
-        takes: Takes::NothingOf("files-from", '0'),
-        required: false,
-        help: "Each name in LIST ends in an octet 0, as `find -print0` writes them (by default in a line feed)",
-    },
-    Word {
-        name: "FILE",
-        takes: Takes::Places("files-from"),
-        required: false,
-        help: "The files to read, as signed.p7s (no default)",
-    },
-];
+pub static QUESTIONS: [Word; 5] = [TRUST, BUFFER, FILES_FROM, NULL, FILES];
 
 /// The words of `attach`, in the order of its help.
 pub static ATTACH: [Word; 4] = [

@@ -44,7 +44,8 @@ only g c w h =
 pub returns-in-Ok-put_file-clause-only : goal.returns-in-Ok-put_file-clause-only
 returns-in-Ok-put_file-clause-only g c = λ w h.
     subst (λ (x : List ℕ). Wrote (Ok c.in-Ok-put_file.field-0)
-    (g.S.Sink.tells c.args.out.now) (g.S.Sink.taken c.args.out.now) (g.S.Sink.taken c.put_file.new.out) (g.S.Sink.failures c.args.out.now) (g.S.Sink.failures c.put_file.new.out) x)
+    (g.S.Sink.tells c.args.out.now) (g.S.Sink.taken c.args.out.now) (g.S.Sink.taken c.put_file.new.out)
+    (g.S.Sink.failures c.args.out.now) (g.S.Sink.failures c.put_file.new.out) x)
     (c.in-Ok.ensures.opens ∙ only g (goal.at.returns-in-Ok-put_file-clause-only g c).After-put_file w h)
     c.in-Ok-put_file.ensures.wrote
 

@@ -1,5 +1,4 @@
 pub mod AnswersAsBox
-pub mod AnswersAsKept
 pub mod Held
+pub mod Kept
 pub mod TrustAsBox
-pub mod TrustAsKept

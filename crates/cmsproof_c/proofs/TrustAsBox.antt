@@ -6,22 +6,20 @@ use Rattle.std_alloc.proofs.BoxSteps.Form.{Bx}
 use Rattle.std_heap.specs.contracts.Global as Heap
 use Rattle.std_heap.specs.contracts.GlobalAllocator.TheImpl.{ghosts, dict}
 use Rattle.std_heap.proofs.Global.TheLaws as heap
-use Rattle.trust_lists.specs.contracts.trust.Trust as Things
-use Rattle.trust_lists.proofs.trust.Trust.TheLaws as things
-use Rattle.std_alloc.proofs.arc.Arc.TheLaws as arc
-use Rattle.cmsproof_c.specs.TrustKept.{the_row}
+use Rattle.library_calls.specs.contracts.held.HeldTrust as Things
+use Rattle.library_calls.proofs.held.HeldTrust.TheLaws as things
 use Rattle.cmsproof_c.specs.contracts.parts.Parts as Parts
 use Rattle.cmsproof_c.specs.contracts.trust_seal.TrustSeal as Sealed
 
 abbrev pub E : Bx
 E = record {
-  row = the_row;
-  laws = arc.the_row_laws Things.the_row Heap.the_row ghosts things.the_row_laws heap.the_row_laws;
+  row = Things.the_row;
+  laws = things.the_row_laws;
   al = record { row = Heap.the_row; laws = heap.the_row_laws; g = ghosts; d = dict; drops = impl [] tnil dnil };
 }
 
 abbrev pub FromParts : Slot 0
-FromParts = plain (λ _. Parts.the_row the_row Heap.the_row ghosts)
+FromParts = plain (λ _. Parts.the_row Things.the_row Heap.the_row ghosts)
 
 abbrev pub FromSeal : Slot 0
 FromSeal = plain (λ _. Sealed.the_row)

@@ -1,3 +1,2 @@
-pub mod AnswersKept
 pub mod Held
-pub mod TrustKept
+pub mod Kept

@@ -1,5 +1,4 @@
-ghost use Rattle.std.specs.Prelude.{◌≡◌, Some, None, IfSome, option_map};
-ghost use Rattle.cmsproof_c.specs.AnswersKept.{is_kept};
+ghost use Rattle.std.specs.Prelude.{◌≡◌, Some, None, IfSome, is_some, option_map};
 
 use crate::answers_seal::AnswersSeal;
 use crate::parts::Parts;
@@ -15,7 +14,7 @@ pub struct AnswersHandle {
     pub inside: AnswersSeal,
     /// Whether there is one.
     pub held: bool,
-    ghost right: { held ≡ is_kept inside.kept },
+    ghost right: { held ≡ is_some inside.kept },
 }
 
 impl AnswersHandle {

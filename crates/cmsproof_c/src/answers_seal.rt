@@ -1,5 +1,7 @@
-ghost use Rattle.std.specs.Prelude.{◌≡◌, Some, None, true};
-ghost use Rattle.cmsproof_c.specs.AnswersKept.{Kept, kept_coded, kept_owns, is_kept};
+ghost use Rattle.std.specs.Prelude.{◌≡◌, Option, Some, None, true, is_some};
+ghost use Rattle.std.specs.Coded.{coded_option};
+ghost use Rattle.list_answers.specs.contracts.answers.Answers.{the_row};
+ghost use Rattle.cmsproof_c.specs.Kept.{kept_owns};
 
 use crate::parts::Parts;
 use std::alloc::Global;
@@ -12,11 +14,11 @@ use trust_lists::Answers;
 pub struct AnswersSeal {
     at: *mut u8,
     /// The list that the memory behind it holds.
-    pub ghost kept: { Kept } by { kept_coded },
+    pub ghost kept: { Option the_row.Denot } by { coded_option the_row.coded },
 }
 
 impl Model for AnswersSeal {
-    ghost also_owns = { λ s. kept_owns s.at s.kept };
+    ghost also_owns = { λ s. kept_owns the_row s.at s.kept };
 }
 
 impl AnswersSeal {
@@ -39,7 +41,7 @@ impl AnswersSeal {
 
     /// What the box owned.
     pub(crate) fn into_parts(self, alloc: Global) -> Parts<Answers, Global>
-        requires { is_kept self.kept ≡ true }
+        requires { is_some self.kept ≡ true }
         ensures { Some result.value ≡ self.kept }
     {
         let AnswersSeal { at } = self;

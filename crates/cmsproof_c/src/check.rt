@@ -2,7 +2,6 @@ ghost use Rattle.std.specs.Prelude.{◌≡◌, ℕ, Bool, IfSome};
 ghost use Rattle.trust_lists.specs.Asking.{Asked};
 ghost use Rattle.check_verdict.specs.Questions.{Answers, with_answers};
 ghost use Rattle.library_calls.specs.Checked.{handed, terms_under, IsChecked, SaysYes, SaysMoment, AnswersAsked};
-ghost use Rattle.cmsproof_c.specs.TrustKept.{list_in};
 ghost use Rattle.cmsproof_c.specs.Held.{IsCheck, VouchesSame};
 
 use crate::answers_handle::AnswersHandle;
@@ -20,13 +19,13 @@ fn check_held(
     sha1: bool,
     room: &mut [u8],
 ) -> Told
-    ensures verdict { IsCheck (list_in trust.old.inside.kept) answers.old.inside.kept input.entry.file.now
+    ensures verdict { IsCheck trust.old.inside.kept answers.old.inside.kept input.entry.file.now
         (handed input.entry.given input.entry.content.now) sha1 result.said result.status room.old result.size
         room.new }
     ensures trust { trust.new.inside.kept ≡ trust.old.inside.kept }
     ensures answers { VouchesSame answers.old.inside.kept answers.new.inside.kept }
 {
-    let Some(list) = trust.take(alloc) else {
+    let Some(mut list) = trust.take(alloc) else {
         return Told {
             status: NO_LIST,
             size: 0,
@@ -41,7 +40,7 @@ fn check_held(
             said: Answer::nothing(),
         };
     };
-    let told = tell_check(alloc, &list, &mut asked, input, sha1, room);
+    let told = tell_check(alloc, &mut list, &mut asked, input, sha1, room);
     *trust = TrustHandle::of(list);
     *answers = AnswersHandle::of(asked);
     told
@@ -66,21 +65,21 @@ pub extern "C" fn cmsproof_check(
 ) -> u32
     // With both lists the numbers say yes with a moment exactly if the definition says so under them, unless the
     // content that is handed in has more than 2^40 octets.
-    ensures headline { IfSome (list_in trust.old.inside.kept) (λ list. IfSome answers.old.inside.kept (λ asked. (m : ℕ)
+    ensures headline { IfSome trust.old.inside.kept (λ list. IfSome answers.old.inside.kept (λ asked. (m : ℕ)
         → SaysYes (terms_under list asked sha1) file.now (handed content_given content.now) said.new m)) }
     // With both lists the verdict of the definitions, in numbers and as its line; without one of them no verdict.
-    ensures verdict { IsCheck (list_in trust.old.inside.kept) answers.old.inside.kept file.now
+    ensures verdict { IsCheck trust.old.inside.kept answers.old.inside.kept file.now
         (handed content_given content.now) sha1 said.new result text.old size.new text.new }
     // The verdict 1 is said with a moment alone, and the status 1 with this verdict alone.
     ensures moment { SaysMoment said.new result }
     // The verdict is right with each list of answers that gives the answers list's answers to the file's questions.
-    ensures sufficient { IfSome (list_in trust.old.inside.kept) (λ list. IfSome answers.old.inside.kept (λ asked.
+    ensures sufficient { IfSome trust.old.inside.kept (λ list. IfSome answers.old.inside.kept (λ asked.
         (vouches : Asked → Bool) → Answers (terms_under list asked sha1) file.now vouches
         → IsChecked (with_answers (terms_under list asked sha1) vouches) file.now (handed content_given content.now)
         said.new result text.old size.new text.new)) }
     // So it is with each that gives its answers to the questions that are asked: about signers that fit the content, or
     // their tokens, under entries that passed the earlier filters.
-    ensures asked { IfSome (list_in trust.old.inside.kept) (λ list. IfSome answers.old.inside.kept (λ asked.
+    ensures asked { IfSome trust.old.inside.kept (λ list. IfSome answers.old.inside.kept (λ asked.
         (vouches : Asked → Bool) → AnswersAsked (terms_under list asked sha1) file.now
         (handed content_given content.now) vouches
         → IsChecked (with_answers (terms_under list asked sha1) vouches) file.now (handed content_given content.now)

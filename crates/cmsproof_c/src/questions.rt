@@ -5,7 +5,6 @@ ghost use Rattle.check_questions.specs.FileQuestions.{AreQuestionsOf};
 ghost use Rattle.check_questions.specs.QuestionsText.{questions_text};
 ghost use Rattle.check_questions.specs.Written.{EncodesNothing};
 ghost use Rattle.library_calls.specs.Questions.{IsAskedIfMemory};
-ghost use Rattle.cmsproof_c.specs.TrustKept.{list_in};
 ghost use Rattle.cmsproof_c.specs.Held.{AsksFile};
 
 use crate::trust_handle::TrustHandle;
@@ -15,8 +14,8 @@ use std::alloc::Global;
 
 /// Takes the list out of its handle, lists the questions under it, and puts it back.
 fn questions_held(alloc: Global, trust: &mut TrustHandle, octets: &[u8], room: &mut [u8]) -> Told
-    ensures questions { AsksFile (list_in trust.old.inside.kept) octets.now result.said result.status room.old
-        result.size room.new }
+    ensures questions { AsksFile trust.old.inside.kept octets.now result.said result.status room.old result.size
+        room.new }
     ensures trust { trust.new.inside.kept ≡ trust.old.inside.kept }
 {
     let Some(list) = trust.take(alloc) else {
@@ -26,7 +25,7 @@ fn questions_held(alloc: Global, trust: &mut TrustHandle, octets: &[u8], room: &
             said: Answer::nothing(),
         };
     };
-    let told = tell_questions(alloc, &list, octets, room);
+    let told = tell_questions(alloc, list.list(), octets, room);
     *trust = TrustHandle::of(list);
     told
 }
@@ -43,15 +42,15 @@ pub extern "C" fn cmsproof_questions(
 ) -> u32
     // The text of the file's questions, or its size if there is too little room; or a fault that the file has; without
     // a list no verdict.
-    ensures questions { AsksFile (list_in trust.old.inside.kept) octets.now said.new result text.old size.new
+    ensures questions { AsksFile trust.old.inside.kept octets.now said.new result text.old size.new
         text.new }
     // For every list of the file's questions, its text, if there is memory.
-    ensures only { IfSome (list_in trust.old.inside.kept) (λ list. (qs : List Asked) → AreQuestionsOf list octets.now qs
+    ensures only { IfSome trust.old.inside.kept (λ list. (qs : List Asked) → AreQuestionsOf list octets.now qs
         → IsAskedIfMemory (questions_text qs) said.new result text.old size.new text.new) }
     // With a list, malformed exactly if the octets don't encode a ContentInfo.
-    ensures malformed { IfSome (list_in trust.old.inside.kept) (λ _. (result ≡ 3) ↔ EncodesNothing octets.now) }
+    ensures malformed { IfSome trust.old.inside.kept (λ _. (result ≡ 3) ↔ EncodesNothing octets.now) }
     // With a list, refused exactly if they encode one of another type.
-    ensures another { IfSome (list_in trust.old.inside.kept) (λ _. (result ≡ 2) ↔ EncodesAnotherType octets.now) }
+    ensures another { IfSome trust.old.inside.kept (λ _. (result ≡ 2) ↔ EncodesAnotherType octets.now) }
     // The trust list stays as it was.
     ensures trust { trust.new.inside.kept ≡ trust.old.inside.kept }
 {

@@ -1,7 +1,6 @@
 ghost use Rattle.std.specs.Prelude.{◌≡◌, ℕ, IfSome};
 ghost use Rattle.library_calls.specs.Checked.{terms_under};
 ghost use Rattle.library_calls.specs.CheckedTokens.{SaysPasses};
-ghost use Rattle.cmsproof_c.specs.TrustKept.{list_in};
 ghost use Rattle.cmsproof_c.specs.Held.{IsTokenCheck, VouchesSame};
 
 use crate::answers_handle::AnswersHandle;
@@ -19,12 +18,12 @@ fn check_held(
     octets: &[u8],
     sha1: bool,
 ) -> Told
-    ensures verdict { IsTokenCheck (list_in trust.old.inside.kept) answers.old.inside.kept token.now octets.now sha1
-        result.said result.status }
+    ensures verdict { IsTokenCheck trust.old.inside.kept answers.old.inside.kept token.now octets.now sha1 result.said
+        result.status }
     ensures trust { trust.new.inside.kept ≡ trust.old.inside.kept }
     ensures answers { VouchesSame answers.old.inside.kept answers.new.inside.kept }
 {
-    let Some(list) = trust.take(alloc) else {
+    let Some(mut list) = trust.take(alloc) else {
         return Told {
             status: NO_LIST,
             size: 0,
@@ -39,7 +38,7 @@ fn check_held(
             said: Answer::nothing(),
         };
     };
-    let told = tell_token_check(&list, &mut asked, token, octets, sha1);
+    let told = tell_token_check(&mut list, &mut asked, token, octets, sha1);
     *trust = TrustHandle::of(list);
     *answers = AnswersHandle::of(asked);
     told
@@ -57,10 +56,10 @@ pub extern "C" fn cmsproof_check_token(
     said: &mut Answer,
 ) -> u32
     // With both lists the numbers say that the token passes with a moment exactly if it does, by the definition.
-    ensures headline { IfSome (list_in trust.old.inside.kept) (λ list. IfSome answers.old.inside.kept (λ asked. (m : ℕ)
+    ensures headline { IfSome trust.old.inside.kept (λ list. IfSome answers.old.inside.kept (λ asked. (m : ℕ)
         → SaysPasses (terms_under list asked sha1) token.now stamped.now said.new m)) }
     // With both lists the verdict of the definitions, in numbers; without one of them no verdict.
-    ensures verdict { IsTokenCheck (list_in trust.old.inside.kept) answers.old.inside.kept token.now
+    ensures verdict { IsTokenCheck trust.old.inside.kept answers.old.inside.kept token.now
         stamped.now sha1 said.new result }
     // The trust list stays as it was.
     ensures trust { trust.new.inside.kept ≡ trust.old.inside.kept }

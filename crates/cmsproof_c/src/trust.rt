@@ -1,6 +1,5 @@
 ghost use Rattle.std.specs.Prelude.{◌≡◌, None};
 ghost use Rattle.library_calls.specs.Lists.{ReadsTrust};
-ghost use Rattle.cmsproof_c.specs.TrustKept.{list_in};
 ghost use Rattle.cmsproof_c.specs.Held.{CountsEntries, SharesList};
 
 use crate::trust_handle::TrustHandle;
@@ -11,7 +10,7 @@ use std::alloc::Global;
 /// Puts the list that a text states into an empty handle.
 fn read_into(alloc: Global, trust: &mut TrustHandle, list: &[u8], said: &mut Answer) -> u32
     requires { trust.old.inside.kept ≡ None }
-    ensures { ReadsTrust list.now (list_in trust.new.inside.kept) said.new result }
+    ensures { ReadsTrust list.now trust.new.inside.kept said.new result }
 {
     let read = match read_trust(alloc, list, said) {
         Ok(read) => read,
@@ -39,7 +38,7 @@ pub extern "C" fn cmsproof_trust_read(
 ) -> u32
     // The handle holds the list that the text states, or none: the text is refused by the rule and at the line that are
     // said, or memory was refused.
-    ensures { ReadsTrust list.now (list_in trust.new.inside.kept) said.new result }
+    ensures { ReadsTrust list.now trust.new.inside.kept said.new result }
 {
     cmsproof_trust_free(alloc, trust);
     read_into(alloc, trust, list, said)
@@ -53,7 +52,7 @@ pub extern "C" fn cmsproof_trust_count(
     count: &mut usize,
 ) -> u32
     // The number of entries; without a list, 0 and status 8.
-    ensures count { CountsEntries (list_in trust.old.inside.kept) count.new result }
+    ensures count { CountsEntries trust.old.inside.kept count.new result }
     // The handle holds what it held.
     ensures same { trust.new.inside.kept ≡ trust.old.inside.kept }
 {
@@ -61,7 +60,7 @@ pub extern "C" fn cmsproof_trust_count(
     let Some(list) = trust.take(alloc) else {
         return NO_LIST;
     };
-    *count = list.entries().len();
+    *count = list.list().entries().len();
     *trust = TrustHandle::of(list);
     DONE
 }
@@ -76,7 +75,7 @@ pub extern "C" fn cmsproof_trust_share(
 ) -> u32
     // The other handle holds the list that the first one holds, with status 1; or none, with status 8 if the first one
     // holds none, and with 7 if memory was refused.
-    ensures shared { SharesList (list_in trust.old.inside.kept) (list_in other.new.inside.kept) result }
+    ensures shared { SharesList trust.old.inside.kept other.new.inside.kept result }
     // The first handle holds what it held.
     ensures same { trust.new.inside.kept ≡ trust.old.inside.kept }
 {

@@ -1,11 +1,10 @@
-ghost use Rattle.std.specs.Prelude.{◌≡◌, Some, None, IfSome, option_map};
-ghost use Rattle.cmsproof_c.specs.TrustKept.{is_kept, list_in};
+ghost use Rattle.std.specs.Prelude.{◌≡◌, Some, None, IfSome, is_some, option_map};
 
 use crate::parts::Parts;
 use crate::trust_seal::TrustSeal;
+use library_calls::HeldTrust;
 use std::alloc::Global;
 use std::mem;
-use std::sync::Arc;
 use trust_lists::Trust;
 
 /// A trust list that C holds, or none.
@@ -16,12 +15,12 @@ pub struct TrustHandle {
     pub inside: TrustSeal,
     /// Whether there is one.
     pub held: bool,
-    ghost right: { held ≡ is_kept inside.kept },
+    ghost right: { held ≡ is_some inside.kept },
 }
 
 impl TrustHandle {
-    /// The handle of an owner of a list.
-    pub(crate) fn of(list: Box<Arc<Trust>>) -> TrustHandle
+    /// The handle of a list.
+    pub(crate) fn of(list: Box<HeldTrust>) -> TrustHandle
         ensures { result.inside.kept ≡ Some list.value }
     {
         TrustHandle {
@@ -32,24 +31,20 @@ impl TrustHandle {
 
     /// The handle of a list that nobody else holds, if there is memory.
     pub(crate) fn keep(alloc: Global, list: Trust) -> Option<TrustHandle>
-        ensures { IfSome result (λ h. list_in h.inside.kept ≡ Some list) }
+        ensures { IfSome result (λ h. h.inside.kept ≡ Some list) }
     {
-        let Ok(owner) = Arc::new(alloc, list) else {
-            return None;
-        };
-        let Ok(kept) = Box::new(alloc, owner) else {
+        let held = HeldTrust::new(alloc, list)?;
+        let Ok(kept) = Box::new(alloc, held) else {
             return None;
         };
         Some(TrustHandle::of(kept))
     }
 
-    /// A handle of the list of this owner, if there is memory.
-    pub(crate) fn share(alloc: Global, owner: &Arc<Trust>) -> Option<TrustHandle>
-        ensures { IfSome result (λ h. list_in h.inside.kept ≡ Some owner.now.value) }
+    /// Another handle of this list, if there is memory.
+    pub(crate) fn share(alloc: Global, list: &HeldTrust) -> Option<TrustHandle>
+        ensures { IfSome result (λ h. h.inside.kept ≡ Some list.now) }
     {
-        let Ok(other) = Arc::try_clone(owner) else {
-            return None;
-        };
+        let other = list.share()?;
         let Ok(kept) = Box::new(alloc, other) else {
             return None;
         };
@@ -66,8 +61,8 @@ impl TrustHandle {
         }
     }
 
-    /// The owner, if there is one.
-    pub(crate) fn into_list(self, alloc: Global) -> Option<Box<Arc<Trust>>>
+    /// The list, if there is one.
+    pub(crate) fn into_list(self, alloc: Global) -> Option<Box<HeldTrust>>
         ensures { option_map (λ b. b.value) result ≡ self.inside.kept }
     {
         let TrustHandle { inside, held } = self;
@@ -78,8 +73,8 @@ impl TrustHandle {
         }
     }
 
-    /// The owner, if there is one; the handle then holds none.
-    pub(crate) fn take(&mut self, alloc: Global) -> Option<Box<Arc<Trust>>>
+    /// The list, if there is one; the handle then holds none.
+    pub(crate) fn take(&mut self, alloc: Global) -> Option<Box<HeldTrust>>
         ensures taken { option_map (λ b. b.value) result ≡ self.old.inside.kept }
         ensures none { self.new.inside.kept ≡ None }
     {

@@ -1,23 +1,24 @@
-ghost use Rattle.std.specs.Prelude.{◌≡◌, Some, None, true};
-ghost use Rattle.cmsproof_c.specs.TrustKept.{Kept, kept_coded, kept_owns, is_kept};
+ghost use Rattle.std.specs.Prelude.{◌≡◌, Option, Some, None, true, is_some};
+ghost use Rattle.std.specs.Coded.{coded_option};
+ghost use Rattle.library_calls.specs.contracts.held.HeldTrust.{the_row};
+ghost use Rattle.cmsproof_c.specs.Kept.{kept_owns};
 
 use crate::parts::Parts;
+use library_calls::HeldTrust;
 use std::alloc::Global;
 use std::marker::Model;
-use std::sync::Arc;
-use trust_lists::Trust;
 
-/// A box of an owner of a trust list, or nothing. Its field names no other type, so that C can hold it.
+/// A box of a trust list, or nothing. Its field names no other type, so that C can hold it.
 #[repr(C)]
 #[derive(Drop)]
 pub struct TrustSeal {
     at: *mut u8,
-    /// The owner that the memory behind it holds.
-    pub ghost kept: { Kept } by { kept_coded },
+    /// The list that the memory behind it holds.
+    pub ghost kept: { Option the_row.Denot } by { coded_option the_row.coded },
 }
 
 impl Model for TrustSeal {
-    ghost also_owns = { λ s. kept_owns s.at s.kept };
+    ghost also_owns = { λ s. kept_owns the_row s.at s.kept };
 }
 
 impl TrustSeal {
@@ -31,7 +32,7 @@ impl TrustSeal {
     }
 
     /// A seal that owns what a box owned.
-    pub(crate) fn of_parts(parts: Parts<Arc<Trust>, Global>) -> TrustSeal
+    pub(crate) fn of_parts(parts: Parts<HeldTrust, Global>) -> TrustSeal
         ensures { result.kept ≡ Some parts.value }
     {
         let Parts { ptr, alloc: _ } = parts;
@@ -39,17 +40,17 @@ impl TrustSeal {
     }
 
     /// What the box owned.
-    pub(crate) fn into_parts(self, alloc: Global) -> Parts<Arc<Trust>, Global>
-        requires { is_kept self.kept ≡ true }
+    pub(crate) fn into_parts(self, alloc: Global) -> Parts<HeldTrust, Global>
+        requires { is_some self.kept ≡ true }
         ensures { Some result.value ≡ self.kept }
     {
         let TrustSeal { at } = self;
         Parts {
-            ptr: at as *mut Arc<Trust>,
+            ptr: at as *mut HeldTrust,
             alloc,
         }
     }
 }
 
-// A list never changes once it was read, and its owners are counted.
+// A list never changes once it was read, its owners are counted, and each has digests of its own.
 unsafe impl Send for TrustSeal {}

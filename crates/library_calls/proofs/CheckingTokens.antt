@@ -1,7 +1,9 @@
 -- The verdict about a token, by an answers list, which never fails; and what follows from what the call says.
-use Rattle.std.proofs.Common.{◌≡◌, ℕ, List, Result, Ok, Err, sym, ap, subst, ◌∙◌, inl, inr}
+use Rattle.std.proofs.Common.{◌≡◌, ℕ, Bool, List, Result, Ok, Err, sym, ap, subst, ◌∙◌, inl, inr}
 use Rattle.check_fit.specs.declared.rules.TokenRefused.{TokenRefused}
 use Rattle.check_fit.specs.declared.rules.TokenRefused.TheVariants as refused
+use Rattle.trust_lists.specs.Asking.{Asked}
+use Rattle.check_verdict.specs.Checkers.{CheckerValue, terms_for}
 use Rattle.check_verdict.specs.Passing.{Terms, Passes}
 use Rattle.check_verdict.specs.TokenVerdicts.{IsTokenVerdict, PassesOrDevice, CountsAsks}
 use Rattle.library_answers.specs.declared.answer.Answer.{Answer}
@@ -24,7 +26,7 @@ passes_or_not (Ok n) m count (inr device) = absurd device
 passes_or_not (Err (refused.Rule failed)) m count (inr device) = absurd device
 passes_or_not (Err (refused.Device fault)) m count (inr device) = absurd (never_raised count)
 
-pub token_judged : (t : Terms) (token stamped : List ℕ) (answer : Result ℕ TokenRefused)
+token_judged : (t : Terms) (token stamped : List ℕ) (answer : Result ℕ TokenRefused)
     → IsTokenVerdict t token stamped answer
     → ((m : ℕ) → Passes t token stamped m → PassesOrDevice m answer) → CountsAsks answer 0 0
     → IsTokenJudged t token stamped answer
@@ -32,6 +34,15 @@ token_judged t token stamped answer verdict complete count = record {
   verdict = known t token stamped answer verdict count;
   complete = λ m passes. passes_or_not answer m count (complete m passes);
 }
+
+-- the verdict by a checker is judged under what the checker is
+pub judged_by : (k u : CheckerValue) (vouches : Asked → Bool) (token stamped : List ℕ) (answer : Result ℕ TokenRefused)
+    → k ≡ u → IsTokenVerdict (terms_for k vouches) token stamped answer
+    → ((m : ℕ) → Passes (terms_for k vouches) token stamped m → PassesOrDevice m answer) → CountsAsks answer 0 0
+    → IsTokenJudged (terms_for u vouches) token stamped answer
+judged_by k u vouches token stamped answer same verdict complete count =
+    subst (λ (c : CheckerValue). IsTokenJudged (terms_for c vouches) token stamped answer) same
+    (token_judged (terms_for k vouches) token stamped answer verdict complete count)
 
 passing : (t : Terms) (token stamped : List ℕ) (answer : Result ℕ TokenRefused) (m : ℕ)
     → IsKnownTokenVerdict t token stamped answer → answer ≡ Ok m

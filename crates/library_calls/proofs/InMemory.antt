@@ -1,6 +1,6 @@
 -- What is said of a content that is known, by a verifier that never fails.
-use Rattle.std.proofs.Common.{◌≡◌, ℕ, true, List, Option, Some, None, Result, Ok, Err, refl, sym, inl, inr, subst, ap}
-use Rattle.std.proofs.Common.{◌∙◌}
+use Rattle.std.proofs.Common.{◌≡◌, ℕ, Bool, true, List, Option, Some, None, Result, Ok, Err, refl, sym, inl, inr, subst}
+use Rattle.std.proofs.Common.{ap, ◌∙◌}
 use Rattle.std.specs.Prelude.{MatchResult, IfSome, is_some, option_map}
 use Rattle.devices.specs.Device.{raised}
 use Rattle.cms_types.specs.declared.fault.CmsFault.{CmsFault}
@@ -11,10 +11,12 @@ use Rattle.check_fit.specs.declared.rules.Refused.TheVariants as refused
 use Rattle.check_fit.specs.FileFitting.{SourceFacts, IsReading, file_rules, placed, OfSource, fails, too_long, read}
 use Rattle.check_fit.specs.FileFitting.{OfContent, OfFile}
 use Rattle.check_fit.proofs.FileLaw.{placed_from}
+use Rattle.trust_lists.specs.Asking.{Asked}
 use Rattle.check_verdict.specs.Passing.{Terms}
 use Rattle.check_verdict.specs.Verdicts.{IsContent, Judges}
-use Rattle.check_verdict.specs.Checking.{CountsAsks, VerdictOrDevice}
-use Rattle.check_verdict.proofs.Checked.{handed_by}
+use Rattle.check_verdict.specs.Checkers.{CheckerValue, terms_for}
+use Rattle.check_verdict.specs.Checking.{Checks, ChecksAsking, CountsAsks, VerdictOrDevice}
+use Rattle.check_verdict.proofs.Checked.{handed_by, checks_from, is_verdict}
 use Rattle.check_verdict.proofs.Verdicts.{file_refusal}
 use Rattle.library_calls.specs.Known.{IsTooLong, JudgesContent, JudgesHanded}
 use Rattle.library_calls.specs.Checked.{IsKnownVerdict}
@@ -112,3 +114,22 @@ known_verdict t octets handed (Err (refused.File failed)) judged count (inl devi
 known_verdict t octets handed (Err (refused.Signer number failed)) judged count (inl device) = absurd device
 known_verdict t octets handed (Err (refused.Token number token failed)) judged count (inl device) = absurd device
 known_verdict t octets handed (Ok m) judged count (inl device) = absurd device
+
+-- the verdict by a checker, over a content in memory, is known under what the checker is
+pub known_by : {S : Type 0} (facts : SourceFacts S)
+    (never : (s s' : S) → facts.failures s' ≡ raised (facts.failures s) → ⊥) (k u : CheckerValue)
+    (vouches : Asked → Bool) (OnlyAsked : (Asked → Bool) → Type 0) (octets : List ℕ) (before after : Option S)
+    (handed : Option (List ℕ)) (result : Result ℕ Refused)
+    → k ≡ u → option_map facts.rest before ≡ handed → IfSome before facts.tells
+    → ChecksAsking facts (terms_for k vouches) OnlyAsked octets before after result → CountsAsks result 0 0
+    → IsKnownVerdict (terms_for u vouches) octets handed result
+known_by {S} facts never k u vouches OnlyAsked octets before after handed result same rest told checks count =
+    let t : Terms = terms_for u vouches in
+    let judged : Checks facts t octets before after result =
+    checks_from facts t OnlyAsked octets before after result (subst
+    (λ (c : CheckerValue). ChecksAsking facts (terms_for c vouches) OnlyAsked octets before after result) same checks)
+    in
+    subst (λ (h : Option (List ℕ)). IsKnownVerdict t octets h result) rest (known_verdict t octets
+    (option_map facts.rest before) result
+    (judges_handed facts (Judges t) never octets judged.0 before after result judged.1 told judged.2) count
+    (is_verdict facts t octets before after result told judged))

@@ -2,12 +2,13 @@ ghost use Rattle.std.specs.Prelude.{◌≡◌, IfSome, option_map};
 ghost use Rattle.trust_lists.specs.Asking.{is_among};
 ghost use Rattle.library_calls.specs.Checked.{handed, terms_under, IsKnownVerdict, IsChecked};
 
-use check_fit::{Policy, Refused};
-use check_verdict::{Accepted, check};
+use crate::held::HeldTrust;
+use check_fit::Refused;
+use check_verdict::{Accepted, judge_file};
 use devices::{Slice, Source};
 use library_answers::{Told, tell_verdict};
 use std::alloc::Global;
-use trust_lists::{Answers, Trust};
+use trust_lists::Answers;
 
 /// A file, and the content beside it, if it is given.
 #[derive(Clone, Copy, Debug)]
@@ -34,31 +35,38 @@ pub(crate) fn source_of<'a>(given: bool, content: &'a [u8]) -> Option<Slice<'a>>
 
 /// The verdict about a file and its content under these lists.
 fn verdict_of(
-    list: &Trust,
+    list: &mut HeldTrust,
     asked: &mut Answers,
     input: Input,
     sha1: bool,
 ) -> Result<Accepted, Refused>
-    ensures verdict { IsKnownVerdict (terms_under list.now asked.old sha1) input.entry.file.now
+    ensures verdict { IsKnownVerdict (terms_under list.old asked.old sha1) input.entry.file.now
         (handed input.entry.given input.entry.content.now) result }
+    ensures list { list.new ≡ list.old }
     ensures same { is_among asked.new ≡ is_among asked.old }
 {
     let mut source = source_of(input.given, input.content);
-    check(input.file, &mut source, list, &Policy { sha1 }, asked)
+    let mut checker = list.checker(sha1);
+    let verdict = judge_file(input.file, &mut source, &mut checker, asked);
+    let kept = checker.into_kept();
+    list.keep(kept);
+    verdict
 }
 
 /// Says whether each signature of a file existed by a moment, under these lists.
 pub fn tell_check(
     alloc: Global,
-    list: &Trust,
+    list: &mut HeldTrust,
     asked: &mut Answers,
     input: Input,
     sha1: bool,
     room: &mut [u8],
 ) -> Told
     // The verdict of the definitions, in numbers and as its line.
-    ensures verdict { IsChecked (terms_under list.now asked.old sha1) input.entry.file.now
+    ensures verdict { IsChecked (terms_under list.old asked.old sha1) input.entry.file.now
         (handed input.entry.given input.entry.content.now) result.said result.status room.old result.size room.new }
+    // The trust list stays as it was.
+    ensures list { list.new ≡ list.old }
     // The answers list vouches for what it vouched for.
     ensures same { is_among asked.new ≡ is_among asked.old }
 {

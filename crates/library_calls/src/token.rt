@@ -3,25 +3,31 @@ ghost use Rattle.trust_lists.specs.Asking.{is_among};
 ghost use Rattle.library_calls.specs.Checked.{terms_under};
 ghost use Rattle.library_calls.specs.CheckedTokens.{IsTokenJudged, IsTokenChecked, token_answer_numbers, token_status};
 
-use check_fit::{Policy, TokenRefused};
-use check_verdict::{Accepted, check_token};
+use crate::held::HeldTrust;
+use check_fit::TokenRefused;
+use check_verdict::{Accepted, judge_token};
 use library_answers::{
     Answer, DONE, FAILED, REFUSED, Told, accepted_answer, device_answer, token_answer,
 };
-use trust_lists::{Answers, Trust};
+use trust_lists::Answers;
 
 /// The verdict about a token under these lists.
 fn verdict_of(
-    list: &Trust,
+    list: &mut HeldTrust,
     asked: &mut Answers,
     token: &[u8],
     stamped: &[u8],
     sha1: bool,
 ) -> Result<Accepted, TokenRefused>
-    ensures verdict { IsTokenJudged (terms_under list.now asked.old sha1) token.now stamped.now result }
+    ensures verdict { IsTokenJudged (terms_under list.old asked.old sha1) token.now stamped.now result }
+    ensures list { list.new ≡ list.old }
     ensures same { is_among asked.new ≡ is_among asked.old }
 {
-    check_token(token, stamped, list, &Policy { sha1 }, asked)
+    let mut checker = list.checker(sha1);
+    let verdict = judge_token(token, stamped, &mut checker, asked);
+    let kept = checker.into_kept();
+    list.keep(kept);
+    verdict
 }
 
 /// An answer about a token in numbers.
@@ -48,15 +54,17 @@ fn status_of(answer: &Result<Accepted, TokenRefused>) -> u32
 
 /// Says whether a token is valid for octets that were stamped, under these lists.
 pub fn tell_token_check(
-    list: &Trust,
+    list: &mut HeldTrust,
     asked: &mut Answers,
     token: &[u8],
     stamped: &[u8],
     sha1: bool,
 ) -> Told
     // The verdict of the definitions, in numbers, and no text.
-    ensures verdict { IsTokenChecked (terms_under list.now asked.old sha1) token.now stamped.now result.said
+    ensures verdict { IsTokenChecked (terms_under list.old asked.old sha1) token.now stamped.now result.said
         result.status }
+    // The trust list stays as it was.
+    ensures list { list.new ≡ list.old }
     // The answers list vouches for what it vouched for.
     ensures same { is_among asked.new ≡ is_among asked.old }
 {

@@ -1,8 +1,8 @@
-use Rattle.library_calls.specs.Checked.{terms_under}
-use Rattle.library_calls.proofs.CheckingTokens.{token_judged}
+use Rattle.trust_lists.specs.Asking.{is_among}
+use Rattle.library_calls.proofs.CheckingTokens.{judged_by}
 use Rattle.library_calls.proofs.token.verdict_of.Goals as goal
 
 pub returns-clause-verdict : goal.returns-clause-verdict
-returns-clause-verdict c = token_judged
-    (terms_under c.args.list.now c.args.asked.now c.args.sha1) c.args.token.now c.args.stamped.now c.check_token.result
-    c.check_token.ensures.judged c.check_token.ensures.complete c.check_token.ensures.count
+returns-clause-verdict c = judged_by _ _ (is_among c.args.asked.now) c.args.token.now c.args.stamped.now
+    c.judge_token-verdict.result c.checker-checker.ensures c.judge_token-verdict.ensures.judged
+    c.judge_token-verdict.ensures.complete c.judge_token-verdict.ensures.count

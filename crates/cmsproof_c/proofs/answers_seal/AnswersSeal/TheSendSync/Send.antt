@@ -6,15 +6,15 @@ use denote.RawPtr.{Ptr}
 use denote.Struct.Struct.{exits_of}
 use denote.Struct.Owning.{shape, fields, to}
 use denote.Param.Send.{IsSend, AllSend, owning_send, struct_send, sendable}
-use Rattle.std.specs.Prelude.{Some, None}
+use Rattle.std.specs.Prelude.{Option, Some, None}
 use Rattle.std.proofs.Crossing as heap
 use Rattle.std_alloc.proofs.SendSync.{lies, quiet}
 use Rattle.list_answers.specs.contracts.answers.Answers.{the_row}
 use Rattle.list_answers.proofs.answers.Answers.TheSendSync.{the_send}
-use Rattle.cmsproof_c.specs.AnswersKept.{Kept, kept_owns}
+use Rattle.cmsproof_c.specs.Kept.{kept_owns}
 use Rattle.cmsproof_c.specs.contracts.answers_seal.AnswersSeal as Sealed
 
-kept_keyless : (at : Ptr) (kept : Kept) → Keyless (kept_owns at kept)
+kept_keyless : (at : Ptr) (kept : Option the_row.Denot) → Keyless (kept_owns the_row at kept)
 kept_keyless at None = tt
 kept_keyless at (Some list) = (
   lies the_row the_send at list,

@@ -30,8 +30,10 @@ use Rattle.core.proofs.alloc.Calls.{token, handle_tells}
 use Rattle.std_alloc.specs.Box.Ownership.{box_owns}
 use Rattle.std_alloc.proofs.BoxSteps.Form.{D, R, τ, word, box_typed}
 use Rattle.std_alloc.proofs.BoxSteps.Steps.{box_in}
-use Rattle.cmsproof_c.specs.AnswersKept.{Kept, is_kept, kept_owns}
-use Rattle.cmsproof_c.proofs.AnswersAsKept.{kept_is}
+use Rattle.std.specs.Prelude.{Option, is_some}
+use Rattle.list_answers.specs.contracts.answers.Answers.{the_row}
+use Rattle.cmsproof_c.specs.Kept.{kept_owns}
+use Rattle.cmsproof_c.proofs.Kept.{kept_is}
 use Rattle.cmsproof_c.proofs.AnswersAsBox.{E, FromSeal as From, FromHeap as Heap}
 use Rattle.cmsproof_c.specs.contracts.answers_seal.AnswersSeal.into_parts as F
 use Rattle.cmsproof_c.specs.contracts.answers_seal.AnswersSeal.into_parts.Key.{name as #self}
@@ -56,12 +58,12 @@ module _ {M : Type 1} {𝓤 : Ura M} (𝓛 : Logic 𝓤) (at_mem : Memory → SP
       let To = type_at (F.signature).result tt in
       qed 𝓛
       ((‵ ftrue ⊛ ‵ (fsep ((type_at From tt).own_val self z.0.4.0) (fsep (E.al.row.own_val heap z.0.4.1.0) ftrue)))
-      ∷ raw (fact 𝓤 (is_kept self.kept ≡ true)) ∷ []) ∵
+      ∷ raw (fact 𝓤 (is_some self.kept ≡ true)) ∷ []) ∵
       split ! $ drop ! $ fsplit ! $ move ! (1 ∷ []) $ fsplit ! $ handle_tells E.al ! heap z.0.4.1.0 (λ hv eh fa.
       -- [the allocator; true; the seal; that it keeps something]
       move ! (3 ∷ []) $ heard ! _ (λ is. let x = (kept_is self.kept is).0 in let e = (kept_is self.kept is).1 in
       move ! (2 ∷ []) $ fsplit ! $ fpick ! (λ vss. fsplit ! $ feq_l ! (λ ev. fsplit ! $ feq_l ! (λ ep. drop ! $
-      rewrite ! 0 (λ (k : Kept). ‵ (kept_owns self.at k)) e refl $
+      rewrite ! 0 (λ (k : Option the_row.Denot). ‵ (kept_owns the_row self.at k)) e refl $
       in_a_block ! self.at (λ p. box_owns (token E.al heap) (R E) p x)
       (fst∗ 𝓤 (never 𝓤) (sem 𝓛 (token E.al heap (bare (τ E)) null_ptr))) (λ b o eb. fsplit ! $
       let v : D E = record { ptr = block_ptr b o; alloc = heap; value = x } in

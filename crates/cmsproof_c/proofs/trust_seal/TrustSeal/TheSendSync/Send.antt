@@ -1,4 +1,4 @@
--- A seal owns what a box owns, and that may go to another thread: a list behind it has counted owners.
+-- A seal owns what a box owns, and that may go to another thread.
 use mir.Raw.{raw}
 use base.Shift.{Keyless}
 use denote.Memory.{lone}
@@ -6,18 +6,18 @@ use denote.RawPtr.{Ptr}
 use denote.Struct.Struct.{exits_of}
 use denote.Struct.Owning.{shape, fields, to}
 use denote.Param.Send.{IsSend, AllSend, owning_send, struct_send, sendable}
-use Rattle.std.specs.Prelude.{Some, None}
+use Rattle.std.specs.Prelude.{Option, Some, None}
 use Rattle.std.proofs.Crossing as heap
 use Rattle.std_alloc.proofs.SendSync.{lies, quiet}
-use Rattle.trust_lists.specs.contracts.trust.Trust as Things
-use Rattle.trust_lists.proofs.trust.Trust.TheSendSync as things
-use Rattle.cmsproof_c.specs.TrustKept.{Kept, kept_owns, the_row}
+use Rattle.library_calls.specs.contracts.held.HeldTrust.{the_row}
+use Rattle.library_calls.proofs.held.HeldTrust.TheSendSync.{the_send}
+use Rattle.cmsproof_c.specs.Kept.{kept_owns}
 use Rattle.cmsproof_c.specs.contracts.trust_seal.TrustSeal as Sealed
 
-kept_keyless : (at : Ptr) (kept : Kept) → Keyless (kept_owns at kept)
+kept_keyless : (at : Ptr) (kept : Option the_row.Denot) → Keyless (kept_owns the_row at kept)
 kept_keyless at None = tt
 kept_keyless at (Some list) = (
-  lies the_row (heap.Arc-send Things.the_row things.the_send things.the_sync) at list,
+  lies the_row the_send at list,
   heap.frees.frees (record { memory = record { seal = tt } }) (raw (lone the_row.mir)) at,
 )
 

@@ -1,7 +1,0 @@
--- What is kept, if something is.
-use Rattle.std.proofs.Common.{◌≡◌, true, true≢false, sym, refl, Some, None}
-use Rattle.cmsproof_c.specs.TrustKept.{Kept, is_kept, the_row}
-
-pub kept_is : (k : Kept) → is_kept k ≡ true → (x : the_row.Denot) × (k ≡ Some x)
-kept_is (Some x) e = (x, refl)
-kept_is None e = absurd (true≢false (sym e))

@@ -166,7 +166,6 @@ pub fn check_stream_with<F: Source, S: Source, V: Verifier>(
 /// C5, in this order, and none of the content is read; X5 if the content has more than 2^40 octets, and X2 if the
 /// verifier fails; otherwise the first signer, numbered from 1, that isn't good, with the first of S1 to S10 that it
 /// fails, or, if it fails none of these, its token 1 with the first of K1 to K14 that this token fails.
-#[inline(never)]
 pub fn check_stream<F: Source, S: Source, V: Verifier>(
     file: &mut F,
     content: &mut Option<S>,

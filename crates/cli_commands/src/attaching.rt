@@ -1,4 +1,4 @@
-ghost use Rattle.std.specs.Prelude.{◌≡◌, ◌≢◌, ◌⊎◌, IfErr, IfOk, OnOk};
+ghost use Rattle.std.specs.Prelude.{◌≡◌, ◌≢◌, ◌⊎◌, [], IfErr, IfOk, OnOk};
 ghost use Rattle.cli_commands.specs.Attaching.{AttachesNot, IsAttached, IsNewFile, TellsNotAttached};
 ghost use Rattle.cli_commands.specs.Attaching.{LacksMemoryToAttach, failure_of_attaching};
 
@@ -16,8 +16,9 @@ use std::rt::Files;
 pub fn attach<'a, R: Files + AllocGlobal>(
     rt: &R,
     words: &AttachWords<'a>,
-) -> Result<(), Failure<'a>>
+) -> Result<Vec<u8>, Failure<'a>>
     ensures refused { IfErr result (AttachesNot R.File.remaining words.now) }
+    ensures quiet { IfOk result (λ text. text.items ≡ []) }
     // A file that was opened took the octets of the new file, if it is known what such a file holds.
     ensures attached { OnOk result (IsAttached R.File.remaining R.File.contents words.now.signer) }
     ensures apart { OnOk result (words.now.out.now ≢ words.now.token.now) }
@@ -26,7 +27,8 @@ pub fn attach<'a, R: Files + AllocGlobal>(
     let token = files::read_whole(rt, words.token)?;
     let file = files::read_whole(rt, words.file)?;
     let octets = attached(rt.alloc(), file.as_slice(), words.signer, token.as_slice())?;
-    files::write_whole(rt, words.out, octets.as_slice())
+    files::write_whole(rt, words.out, octets.as_slice())?;
+    Ok(Vec::new(rt.alloc()))
 }
 
 /// The octets of the file with the token attached. Writing to a vector fails only if memory is refused.

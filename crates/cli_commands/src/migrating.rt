@@ -1,4 +1,4 @@
-ghost use Rattle.std.specs.Prelude.{◌≡◌, ◌≢◌, IfErr, IfOk, OnOk};
+ghost use Rattle.std.specs.Prelude.{◌≡◌, ◌≢◌, [], IfErr, IfOk, OnOk};
 ghost use Rattle.cli_commands.specs.Migrating.{IsTextOf, IsMigrated, MigratesNot};
 ghost use Rattle.cli_failures.specs.declared.failure.Failure.TheVariants.{Memory};
 
@@ -18,8 +18,9 @@ use std::rt::Files;
 pub fn migrate<'a, R: Files + AllocGlobal>(
     rt: &R,
     words: &MigrateWords<'a>,
-) -> Result<(), Failure<'a>>
+) -> Result<Vec<u8>, Failure<'a>>
     ensures refused { IfErr result (MigratesNot R.File.remaining words.now) }
+    ensures quiet { IfOk result (λ text. text.items ≡ []) }
     // A file that was opened took the text, if it is known what such a file holds.
     ensures migrated { OnOk result (IsMigrated R.File.remaining R.File.contents) }
     ensures apart { OnOk result (words.now.out.now ≢ words.now.list.now) }
@@ -27,7 +28,8 @@ pub fn migrate<'a, R: Files + AllocGlobal>(
     files::apart(rt, "OUT", words.out, words.list)?;
     let trust = lists::trust_in(rt, words.list)?;
     let text = text_of(rt.alloc(), &trust)?;
-    files::write_whole(rt, words.out, text.as_slice())
+    files::write_whole(rt, words.out, text.as_slice())?;
+    Ok(Vec::new(rt.alloc()))
 }
 
 /// The text of version 2 of a trust list. Writing to a vector fails only if memory is refused.

@@ -1,4 +1,4 @@
-ghost use Rattle.std.specs.Prelude.{◌≡◌, ◌≤◌, ◌^◌, ◌⊎◌, ℕ, List, Ok, IfOk, IfErr, codes, IfSome, OnOk, IsErr, IsOk};
+ghost use Rattle.std.specs.Prelude.{◌≡◌, ◌≤◌, ◌^◌, ◌⊎◌, ℕ, List, Ok, IfOk, IfErr, codes, [], IfSome, OnOk, IsErr, IsOk};
 ghost use Rattle.std.specs.Prelude.{true, length, option_copied, option_map};
 ghost use Rattle.der_core.specs.Contents.{is_integer, is_oid};
 ghost use Rattle.hex.specs.Hex.{decode_of};
@@ -27,15 +27,17 @@ use trust_lists::Digits;
 pub fn make_file<'a, R: Files + AllocGlobal>(
     rt: &R,
     words: &RequestWords<'a>,
-) -> Result<(), Failure<'a>>
+) -> Result<Vec<u8>, Failure<'a>>
     ensures failed { IfErr result (MakesNone R.File.remaining words.now) }
+    ensures quiet { IfOk result (λ text. text.items ≡ []) }
     // A file that was opened took the octets of the request, if it is known what such a file holds.
     ensures made { OnOk result (IsRequestWritten R.File.remaining R.File.contents words.now) }
     ensures apart { OnOk result (IsOutApart words.now.stamped words.now.out.now) }
 {
     apart(rt, words)?;
     let octets = octets_of(rt, words)?;
-    files::write_whole(rt, words.out, octets.as_slice())
+    files::write_whole(rt, words.out, octets.as_slice())?;
+    Ok(Vec::new(rt.alloc()))
 }
 
 /// Refuses a file that should take the request and is the one of the signature.

@@ -43,10 +43,7 @@ where
     ensures failed { IfErr result (MakesNoText R.File.remaining R.File.says task.entry) }
 {
     match &task {
-        TextTask::Request(words) => {
-            request::make_file(rt, words)?;
-            Ok(Vec::new(rt.alloc()))
-        }
+        TextTask::Request(words) => request::make_file(rt, words),
         TextTask::ShowRequest(path) => show::request(rt, path),
         TextTask::ShowResponse(path) => show::response(rt, path),
         TextTask::ShowTst(path) => show::tst(rt, path),
@@ -55,14 +52,8 @@ where
         TextTask::Fit(words) => fit::fit(rt, words),
         TextTask::Match(words) => matching::matched(rt, words),
         TextTask::Check(words) => checking::check(rt, words),
-        TextTask::Migrate(words) => {
-            migrating::migrate(rt, words)?;
-            Ok(Vec::new(rt.alloc()))
-        }
+        TextTask::Migrate(words) => migrating::migrate(rt, words),
         TextTask::Compare(words) => comparing::compare(rt, words),
-        TextTask::Attach(words) => {
-            attaching::attach(rt, words)?;
-            Ok(Vec::new(rt.alloc()))
-        }
+        TextTask::Attach(words) => attaching::attach(rt, words),
     }
 }

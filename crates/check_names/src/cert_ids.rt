@@ -16,6 +16,7 @@ const DIRECTORY_NAME: u8 = 0xa4;
 fn is_issuer_of(certificate: &Certificate, stated: &IssuerSerial) -> bool
     ensures { IsTrue result ↔ IsIssuerOf certificate.now stated.now }
 {
+    // Named for the proof.
     let _whole = certificate.whole();
     let Some(name) = only_value(stated.names()) else {
         return false;
@@ -45,19 +46,19 @@ pub(crate) fn hash_algorithm(id: &CertId) -> Option<Alg>
     }
 }
 
-// Whether the identifier, whose hash is by this algorithm, names the certificate of this number. The hasher is asked
+// Whether the identifier, whose hash is by this algorithm, names the certificate at this place. The hasher is asked
 // only if issuer and serial number don't differ.
 pub(crate) fn names_by<H: CertificateHasher>(
     alg: Alg,
     id: &CertId,
     certificate: &Certificate,
-    number: usize,
+    place: usize,
     hasher: &mut H,
 ) -> bool
-    requires { H.is_number_of (H.numbered_by hasher.old) number certificate.now }
+    requires { H.is_place_of (H.placed_by hasher.old) place certificate.now }
     ensures named { IsTrue result ↔ NamesBy alg id.now certificate.now }
-    ensures same { H.numbered_by hasher.new ≡ H.numbered_by hasher.old }
+    ensures same { H.placed_by hasher.new ≡ H.placed_by hasher.old }
 {
     issuer_fits(certificate, id)
-        && is_same(id.hash(), hasher.digest(alg, number, certificate).bytes())
+        && is_same(id.hash(), hasher.digest(alg, place, certificate).bytes())
 }

@@ -7,40 +7,40 @@ ghost use Rattle.digests.specs.Messages.{digest_of};
 use cert_types::Certificate;
 use digests::{Alg, Digest, digest};
 
-/// What gives digests of certificates that have numbers, such as those of a list's entries. It may keep a digest by the
-/// number of its certificate, so that a certificate that is named again and again is hashed once.
+/// What gives digests of certificates that have places, such as those of a list's entries. It may keep a digest by the
+/// place of its certificate, so that a certificate that is named again and again is hashed once.
 pub trait CertificateHasher {
-    // What gives the certificates their numbers.
-    ghost Numbering: { Type 0 };
+    // What gives the certificates their places.
+    ghost Placing: { Type 0 };
 
-    ghost numbered_by: { Self → Numbering };
+    ghost placed_by: { Self → Placing };
 
-    // This number is that of the certificate.
-    ghost is_number_of: { Numbering → ℕ → CertificateValue → Type 0 };
+    // This place is that of the certificate.
+    ghost is_place_of: { Placing → ℕ → CertificateValue → Type 0 };
 
-    /// The digest of the certificate of this number by this algorithm.
-    fn digest(&mut self, alg: Alg, number: usize, certificate: &Certificate<'_>) -> Digest
-        requires { is_number_of (numbered_by self.old) number certificate.now }
+    /// The digest of the certificate at this place by this algorithm.
+    fn digest(&mut self, alg: Alg, place: usize, certificate: &Certificate<'_>) -> Digest
+        requires { is_place_of (placed_by self.old) place certificate.now }
 
         // Its octets are the digest of the whole certificate.
         ensures digest { octets_of result ≡ digest_of alg (encoding certificate.now) }
 
-        // The certificates keep their numbers.
-        ensures same { numbered_by self.new ≡ numbered_by self.old };
+        // The certificates keep their places.
+        ensures same { placed_by self.new ≡ placed_by self.old };
 }
 
-/// Hashes a certificate each time, whatever its number, and keeps nothing.
+/// Hashes a certificate each time, whatever its place, and keeps nothing.
 #[derive(Clone, Copy, Debug)]
 pub struct EachTime;
 
 impl CertificateHasher for EachTime {
     ghost use Rattle.std.specs.Prelude.{⊤};
 
-    ghost Numbering = { ⊤ };
+    ghost Placing = { ⊤ };
 
-    ghost numbered_by = { λ _. tt };
+    ghost placed_by = { λ _. tt };
 
-    ghost is_number_of = { λ _ _ _. ⊤ };
+    ghost is_place_of = { λ _ _ _. ⊤ };
 
     fn digest(&mut self, alg: Alg, _number: usize, certificate: &Certificate<'_>) -> Digest {
         digest(alg, certificate.whole())

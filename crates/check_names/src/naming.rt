@@ -59,15 +59,15 @@ fn first_in_v2<'a>(attributes: &Attributes<'a>) -> Option<CertId<'a>>
 fn names_in_v1<H: CertificateHasher>(
     attributes: &Attributes,
     certificate: &Certificate,
-    number: usize,
+    place: usize,
     hasher: &mut H,
 ) -> bool
-    requires { H.is_number_of (H.numbered_by hasher.old) number certificate.now }
+    requires { H.is_place_of (H.placed_by hasher.old) place certificate.now }
     ensures named { IsTrue result ↔ NamesInV1 attributes.now certificate.now }
-    ensures same { H.numbered_by hasher.new ≡ H.numbered_by hasher.old }
+    ensures same { H.placed_by hasher.new ≡ H.placed_by hasher.old }
 {
     match first_in_v1(attributes) {
-        Some(first) => names_by(Alg::Sha1, &first, certificate, number, hasher),
+        Some(first) => names_by(Alg::Sha1, &first, certificate, place, hasher),
         None => false,
     }
 }
@@ -76,18 +76,18 @@ fn names_in_v1<H: CertificateHasher>(
 fn names_in_v2<H: CertificateHasher>(
     attributes: &Attributes,
     certificate: &Certificate,
-    number: usize,
+    place: usize,
     hasher: &mut H,
 ) -> bool
-    requires { H.is_number_of (H.numbered_by hasher.old) number certificate.now }
+    requires { H.is_place_of (H.placed_by hasher.old) place certificate.now }
     ensures named { IsTrue result ↔ NamesInV2 attributes.now certificate.now }
-    ensures same { H.numbered_by hasher.new ≡ H.numbered_by hasher.old }
+    ensures same { H.placed_by hasher.new ≡ H.placed_by hasher.old }
 {
     let Some(first) = first_in_v2(attributes) else {
         return false;
     };
     match hash_algorithm(&first) {
-        Some(alg) => names_by(alg, &first, certificate, number, hasher),
+        Some(alg) => names_by(alg, &first, certificate, place, hasher),
         None => false,
     }
 }
@@ -98,17 +98,17 @@ fn names_those<H: CertificateHasher>(
     v2: bool,
     attributes: &Attributes,
     certificate: &Certificate,
-    number: usize,
+    place: usize,
     hasher: &mut H,
 ) -> bool
-    requires number { H.is_number_of (H.numbered_by hasher.old) number certificate.now }
+    requires place { H.is_place_of (H.placed_by hasher.old) place certificate.now }
     requires first { IsTrue v1 ↔ Occurs attributes.now id_signing_certificate }
     requires second { IsTrue v2 ↔ Occurs attributes.now id_signing_certificate_v2 }
     ensures named { IsTrue result ↔ NamesIfAny attributes.now certificate.now }
-    ensures same { H.numbered_by hasher.new ≡ H.numbered_by hasher.old }
+    ensures same { H.placed_by hasher.new ≡ H.placed_by hasher.old }
 {
-    (!v1 || names_in_v1(attributes, certificate, number, hasher))
-        && (!v2 || names_in_v2(attributes, certificate, number, hasher))
+    (!v1 || names_in_v1(attributes, certificate, place, hasher))
+        && (!v2 || names_in_v2(attributes, certificate, place, hasher))
 }
 
 /// Whether each signing-certificate attribute that is present names the certificate. A signer need not have one. An
@@ -119,23 +119,23 @@ fn names_those<H: CertificateHasher>(
 /// algorithm is unknown, the attribute names nothing.
 ///
 /// Pass signed attributes: others are not part of what was signed. The digests are the hasher's, in which the
-/// certificate has this number; in `EachTime` each certificate has each number.
+/// certificate has this place; in `EachTime` each certificate has each place.
 pub fn names_if_any<H: CertificateHasher>(
     attributes: &Attributes,
     certificate: &Certificate,
-    number: usize,
+    place: usize,
     hasher: &mut H,
 ) -> bool
-    requires { H.is_number_of (H.numbered_by hasher.old) number certificate.now }
+    requires { H.is_place_of (H.placed_by hasher.old) place certificate.now }
     // True exactly if each signing-certificate attribute that is present names the certificate.
     ensures named { IsTrue result ↔ NamesIfAny attributes.now certificate.now }
-    // The certificates keep their numbers.
-    ensures same { H.numbered_by hasher.new ≡ H.numbered_by hasher.old }
+    // The certificates keep their places.
+    ensures same { H.placed_by hasher.new ≡ H.placed_by hasher.old }
 {
     (!occurs(attributes, &SIGNING_CERTIFICATE)
-        || names_in_v1(attributes, certificate, number, hasher))
+        || names_in_v1(attributes, certificate, place, hasher))
         && (!occurs(attributes, &SIGNING_CERTIFICATE_V2)
-            || names_in_v2(attributes, certificate, number, hasher))
+            || names_in_v2(attributes, certificate, place, hasher))
 }
 
 /// Whether the attributes name this certificate, as those of a time-stamp token must (RFC 3161 2.4.2, RFC 5816 2.2.1):
@@ -143,16 +143,16 @@ pub fn names_if_any<H: CertificateHasher>(
 pub fn must_name<H: CertificateHasher>(
     attributes: &Attributes,
     certificate: &Certificate,
-    number: usize,
+    place: usize,
     hasher: &mut H,
 ) -> bool
-    requires { H.is_number_of (H.numbered_by hasher.old) number certificate.now }
+    requires { H.is_place_of (H.placed_by hasher.old) place certificate.now }
     // True exactly if one of the two attributes is present, and each that is names the certificate.
     ensures named { IsTrue result ↔ MustName attributes.now certificate.now }
-    // The certificates keep their numbers.
-    ensures same { H.numbered_by hasher.new ≡ H.numbered_by hasher.old }
+    // The certificates keep their places.
+    ensures same { H.placed_by hasher.new ≡ H.placed_by hasher.old }
 {
     let v1 = occurs(attributes, &SIGNING_CERTIFICATE);
     let v2 = occurs(attributes, &SIGNING_CERTIFICATE_V2);
-    (v1 || v2) && names_those(v1, v2, attributes, certificate, number, hasher)
+    (v1 || v2) && names_those(v1, v2, attributes, certificate, place, hasher)
 }

@@ -4,7 +4,7 @@ ghost use Rattle.devices.specs.Device.{Wrote};
 ghost use Rattle.check_questions.specs.QuestionsText.{field, ended, question_line};
 
 use devices::{Sink, SinkFault, put_all};
-use trust_lists::{Question, put_digits};
+use list_answers::{Question, put_digits};
 
 // Writes octets as digits, or `-` if there are none.
 fn put_octets<S: Sink>(sink: &mut S, octets: &[u8]) -> Result<(), SinkFault>

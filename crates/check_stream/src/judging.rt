@@ -13,7 +13,7 @@ use check_verdict::{Accepted, Checker, judge_signers};
 use cms_stream::{Opened, StreamFault};
 use devices::Source;
 use digests::Wanted;
-use trust_lists::Verifier;
+use list_answers::Verifier;
 
 // C1, X1 or X3, if a pass ended before the file's end.
 fn stopped_by(fault: StreamFault) -> Refused

@@ -22,8 +22,9 @@ use check_verdict::{Accepted, Checker};
 use cms_stream::{Opened, Pass, StreamFault};
 use devices::Source;
 use digests::{Alg, Algs, Wanted};
+use list_answers::Verifier;
 use std::marker::Brand;
-use trust_lists::{Trust, Verifier};
+use trust_lists::Trust;
 
 // One pass over a file: what it keeps, and the hashers of these algorithms, which took its content.
 fn pass_over<'b, C: Chosen, F: Source>(
@@ -45,7 +46,7 @@ fn pass_over<'b, C: Chosen, F: Source>(
 }
 
 // The verdict, if each digest that a signer needs was computed.
-fn verdict_of<F: Source, S: Source, V: Verifier>(
+fn verdict_by<F: Source, S: Source, V: Verifier>(
     passing: &mut Pass,
     checker: &mut Checker,
     file: &mut F,
@@ -108,7 +109,7 @@ pub fn check_stream_by<F: Source, S: Source, V: Verifier>(
     // What the check goes by stays the same.
     ensures stays { checker.new ≡ checker.old }
 {
-    verdict_of(
+    verdict_by(
         passing, checker, file, content, buffer, verifier, algorithms,
     )
 }

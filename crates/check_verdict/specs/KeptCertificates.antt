@@ -5,10 +5,10 @@ use Rattle.cert_types.specs.CertificateValue.{CertificateValue}
 use Rattle.trust_lists.specs.Entries.{EntryValue}
 use Rattle.check_verdict.specs.declared.certificates.Kept.{Kept}
 
--- the certificate is that of the entry of this number
-abbrev pub IsOfEntry : List EntryValue → (number : ℕ) → CertificateValue → Type 0
-IsOfEntry entries number c = (e : EntryValue) → slice_get entries number ≡ Some e → c ≡ e.certificate
+-- the certificate is that of the entry at this place
+abbrev pub IsOfEntry : List EntryValue → (place : ℕ) → CertificateValue → Type 0
+IsOfEntry entries place c = (e : EntryValue) → slice_get entries place ≡ Some e → c ≡ e.certificate
 
--- what is kept is the certificate of the entry of its number, and this is known of it
+-- what is kept is the certificate of the entry at its place, and this is known of it
 abbrev pub IsKept : (Known : CertificateValue → Type 0) → List EntryValue → Kept → Type 0
-IsKept Known entries kept = IsOfEntry entries kept.number kept.certificate × Known kept.certificate
+IsKept Known entries kept = IsOfEntry entries kept.place kept.certificate × Known kept.certificate

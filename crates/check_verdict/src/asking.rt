@@ -5,7 +5,8 @@ ghost use Rattle.check_verdict.specs.Trusted.{Holds, asked};
 use cert_types::Certificate;
 use cms_types::Signer;
 use der_time::Moment;
-use trust_lists::{Entry, Question};
+use list_answers::Question;
+use trust_lists::Entry;
 
 // Whether a moment that may be absent is no later than this one.
 fn is_begun(from: Option<Moment>, moment: Moment) -> bool

@@ -7,7 +7,7 @@ ghost use Rattle.check_names.specs.Naming.{Matches};
 use cms_types::SignerId;
 use trust_lists::{Role, Trust};
 
-/// The number of the next trusted entry of this role, from this number on, whose certificate a signer's identifier can
+/// The place of the next trusted entry of this role, from this place on, whose certificate a signer's identifier can
 /// match (RFC 5652 5.3). It need not match; it matches none of those that were passed over and have the role.
 pub fn next_candidate(trust: &Trust, role: Role, sid: &SignerId, from: usize) -> Option<usize>
     // An entry is found, or none is left. None of those that were passed over has the role and is matched.

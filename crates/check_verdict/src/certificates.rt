@@ -8,10 +8,10 @@ use cert_types::Certificate;
 use std::marker::{Model, PhantomData};
 use trust_lists::Trust;
 
-// The certificate of the entry of this number.
+// The certificate of the entry at this place.
 #[derive(Debug, Drop)]
 struct Kept<'l> {
-    number: usize,
+    place: usize,
     certificate: Certificate<'l>,
 }
 
@@ -41,7 +41,7 @@ impl Known for Authorities {
     ghost known = { IsStampingOnly };
 }
 
-/// The last certificates that were kept of a role, at most four, each by the number of its entry in a trust list: that
+/// The last certificates that were kept of a role, at most four, each by the place of its entry in a trust list: that
 /// of an entry for many signers is read once. What is kept changes no answer.
 ///
 /// Contracts see the entries of the list, in its order.
@@ -87,41 +87,41 @@ impl<'l, K: Known> Recent<'l, K> {
         }
     }
 
-    // The certificate in a slot, if it is that of the entry of this number.
-    fn in_slot<'s>(slot: &'s Option<Kept<'l>>, number: usize) -> Option<&'s Certificate<'l>>
+    // The certificate in a slot, if it is that of the entry at this place.
+    fn in_slot<'s>(slot: &'s Option<Kept<'l>>, place: usize) -> Option<&'s Certificate<'l>>
         ensures { (entries : List EntryValue) → IfSome slot.now (IsKept K.known entries)
-            → IfSome result (λ c. IsOfEntry entries number c.now × K.known c.now) }
+            → IfSome result (λ c. IsOfEntry entries place c.now × K.known c.now) }
     {
         match slot {
-            Some(kept) if kept.number == number => Some(&kept.certificate),
+            Some(kept) if kept.place == place => Some(&kept.certificate),
             _ => None,
         }
     }
 
-    /// The certificate of the entry of this number, if it is kept.
-    pub fn find(&self, number: usize) -> Option<&Certificate<'l>>
-        ensures { IfSome result (λ c. IsOfEntry self.now number c.now × K.known c.now) }
+    /// The certificate of the entry at this place, if it is kept.
+    pub fn find(&self, place: usize) -> Option<&Certificate<'l>>
+        ensures { IfSome result (λ c. IsOfEntry self.now place c.now × K.known c.now) }
     {
-        if let Some(certificate) = Self::in_slot(&self.first, number) {
+        if let Some(certificate) = Self::in_slot(&self.first, place) {
             return Some(certificate);
         }
-        if let Some(certificate) = Self::in_slot(&self.second, number) {
+        if let Some(certificate) = Self::in_slot(&self.second, place) {
             return Some(certificate);
         }
-        if let Some(certificate) = Self::in_slot(&self.third, number) {
+        if let Some(certificate) = Self::in_slot(&self.third, place) {
             return Some(certificate);
         }
-        Self::in_slot(&self.fourth, number)
+        Self::in_slot(&self.fourth, place)
     }
 
-    /// Keeps the certificate of the entry of this number, in the place of the one that was kept first.
-    pub fn keep(&mut self, number: usize, certificate: Certificate<'l>)
-        requires entry { IsOfEntry self.old number certificate }
+    /// Keeps the certificate of the entry at this place, instead of the one that was kept first.
+    pub fn keep(&mut self, place: usize, certificate: Certificate<'l>)
+        requires entry { IsOfEntry self.old place certificate }
         requires known { K.known certificate }
         ensures { self.new ≡ self.old }
     {
         let kept = Some(Kept {
-            number,
+            place,
             certificate,
         });
         let filled = self.filled % 4;

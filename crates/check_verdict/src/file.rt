@@ -25,7 +25,8 @@ use cms_types::Signers;
 use der_time::Moment;
 use devices::Source;
 use digests::WantedDigests;
-use trust_lists::{Trust, Verifier};
+use list_answers::Verifier;
+use trust_lists::Trust;
 
 /// Why a file isn't accepted whose signer of this number, from 1, isn't good.
 pub(crate) fn numbered(signer: usize, refused: SignerRefused) -> Refused

@@ -13,14 +13,14 @@ use trust_lists::Trust;
 /// How many digests are kept.
 const SLOTS: usize = 8;
 
-// A digest of the certificate of the entry of this number.
+// A digest of the certificate of the entry at this place.
 #[derive(Clone, Copy, Debug)]
 struct KeptDigest {
-    number: usize,
+    place: usize,
     digest: Digest,
 }
 
-/// Digests of certificates of entries of a trust list that were computed last, at most eight, each kept by the number
+/// Digests of certificates of entries of a trust list that were computed last, at most eight, each kept by the place
 /// of its entry: a certificate that is named again and again is hashed once.
 ///
 /// They belong to one list: contracts say of which entries they are the digests (`AreDigestsOf`), and a `Checker` takes
@@ -89,14 +89,14 @@ impl<'l> Hashed<'l> {
         self.kept
     }
 
-    // The digest of the certificate of the entry of this number by this algorithm, if it is kept.
-    fn found(&self, alg: Alg, number: usize) -> Option<Digest>
-        ensures digest { IfSome result (IsDigestAt self.now number) }
+    // The digest of the certificate of the entry at this place by this algorithm, if it is kept.
+    fn found(&self, alg: Alg, place: usize) -> Option<Digest>
+        ensures digest { IfSome result (IsDigestAt self.now place) }
         ensures by { IfSome result (λ d. alg_of d ≡ alg) }
     {
         for slot in &self.kept.slots {
             if let Some(kept) = slot
-                && kept.number == number
+                && kept.place == place
                 && kept.digest.alg() == alg
             {
                 return Some(kept.digest);
@@ -105,13 +105,13 @@ impl<'l> Hashed<'l> {
         None
     }
 
-    // Keeps a digest of the certificate of the entry of this number, in the place of the one that was kept first.
-    fn keep(&mut self, number: usize, digest: Digest)
-        requires { IsDigestAt self.old number digest }
+    // Keeps a digest of the certificate of the entry at this place, instead of the one that was kept first.
+    fn keep(&mut self, place: usize, digest: Digest)
+        requires { IsDigestAt self.old place digest }
         ensures { self.new ≡ self.old }
     {
         let at = self.kept.next % SLOTS;
-        self.kept.slots[at] = Some(KeptDigest { number, digest });
+        self.kept.slots[at] = Some(KeptDigest { place, digest });
         self.kept.next = at + 1;
     }
 }
@@ -121,18 +121,18 @@ impl<'l> CertificateHasher for Hashed<'l> {
     ghost use Rattle.trust_lists.specs.Entries.{EntryValue};
     ghost use Rattle.check_verdict.specs.KeptDigests.{IsCertificateAt};
 
-    ghost Numbering = { List EntryValue };
+    ghost Placing = { List EntryValue };
 
-    ghost numbered_by = { λ h. h };
+    ghost placed_by = { λ h. h };
 
-    ghost is_number_of = { IsCertificateAt };
+    ghost is_place_of = { IsCertificateAt };
 
-    fn digest(&mut self, alg: Alg, number: usize, certificate: &Certificate<'_>) -> Digest {
-        if let Some(digest) = self.found(alg, number) {
+    fn digest(&mut self, alg: Alg, place: usize, certificate: &Certificate<'_>) -> Digest {
+        if let Some(digest) = self.found(alg, place) {
             return digest;
         }
         let digest = digest(alg, certificate.whole());
-        self.keep(number, digest);
+        self.keep(place, digest);
         digest
     }
 }

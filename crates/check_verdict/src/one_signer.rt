@@ -15,7 +15,8 @@ use crate::file::numbered;
 use crate::signer::judge_signer;
 use check_fit::{FileRule, Policy, Refused, hash_content, read_file, wanted_of};
 use devices::Source;
-use trust_lists::{Trust, Verifier};
+use list_answers::Verifier;
+use trust_lists::Trust;
 
 // The verdict of `check_signer`, by what the file's octets are read as.
 fn judge_alone<S: Source, V: Verifier>(

@@ -18,7 +18,7 @@ use check_fit::{SignerRule, TokenRule, fits_by_digests};
 use cms_types::Signer;
 use der_time::Moment;
 use digests::WantedDigests;
-use trust_lists::Verifier;
+use list_answers::Verifier;
 
 /// Why a signer isn't good.
 #[derive(Debug, Drop)]

@@ -21,7 +21,8 @@ use cert_types::Certificate;
 use check_names::{matches, names_if_any};
 use cms_types::Signer;
 use der_time::Moment;
-use trust_lists::{AskFault, Entry, Role, Verifier};
+use list_answers::{AskFault, Verifier};
+use trust_lists::{Entry, Role};
 
 // Whether the entry with this certificate holds at the moment, if one is given.
 fn holds_at(entry: &Entry, certificate: &Certificate, moment: &Option<Moment>) -> bool
@@ -39,11 +40,11 @@ fn failed_unasked(
     signer: &Signer,
     moment: &Option<Moment>,
     entry: &Entry,
-    number: usize,
+    place: usize,
     certificate: &Certificate,
     hashed: &mut Hashed,
 ) -> SignerFilter
-    requires number { slice_get hashed.old number ≡ Some entry.now }
+    requires place { slice_get hashed.old place ≡ Some entry.now }
     requires certificate { certificate.now ≡ entry.now.certificate }
     ensures stage { (t : Terms) → certificate.now ≡ entry.now.certificate → (attributes : List AttributeValue)
         → signer.now.signed_attributes ≡ Some attributes
@@ -57,7 +58,7 @@ fn failed_unasked(
         return SignerFilter::UnknownSigner;
     }
     match signer.attributes() {
-        Some(attributes) if names_if_any(attributes, certificate, number, hashed) =>
+        Some(attributes) if names_if_any(attributes, certificate, place, hashed) =>
             SignerFilter::SignatureFails,
         _ => SignerFilter::NotNamed,
     }
@@ -68,12 +69,12 @@ fn stage_under<V: Verifier>(
     signer: &Signer,
     moment: &Option<Moment>,
     entry: &Entry,
-    number: usize,
+    place: usize,
     certificate: &Certificate,
     verifier: &mut V,
     hashed: &mut Hashed,
 ) -> Result<Option<SignerFilter>, AskFault>
-    requires number { slice_get hashed.old number ≡ Some entry.now }
+    requires place { slice_get hashed.old place ≡ Some entry.now }
     requires certificate { certificate.now ≡ entry.now.certificate }
     ensures stage { (t : Terms) → t.vouches ≡ V.vouches verifier.old → (attributes : List AttributeValue)
         → signer.now.signed_attributes ≡ Some attributes
@@ -88,7 +89,7 @@ fn stage_under<V: Verifier>(
     ensures count { Counts result (V.failures verifier.old) (V.failures verifier.new) }
     ensures listed { hashed.new ≡ hashed.old }
 {
-    let failed = failed_unasked(signer, moment, entry, number, certificate, hashed);
+    let failed = failed_unasked(signer, moment, entry, place, certificate, hashed);
     if failed != SignerFilter::SignatureFails {
         return Ok(Some(failed));
     }
@@ -102,17 +103,17 @@ fn stage_under<V: Verifier>(
     }
 }
 
-// Where the entry of this number stops, at a moment if one is given; `None` if it passes S7 to S9. Its certificate is
+// Where the entry at this place stops, at a moment if one is given; `None` if it passes S7 to S9. Its certificate is
 // kept if it passes S7, so if it matches and the entry holds at the moment, since other signers may have it.
 fn signer_stage<'l, V: Verifier>(
     signer: &Signer,
     moment: &Option<Moment>,
     entry: &'l Entry,
-    number: usize,
+    place: usize,
     checker: &mut Checker<'l>,
     verifier: &mut V,
 ) -> Result<Option<SignerFilter>, AskFault>
-    requires number { slice_get checker.old.trust number ≡ Some entry.now }
+    requires place { slice_get checker.old.trust place ≡ Some entry.now }
     ensures stage { (t : Terms) → t.vouches ≡ V.vouches verifier.old → (attributes : List AttributeValue)
         → signer.now.signed_attributes ≡ Some attributes
         → IfOk result (λ failed. Comes (LeftAt t signer.now attributes moment.now) 3 entry.now
@@ -126,12 +127,12 @@ fn signer_stage<'l, V: Verifier>(
     ensures count { Counts result (V.failures verifier.old) (V.failures verifier.new) }
     ensures stays { checker.new ≡ checker.old }
 {
-    if let Some(certificate) = checker.signers.find(number) {
+    if let Some(certificate) = checker.signers.find(place) {
         return stage_under(
             signer,
             moment,
             entry,
-            number,
+            place,
             certificate,
             verifier,
             &mut checker.hashed,
@@ -142,13 +143,13 @@ fn signer_stage<'l, V: Verifier>(
         signer,
         moment,
         entry,
-        number,
+        place,
         &certificate,
         verifier,
         &mut checker.hashed,
     )?;
     if failed != Some(SignerFilter::UnknownSigner) {
-        checker.signers.keep(number, certificate);
+        checker.signers.keep(place, certificate);
     }
     Ok(failed)
 }

@@ -19,7 +19,7 @@ use crate::token::judge_token;
 use check_fit::{TokenRefused, TokenRule};
 use cms_types::Signer;
 use der_time::Moment;
-use trust_lists::{AskFault, Verifier};
+use list_answers::{AskFault, Verifier};
 
 /// What is known of a signer by the tokens of it that were judged.
 #[derive(Debug, Drop)]

@@ -10,7 +10,8 @@ use crate::checker::Checker;
 use crate::claim::claim_of;
 use crate::token_stages::token_stages;
 use check_fit::{DeviceFault, Policy, TokenRefused};
-use trust_lists::{Trust, Verifier};
+use list_answers::Verifier;
+use trust_lists::Trust;
 
 /// The verdict of `check_token`, by a `Checker`, which serves for many tokens.
 ///

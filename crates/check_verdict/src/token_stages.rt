@@ -19,7 +19,8 @@ use crate::filter::{TokenFilter, further_for_token};
 use crate::hashed::Hashed;
 use cert_types::Certificate;
 use check_names::{matches, must_name};
-use trust_lists::{AskFault, Entry, Role, Verifier};
+use list_answers::{AskFault, Verifier};
+use trust_lists::{Entry, Role};
 
 // Whether the certificate is for time-stamping alone, which may be known.
 fn is_stamping_only(certificate: &Certificate, known: bool) -> bool
@@ -44,12 +45,12 @@ fn is_for_stamping(failed: Option<TokenFilter>) -> bool
 fn failed_unasked(
     claim: &Claim,
     entry: &Entry,
-    number: usize,
+    place: usize,
     certificate: &Certificate,
     known: bool,
     hashed: &mut Hashed,
 ) -> TokenFilter
-    requires number { slice_get hashed.old number ≡ Some entry.now }
+    requires place { slice_get hashed.old place ≡ Some entry.now }
     requires certificate { certificate.now ≡ entry.now.certificate }
     requires stamping { IsTrue known → IsStampingOnly certificate.now }
     ensures stage { (t : Terms) → certificate.now ≡ entry.now.certificate
@@ -65,7 +66,7 @@ fn failed_unasked(
     let Some(attributes) = claim.signer.attributes() else {
         return TokenFilter::NotNamed;
     };
-    if !must_name(attributes, certificate, number, hashed) {
+    if !must_name(attributes, certificate, place, hashed) {
         return TokenFilter::NotNamed;
     }
     if !is_stamping_only(certificate, known) {
@@ -81,13 +82,13 @@ fn failed_unasked(
 fn stage_under<V: Verifier>(
     claim: &Claim,
     entry: &Entry,
-    number: usize,
+    place: usize,
     certificate: &Certificate,
     known: bool,
     verifier: &mut V,
     hashed: &mut Hashed,
 ) -> Result<Option<TokenFilter>, AskFault>
-    requires number { slice_get hashed.old number ≡ Some entry.now }
+    requires place { slice_get hashed.old place ≡ Some entry.now }
     requires certificate { certificate.now ≡ entry.now.certificate }
     requires stamping { IsTrue known → IsStampingOnly certificate.now }
     ensures stage { (t : Terms) → t.vouches ≡ V.vouches verifier.old
@@ -99,7 +100,7 @@ fn stage_under<V: Verifier>(
     ensures count { Counts result (V.failures verifier.old) (V.failures verifier.new) }
     ensures listed { hashed.new ≡ hashed.old }
 {
-    let failed = failed_unasked(claim, entry, number, certificate, known, hashed);
+    let failed = failed_unasked(claim, entry, place, certificate, known, hashed);
     if failed != TokenFilter::SignatureFails {
         return Ok(Some(failed));
     }
@@ -113,16 +114,16 @@ fn stage_under<V: Verifier>(
     }
 }
 
-// Where the entry of this number stops; `None` if it passes K10 to K14. Its certificate is kept if it passes K12, so if
+// Where the entry at this place stops; `None` if it passes K10 to K14. Its certificate is kept if it passes K12, so if
 // it is for time-stamping alone, since other tokens may have it.
 fn token_stage<'l, V: Verifier>(
     claim: &Claim,
     entry: &'l Entry,
-    number: usize,
+    place: usize,
     checker: &mut Checker<'l>,
     verifier: &mut V,
 ) -> Result<Option<TokenFilter>, AskFault>
-    requires number { slice_get checker.old.trust number ≡ Some entry.now }
+    requires place { slice_get checker.old.trust place ≡ Some entry.now }
     ensures stage { (t : Terms) → t.vouches ≡ V.vouches verifier.old
         → IfOk result (λ failed. Comes (LeftForToken t claim.now) 5 entry.now (passed_for_token failed)) }
     ensures only { (test : Asked → Bool) → (IsInPeriod claim.now entry.now
@@ -132,11 +133,11 @@ fn token_stage<'l, V: Verifier>(
     ensures count { Counts result (V.failures verifier.old) (V.failures verifier.new) }
     ensures stays { checker.new ≡ checker.old }
 {
-    if let Some(certificate) = checker.authorities.find(number) {
+    if let Some(certificate) = checker.authorities.find(place) {
         return stage_under(
             claim,
             entry,
-            number,
+            place,
             certificate,
             true,
             verifier,
@@ -147,14 +148,14 @@ fn token_stage<'l, V: Verifier>(
     let failed = stage_under(
         claim,
         entry,
-        number,
+        place,
         &certificate,
         false,
         verifier,
         &mut checker.hashed,
     )?;
     if is_for_stamping(failed) {
-        checker.authorities.keep(number, certificate);
+        checker.authorities.keep(place, certificate);
     }
     Ok(failed)
 }

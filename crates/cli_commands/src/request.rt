@@ -17,9 +17,9 @@ use cli_failures::{Failure, files};
 use cli_tasks::{RequestWords, Stamped};
 use cmsproof_api::{Alg, Digest, Int, MakeFault, Oid, Request};
 use der_oid_text::{OidFault, oid_parse};
+use list_answers::Digits;
 use std::alloc::Global;
 use std::rt::Files;
-use trust_lists::Digits;
 
 /// Makes a request of these values, and then the file that it goes into, which is refused if it is the one of the
 /// signature.

@@ -2,9 +2,9 @@ ghost use Rattle.std.specs.Prelude.{◌≡◌, Some, None, IfSome, is_some, opti
 
 use crate::answers_seal::AnswersSeal;
 use crate::parts::Parts;
+use list_answers::Answers;
 use std::alloc::Global;
 use std::mem;
-use trust_lists::Answers;
 
 /// An answers list that C holds, or none.
 #[repr(C)]

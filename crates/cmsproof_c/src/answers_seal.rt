@@ -4,9 +4,9 @@ ghost use Rattle.list_answers.specs.contracts.answers.Answers.{the_row};
 ghost use Rattle.cmsproof_c.specs.Kept.{kept_owns};
 
 use crate::parts::Parts;
+use list_answers::Answers;
 use std::alloc::Global;
 use std::marker::Model;
-use trust_lists::Answers;
 
 /// A box of an answers list, or nothing. Its field names no other type, so that C can hold it.
 #[repr(C)]

@@ -7,8 +7,8 @@ use check_fit::Refused;
 use check_verdict::{Accepted, judge_file};
 use devices::{Slice, Source};
 use library_answers::{Told, tell_verdict};
+use list_answers::Answers;
 use std::alloc::Global;
-use trust_lists::Answers;
 
 /// A file, and the content beside it, if it is given.
 #[derive(Clone, Copy, Debug)]

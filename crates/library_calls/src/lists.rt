@@ -2,8 +2,9 @@ ghost use Rattle.std.specs.Prelude.{◌≡◌, Some, None, IfOk, IfErr};
 ghost use Rattle.library_calls.specs.Lists.{ReadsTrust, ReadsAnswers, trust_numbers, answers_numbers};
 
 use library_answers::{Answer, IS_MALFORMED, MALFORMED, NO_MEMORY, WRITTEN};
+use list_answers::{Answers, AnswersFault, AnswersRule};
 use std::alloc::Global;
-use trust_lists::{Answers, AnswersFault, AnswersRule, Trust, TrustFault, TrustRule};
+use trust_lists::{Trust, TrustFault, TrustRule};
 
 /// The numbers of a fault of a trust list.
 fn trust_answer(fault: TrustFault) -> Answer

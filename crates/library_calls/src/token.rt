@@ -9,7 +9,7 @@ use check_verdict::{Accepted, judge_token};
 use library_answers::{
     Answer, DONE, FAILED, REFUSED, Told, accepted_answer, device_answer, token_answer,
 };
-use trust_lists::Answers;
+use list_answers::Answers;
 
 /// The verdict about a token under these lists.
 fn verdict_of(

@@ -5,7 +5,7 @@ use Rattle.trust_lists.specs.Entries.{EntryValue}
 use Rattle.trust_lists.specs.declared.role.Role.{Role}
 use Rattle.trust_lists.specs.declared.marks.MarkBy.{MarkBy}
 use Rattle.trust_lists.specs.declared.marks.MarkBy.TheVariants.{Serial, KeyId}
-use Rattle.trust_lists.specs.Marks.{mark_of, number_of, HasMark, AreMarked, StandsAt, HasSerial, HasKey, IsNext}
+use Rattle.trust_lists.specs.Marks.{mark_of, label_of, HasMark, AreMarked, StandsAt, HasSerial, HasKey, IsNext}
 
 -- where an entry has the role, and its certificate the mark, both stand at its place
 next_of : (Is : EntryValue → Type 0) (role : Role) (by : MarkBy) (mark : ℕ)
@@ -14,7 +14,7 @@ next_of : (Is : EntryValue → Type 0) (role : Role) (by : MarkBy) (mark : ℕ)
     → IsNextAt (StandsAt role mark entries marks) (length entries) first found → IsNext Is entries first found
 next_of Is role by mark marked entries marks first None are h = λ i e from below is p.
     h i from below (
-      are.each i mark e is (marked e p).1 ∙ ap (λ (r : Role). number_of r mark) (marked e p).0,
+      are.each i mark e is (marked e p).1 ∙ ap (λ (r : Role). label_of r mark) (marked e p).0,
       (e, is, (marked e p).0),
     )
 next_of Is role by mark marked entries marks first (Some at) are h = (
@@ -22,7 +22,7 @@ next_of Is role by mark marked entries marks first (Some at) are h = (
   h.1,
   λ i e from below is p.
       h.3 i from below (
-        are.each i mark e is (marked e p).1 ∙ ap (λ (r : Role). number_of r mark) (marked e p).0,
+        are.each i mark e is (marked e p).1 ∙ ap (λ (r : Role). label_of r mark) (marked e p).0,
         (e, is, (marked e p).0),
       ),
 )

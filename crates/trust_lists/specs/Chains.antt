@@ -1,4 +1,4 @@
--- Chains of numbers that may be the same. There are as many chains as numbers, and the remainder of a number by how
+-- Chains of labels that may be the same. There are as many chains as labels, and the remainder of a label by how
 -- many there are says in which chain its place is.
 use Rattle.std.specs.Prelude.{◌≡◌, ℕ, ◌+◌, ◌%◌, ◌<◌, ◌≤◌, List, length, slice_index, Option, MatchOption}
 
@@ -12,23 +12,23 @@ IsNextAt Is end first found = MatchOption found (NoneAt Is first end)
     (λ i. (first ≤ i) × (i < end) × Is i × NoneAt Is first i)
 
 -- the chain of a place
-abbrev pub chain_at : (numbers : List ℕ) → (place : ℕ) → ℕ
-chain_at numbers place = slice_index numbers place % length numbers
+abbrev pub chain_at : (labels : List ℕ) → (place : ℕ) → ℕ
+chain_at labels place = slice_index labels place % length labels
 
--- the first place of a chain from this place on; if there is none, how many numbers there are
-pub record IsLink (numbers : List ℕ) (chain first next : ℕ) : Type 0 where
+-- the first place of a chain from this place on; if there is none, how many labels there are
+pub record IsLink (labels : List ℕ) (chain first next : ℕ) : Type 0 where
   pub from : first ≤ next
-  pub within : next ≤ length numbers
-  pub there : next < length numbers → chain_at numbers next ≡ chain
-  pub passed : NoneAt (λ i. chain_at numbers i ≡ chain) first next
+  pub within : next ≤ length labels
+  pub there : next < length labels → chain_at labels next ≡ chain
+  pub passed : NoneAt (λ i. chain_at labels i ≡ chain) first next
 
 -- where each chain begins, of the places from this one on
-pub record AreHeads (numbers heads : List ℕ) (first : ℕ) : Type 0 where
-  pub each : (chain : ℕ) → chain < length numbers → IsLink numbers chain first (slice_index heads chain)
-  pub all : length heads ≡ length numbers
+pub record AreHeads (labels heads : List ℕ) (first : ℕ) : Type 0 where
+  pub each : (chain : ℕ) → chain < length labels → IsLink labels chain first (slice_index heads chain)
+  pub all : length heads ≡ length labels
 
 -- where the chain of each place goes on, of the places from this one on
-pub record AreLinks (numbers links : List ℕ) (first : ℕ) : Type 0 where
-  pub each : (i : ℕ) → first ≤ i → i < length numbers
-      → IsLink numbers (chain_at numbers i) (i + 1) (slice_index links i)
-  pub all : length links ≡ length numbers
+pub record AreLinks (labels links : List ℕ) (first : ℕ) : Type 0 where
+  pub each : (i : ℕ) → first ≤ i → i < length labels
+      → IsLink labels (chain_at labels i) (i + 1) (slice_index links i)
+  pub all : length links ≡ length labels

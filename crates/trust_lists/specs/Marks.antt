@@ -48,21 +48,21 @@ abbrev pub HasMark : MarkBy → (mark : ℕ) → EntryValue → Type 0
 HasMark Serial mark e = mark ≡ mark_of (mark_of 0 e.certificate.tbs.issuer) e.certificate.tbs.serial
 HasMark KeyId mark e = (k : List ℕ) × HasKeyId e.certificate k × (mark ≡ mark_of 0 k)
 
--- the number of a role and a mark, by which entries are found: another one for each role, and in another chain where
+-- the label of a role and a mark, by which entries are found: another one for each role, and in another chain where
 -- there are two chains or more
-abbrev pub number_of : Role → (mark : ℕ) → ℕ
-number_of Signer mark = mark
-number_of Tsa mark = (mark + 2305843009213693109) % 2 ^ 64
+abbrev pub label_of : Role → (mark : ℕ) → ℕ
+label_of Signer mark = mark
+label_of Tsa mark = (mark + 2305843009213693109) % 2 ^ 64
 
--- the number of each entry that has a mark stands at its place
-pub record AreMarked (by : MarkBy) (entries : List EntryValue) (numbers : List ℕ) : Type 0 where
+-- the label of each entry that has a mark stands at its place
+pub record AreMarked (by : MarkBy) (entries : List EntryValue) (labels : List ℕ) : Type 0 where
   pub each : (i mark : ℕ) (e : EntryValue) → slice_get entries i ≡ Some e → HasMark by mark e
-      → slice_index numbers i ≡ number_of e.role mark
-  pub all : length numbers ≡ length entries
+      → slice_index labels i ≡ label_of e.role mark
+  pub all : length labels ≡ length entries
 
--- at this place stand an entry of this role, and the number of this role and this mark
-abbrev pub StandsAt : Role → (mark : ℕ) → (entries : List EntryValue) → (numbers : List ℕ) → (place : ℕ) → Type 0
-StandsAt role mark entries numbers place = (slice_index numbers place ≡ number_of role mark)
+-- at this place stand an entry of this role, and the label of this role and this mark
+abbrev pub StandsAt : Role → (mark : ℕ) → (entries : List EntryValue) → (labels : List ℕ) → (place : ℕ) → Type 0
+StandsAt role mark entries labels place = (slice_index labels place ≡ label_of role mark)
     × ((e : EntryValue) × (slice_get entries place ≡ Some e) × (e.role ≡ role))
 
 -- the entry has this role, and its certificate this issuer, as a whole element, and this serial number
@@ -74,12 +74,12 @@ HasSerial role issuer serial e = (e.role ≡ role) × (e.certificate.tbs.issuer 
 abbrev pub HasKey : Role → (id : List ℕ) → EntryValue → Type 0
 HasKey role id e = (e.role ≡ role) × HasKeyId e.certificate id
 
--- this holds of none of the entries from the one of the first number to the one before the last
+-- this holds of none of the entries from the one at the first place to the one before the last
 abbrev pub NoneFrom : (Is : EntryValue → Type 0) → List EntryValue → (first last : ℕ) → Type 0
 NoneFrom Is entries first last = (i : ℕ) (e : EntryValue) → first ≤ i → i < last → slice_get entries i ≡ Some e
     → Is e → ⊥
 
--- the entry that was found from this number on: those before it are others; if there is none, all are
+-- the entry that was found from this place on: those before it are others; if there is none, all are
 abbrev pub IsNext : (Is : EntryValue → Type 0) → List EntryValue → (first : ℕ) → (found : Option ℕ) → Type 0
 IsNext Is entries first found = MatchOption found (NoneFrom Is entries first (length entries))
     (λ i. (first ≤ i) × (i < length entries) × NoneFrom Is entries first i)

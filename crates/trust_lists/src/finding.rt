@@ -5,50 +5,50 @@ ghost use Rattle.trust_lists.specs.Marks.{AreMarked, StandsAt};
 
 use crate::chains::Chains;
 use crate::entry::Entry;
-use crate::marks::{MarkBy, number_of};
+use crate::marks::{MarkBy, label_of};
 use crate::role::Role;
 use std::alloc::{AllocError, Global};
 
-// The numbers of entries, in their order.
-fn numbers_of(alloc: Global, entries: &[Entry], by: MarkBy) -> Result<Vec<u64>, AllocError>
-    ensures found { IfOk result (λ numbers. AreMarked by entries.now numbers.items) }
+// The labels of entries, in their order.
+fn labels_of(alloc: Global, entries: &[Entry], by: MarkBy) -> Result<Vec<u64>, AllocError>
+    ensures found { IfOk result (λ labels. AreMarked by entries.now labels.items) }
     // For no entries no memory is taken.
     ensures memory { IfErr result (λ _. 0 < length entries.now) }
 {
-    let mut numbers = Vec::with_capacity(alloc, entries.len())?;
+    let mut labels = Vec::with_capacity(alloc, entries.len())?;
     for entry in entries {
-        numbers.push(number_of(entry.role(), entry.mark(by)))?;
+        labels.push(label_of(entry.role(), entry.mark(by)))?;
     }
-    Ok(numbers)
+    Ok(labels)
 }
 
-/// The chains of the numbers of entries.
+/// The chains of the labels of entries.
 ///
 /// Errors: memory is refused.
 pub(crate) fn chains_of(alloc: Global, entries: &[Entry], by: MarkBy) -> Result<Chains, AllocError>
-    ensures found { IfOk result (λ numbers. AreMarked by entries.now numbers) }
+    ensures found { IfOk result (λ labels. AreMarked by entries.now labels) }
     // For no entries no memory is taken.
     ensures memory { IfErr result (λ _. 0 < length entries.now) }
 {
-    let numbers = numbers_of(alloc, entries, by)?;
-    Chains::of(alloc, numbers)
+    let labels = labels_of(alloc, entries, by)?;
+    Chains::of(alloc, labels)
 }
 
-/// The number of the next entry of this role, from this number on, at whose place the number of the role and this
-/// mark stands. Entries of another role aren't looked at, unless a number of theirs is the same.
+/// The place of the next entry of this role, from this place on, where the label of the role and this mark stands.
+/// Entries of another role aren't looked at, unless a label of theirs is the same.
 pub(crate) fn next_marked(
     entries: &[Entry],
-    numbers: &Chains,
+    labels: &Chains,
     role: Role,
     mark: u64,
     from: usize,
 ) -> Option<usize>
-    requires { length numbers.now ≡ length entries.now }
-    ensures { IsNextAt (StandsAt role mark entries.now numbers.now) (length entries.now) from result }
+    requires { length labels.now ≡ length entries.now }
+    ensures { IsNextAt (StandsAt role mark entries.now labels.now) (length entries.now) from result }
 {
-    let number = number_of(role, mark);
+    let label = label_of(role, mark);
     let mut at = from;
-    while let Some(found) = numbers.next(number, at) {
+    while let Some(found) = labels.next(label, at) {
         if entries[found].role() == role {
             return Some(found);
         }

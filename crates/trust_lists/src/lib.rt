@@ -1,4 +1,4 @@
-//! Trust lists: whom a user trusts. What a caller needs beside them, answers lists and verifiers, is of `list_answers`.
+//! Trust lists: whom a user trusts.
 //! The words that the contracts use are defined in `specs/`.
 #![tactic(auto)]
 
@@ -16,10 +16,6 @@ mod written;
 
 pub use entry::Entry;
 pub use laws::{lists_are_read_back, rows_hold};
-pub use list_answers::{
-    Answers, AnswersFault, AnswersRule, AskFault, Digits, ExpectingVerifier, FusedVerifier,
-    Question, Verifier, put_digits,
-};
 pub use role::Role;
 pub use trust::Trust;
 pub use trust_fault::{TrustFault, TrustRule};

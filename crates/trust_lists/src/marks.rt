@@ -1,7 +1,7 @@
 //! The marks of certificates, which are compared in place of what a certificate holds.
 ghost use Rattle.std.specs.Prelude.{◌≡◌, ◌≤◌, length, drop};
 ghost use Rattle.std.specs.List.{fold};
-ghost use Rattle.trust_lists.specs.Marks.{next_mark, first_word, mark_of, number_of, AreMarks};
+ghost use Rattle.trust_lists.specs.Marks.{next_mark, first_word, mark_of, label_of, AreMarks};
 
 use crate::role::Role;
 use cert_types::Certificate;
@@ -88,9 +88,9 @@ pub(crate) fn mark_of(mark: u64, octets: &[u8]) -> u64
     mark_of_each(mark, left)
 }
 
-/// The number of a role and a mark, by which entries are found.
-pub(crate) fn number_of(role: Role, mark: u64) -> u64
-    ensures { result ≡ number_of role mark }
+/// The label of a role and a mark, by which entries are found.
+pub(crate) fn label_of(role: Role, mark: u64) -> u64
+    ensures { result ≡ label_of role mark }
 {
     match role {
         Role::Signer => mark,

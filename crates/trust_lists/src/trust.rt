@@ -30,7 +30,7 @@ const SECOND_VERSION: &[u8] = b"cmsproof trust 2";
 #[derive(Debug, Drop)]
 pub struct Trust {
     entries: Vec<Entry>,
-    // The numbers of roles and marks, by which entries are found: marks of issuers and serial numbers, and of key
+    // The labels of roles and marks, by which entries are found: marks of issuers and serial numbers, and of key
     // identifiers.
     serials: Chains,
     key_ids: Chains,
@@ -142,7 +142,7 @@ impl Trust {
         &self.entries
     }
 
-    /// The number of the next entry of this role, from this number on, whose certificate can have this issuer, as a
+    /// The place of the next entry of this role, from this place on, whose certificate can have this issuer, as a
     /// whole element, and this serial number. It need not have them; none of the entries that were passed over does.
     #[tactic(auto, using(crate::proofs::MarkedEntries::next_serial))]
     pub fn next_serial(
@@ -160,7 +160,7 @@ impl Trust {
         next_marked(&self.entries, &self.serials, role, mark, from)
     }
 
-    /// The number of the next entry of this role, from this number on, whose certificate can have this key identifier.
+    /// The place of the next entry of this role, from this place on, whose certificate can have this key identifier.
     /// It need not have it; none of the entries that were passed over does.
     #[tactic(auto, using(crate::proofs::MarkedEntries::next_key_id))]
     pub fn next_key_id(&self, role: Role, id: &[u8], from: usize) -> Option<usize>

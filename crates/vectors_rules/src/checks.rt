@@ -9,7 +9,7 @@ use cms_compare::compare;
 use cms_types::SignedData;
 use der_time::generalized_text;
 use devices::{Failing, FromRead, Pieces, Slice, Source};
-use trust_lists::FusedVerifier;
+use list_answers::FusedVerifier;
 use tsp_requester::answers;
 use tsp_types::{Request, Response};
 use vectors::{Bad, Row, needed};

@@ -1,7 +1,8 @@
 //! What trust lists and answers lists are read as, and what verifiers answer by them.
 use der_time::{Moment, generalized_text};
 use devices::FromWrite;
-use trust_lists::{Answers, ExpectingVerifier, FusedVerifier, Question, Role, Trust, Verifier};
+use list_answers::{Answers, ExpectingVerifier, FusedVerifier, Question, Verifier};
+use trust_lists::{Role, Trust};
 use vectors::{Bad, Row, needed};
 
 /// The text of a value, in which `;` ends a line.

@@ -5,9 +5,9 @@ use Rattle.trust_lists.proofs.chains.link.Given as goal
 -- the chains of the places so far
 abbrev pub invariant-loop-at : goal.invariant-loop-at
 invariant-loop-at l = record {
-  within : l.at ≤ length l.numbers;
-  heads : AreHeads l.numbers l.heads l.at;
-  links : AreLinks l.numbers l.links l.at;
+  within : l.at ≤ length l.labels;
+  heads : AreHeads l.labels l.heads l.at;
+  links : AreLinks l.labels l.links l.at;
 }
 
 abbrev pub decreases-loop-at : goal.decreases-loop-at

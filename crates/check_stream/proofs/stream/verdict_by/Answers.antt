@@ -5,7 +5,7 @@ use Rattle.check_verdict.specs.Checkers.{terms_for}
 use Rattle.check_stream.specs.StreamVerdicts.{ChecksStreamAsking}
 use Rattle.check_stream.proofs.Verdicts.{if_stream, early_or_end}
 use Rattle.check_stream.proofs.Devices.{if_devices}
-use Rattle.check_stream.proofs.stream.verdict_of.Goals as goal
+use Rattle.check_stream.proofs.stream.verdict_by.Goals as goal
 use Rattle.check_fit.specs.FileFitting.{facts_of}
 
 pub returns-clause-asked : goal.returns-clause-asked

@@ -1,4 +1,4 @@
-use Rattle.check_stream.proofs.stream.verdict_of.Given as goal
+use Rattle.check_stream.proofs.stream.verdict_by.Given as goal
 
 -- the pass hashes by the algorithms that were given
 abbrev pub ghosts-pass_over : goal.ghosts-pass_over

@@ -8,10 +8,8 @@ mod content;
 mod fault;
 mod hashers;
 mod judging;
-mod kept;
 mod stream;
 mod stream_questions;
-mod unkept;
 
 pub use fault::StreamQuestionsFault;
 pub use stream::{check_stream, check_stream_by, check_stream_with};

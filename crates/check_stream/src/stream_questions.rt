@@ -10,12 +10,23 @@ ghost use Rattle.check_stream.specs.StreamQuestions.{IsBeforeText, IsTextOrBefor
 ghost use Rattle.check_stream.specs.PassSteps.{HasQuestions, PutsPass};
 
 use crate::fault::StreamQuestionsFault;
-use crate::unkept::Unkept;
 use check_questions::{QuestionsFault, put_text};
-use cms_stream::{Opened, Pass, StreamFault};
+use cms_stream::{Opened, Pass, StreamFault, Taker};
 use cms_types::Signers;
 use devices::{Sink, Source};
 use trust_lists::Trust;
+
+// Takes the octets of a content, and keeps none of them.
+#[derive(Clone, Copy, Debug)]
+struct Unkept;
+
+impl Taker for Unkept {
+    ghost use Rattle.std.specs.Prelude.{⊤};
+
+    ghost held = { λ _ _. ⊤ };
+
+    fn take(&mut self, _octets: &[u8]) {}
+}
 
 // These signers, which were read from these octets, have a list of questions. There is nothing to do at run time.
 fn have_questions(octets: &[u8], signers: &Signers, trust: &Trust)

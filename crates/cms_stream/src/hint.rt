@@ -6,7 +6,7 @@ ghost use Rattle.cms_stream.specs.Readers.{seen};
 ghost use Rattle.cms_stream.specs.Hints.{AreNamedBy, AreNamedIn, AreListed, IsListTooLong, Tells, body_until};
 ghost use Rattle.cms_stream.specs.Hints.{signed_at, listed_at};
 
-use crate::pass::Pass;
+use crate::opening::Pass;
 use crate::reader::Reader;
 use crate::stream_fault::StreamFault;
 use crate::tags::{CONTENT, VERSIONS};

@@ -5,7 +5,6 @@ ghost use Rattle.cms_stream.specs.Opening.{FitsRoom, OpensStream, OpensEncoding,
 ghost use Rattle.cms_stream.specs.Parts.{OpensFile};
 
 use crate::opened::Opened;
-use crate::pass::Pass;
 use crate::reader::Reader;
 use crate::stream_fault::StreamFault;
 use crate::taker::Taker;
@@ -34,7 +33,22 @@ impl Reader {
     }
 }
 
+/// A window of 64 KiB, which serves for passes over one file after another, so that it is set up once for all of them.
+/// It is empty at the front of each file: no octet of an earlier file is taken for one of the next. No `Debug` prints
+/// those that it may still hold.
+#[derive(Drop)]
+pub struct Pass {
+    pub(crate) reader: Reader,
+}
+
 impl Pass {
+    /// A window that served for no file yet.
+    pub fn new() -> Pass {
+        Pass {
+            reader: Reader::new(),
+        }
+    }
+
     /// One pass over a file, a ContentInfo (RFC 5652 3), to the end of its source: what it keeps of a SignedData, or
     /// `None` if the file is of another type. The octets of the content, if it is in the file, go to `taker` as they
     /// pass. It uses as many octets of the buffer as the whole elements eContentType and signerInfos have; the result

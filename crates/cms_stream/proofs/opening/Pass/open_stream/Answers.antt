@@ -1,7 +1,7 @@
 use Rattle.std.proofs.Common.{length}
 use Rattle.cms_stream.specs.Passing.{Gains}
 use Rattle.cms_stream.proofs.Opens.{opens_from, encoding_from}
-use Rattle.cms_stream.proofs.pass.Pass.open_stream.Goals as goal
+use Rattle.cms_stream.proofs.opening.Pass.open_stream.Goals as goal
 
 pub returns-clause-opens : goal.returns-clause-opens
 returns-clause-opens g c t =

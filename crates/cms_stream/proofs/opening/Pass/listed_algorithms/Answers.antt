@@ -1,5 +1,5 @@
 use Rattle.cms_stream.proofs.Listed.{listed_from_front}
-use Rattle.cms_stream.proofs.pass.Pass.listed_algorithms.Goals as goal
+use Rattle.cms_stream.proofs.opening.Pass.listed_algorithms.Goals as goal
 
 pub returns-clause-listed : goal.returns-clause-listed
 returns-clause-listed g c t v good =

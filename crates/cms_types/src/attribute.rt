@@ -39,6 +39,7 @@ pub(crate) fn enter_first<'a>(list: &Cursor<'a>) -> Option<(Cursor<'a>, Cursor<'
         → IfSome result (λ x. IsList (within 0x30 attribute_in) x.1) }
     ensures shorter { IfSome result (λ x. length x.1.rest < length list.now.rest) }
 {
+    // Named for the proof.
     let _rest = list.rest();
     if list.is_empty() {
         return None;

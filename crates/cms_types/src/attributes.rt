@@ -55,6 +55,7 @@ impl<'a> Attributes<'a> {
         requires { IsTrue AGAIN → IsOk (signed_attributes_in list) }
         ensures { Gives (λ a. a) result (signed_attributes_in list.entry) }
     {
+        // Named for the proof.
         let _rest = list.rest();
         let count = if AGAIN {
             count_of(&list)

@@ -16,6 +16,7 @@ pub(crate) fn first_signer<'a>(list: &Cursor<'a>) -> Option<(Signer<'a>, Cursor<
         (λ x. all_in (within 0x30 signer_in) list.now ≡ x.0 ∷ all_in (within 0x30 signer_in) x.1) }
     ensures list { IfSome result (λ x. IsList (within 0x30 signer_in) x.1) }
 {
+    // Named for the proof.
     let _rest = list.rest();
     if list.is_empty() {
         return None;
@@ -39,6 +40,7 @@ pub(crate) fn first_digest_algorithm<'a>(
         (λ x. BeginsBy (all_in (within 0x30 signer_in) list.now) x.0 (all_in (within 0x30 signer_in) x.1)) }
     ensures list { IfSome result (λ x. IsList (within 0x30 signer_in) x.1) }
 {
+    // Named for the proof.
     let _rest = list.rest();
     if list.is_empty() {
         return None;

@@ -142,6 +142,7 @@ impl<'a> Cursor<'a> {
         // Which fault is reported.
         ensures exact { Moves seen result self.old self.new (next_at self.old) }
     {
+        // Named for the proof.
         let _rest = self.rest;
         self.next_element()
     }
@@ -174,6 +175,7 @@ impl<'a> Cursor<'a> {
         // Which fault is reported.
         ensures exact { Moves seen result self.old self.new (expect_at tag self.old) }
     {
+        // Named for the proof.
         let _rest = self.rest;
         self.expect_element(tag)
     }
@@ -219,6 +221,7 @@ impl<'a> Cursor<'a> {
         // Which fault is reported.
         ensures exact { Moves (option_map seen) result self.old self.new (optional_at tag self.old) }
     {
+        // Named for the proof.
         let _rest = self.rest;
         self.optional_element(tag)
     }
@@ -267,6 +270,7 @@ impl<'a> Cursor<'a> {
         // Which fault is reported.
         ensures exact { Moves (λ x. x.1) result self.old self.new (enter_at tag self.old) }
     {
+        // Named for the proof.
         let _rest = self.rest;
         self.open_element(tag)
     }

@@ -16,6 +16,7 @@ pub fn next_item<'a, I: Item<'a>>(list: &Cursor<'a>) -> Option<(I, Cursor<'a>)>
     // The others are a list.
     ensures list { IsList I.reading list.now → IfSome result (λ x. IsList I.reading x.1) }
 {
+    // Named for the proof.
     let _rest = list.rest();
     if list.is_empty() {
         return None;

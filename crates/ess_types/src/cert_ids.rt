@@ -80,6 +80,7 @@ impl<'a> CertIds<'a> {
     pub(crate) fn read_v1(list: Cursor<'a>) -> Result<CertIds<'a>, Fault>
         ensures { Gives (λ c. c) result (plain_ids_in list.entry) }
     {
+        // Named for the proof.
         let _octets = list.rest();
         scan_items::<PlainId>(&list)?;
         Ok(CertIds { list })

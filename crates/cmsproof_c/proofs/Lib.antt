@@ -1,4 +1,3 @@
-pub mod AnswersAsBox
+pub mod AsBox
 pub mod Held
 pub mod Kept
-pub mod TrustAsBox

@@ -5,6 +5,7 @@ ghost use Rattle.library_calls.specs.Checked.{handed, terms_under, IsChecked, Sa
 ghost use Rattle.cmsproof_c.specs.Held.{IsCheck, VouchesSame};
 
 use crate::answers_handle::AnswersHandle;
+use crate::lists::take_both;
 use crate::trust_handle::TrustHandle;
 use library_answers::{Answer, NO_LIST, Told};
 use library_calls::{Input, tell_check};
@@ -25,20 +26,8 @@ fn check_held(
     ensures trust { trust.new.inside.kept ≡ trust.old.inside.kept }
     ensures answers { VouchesSame answers.old.inside.kept answers.new.inside.kept }
 {
-    let Some(mut list) = trust.take(alloc) else {
-        return Told {
-            status: NO_LIST,
-            size: 0,
-            said: Answer::nothing(),
-        };
-    };
-    let Some(mut asked) = answers.take(alloc) else {
-        *trust = TrustHandle::of(list);
-        return Told {
-            status: NO_LIST,
-            size: 0,
-            said: Answer::nothing(),
-        };
+    let Some((mut list, mut asked)) = take_both(alloc, trust, answers) else {
+        return Told::without_text(NO_LIST, Answer::nothing());
     };
     let told = tell_check(alloc, &mut list, &mut asked, input, sha1, room);
     *trust = TrustHandle::of(list);

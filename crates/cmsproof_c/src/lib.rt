@@ -7,6 +7,7 @@ mod answers;
 mod answers_handle;
 mod answers_seal;
 mod check;
+mod lists;
 mod parts;
 mod questions;
 mod requests;

@@ -19,11 +19,7 @@ fn questions_held(alloc: Global, trust: &mut TrustHandle, octets: &[u8], room: &
     ensures trust { trust.new.inside.kept ≡ trust.old.inside.kept }
 {
     let Some(list) = trust.take(alloc) else {
-        return Told {
-            status: NO_LIST,
-            size: 0,
-            said: Answer::nothing(),
-        };
+        return Told::without_text(NO_LIST, Answer::nothing());
     };
     let told = tell_questions(alloc, list.list(), octets, room);
     *trust = TrustHandle::of(list);

@@ -15,7 +15,7 @@ use std::alloc::Global;
 pub extern "C" fn cmsproof_request(
     alloc: Global,
     algorithm: &[u8],
-    octets: &[u8],
+    digest: &[u8],
     policy: &[u8],
     nonce: &[u8],
     certificate: bool,
@@ -24,10 +24,10 @@ pub extern "C" fn cmsproof_request(
     said: &mut Answer,
 ) -> u32
     // The octets that encode the request of this digest, or the first value that is not as it must be.
-    ensures { IsRequested (IsGiven algorithm.now octets.now) algorithm.now policy.now nonce.now certificate said.new
+    ensures { IsRequested (IsGiven algorithm.now digest.now) algorithm.now policy.now nonce.now certificate said.new
         result text.old size.new text.new }
 {
-    let told = tell_request(alloc, algorithm, octets, policy, nonce, certificate, text);
+    let told = tell_request(alloc, algorithm, digest, policy, nonce, certificate, text);
     *size = told.size;
     *said = told.said;
     told.status
@@ -96,15 +96,15 @@ pub extern "C" fn cmsproof_token(
     alloc: Global,
     request: &[u8],
     response: &[u8],
-    text: &mut [u8],
+    token: &mut [u8],
     size: &mut usize,
     said: &mut Answer,
 ) -> u32
     // The token of a response that answers by the definitions, or the first rule that fails, in numbers and as the
     // line.
-    ensures { IsTokenOf request.now response.now said.new result text.old size.new text.new }
+    ensures { IsTokenOf request.now response.now said.new result token.old size.new token.new }
 {
-    let told = tell_token(alloc, request, response, text);
+    let told = tell_token(alloc, request, response, token);
     *size = told.size;
     *said = told.said;
     told.status
@@ -117,19 +117,19 @@ pub extern "C" fn cmsproof_attach(
     file: &[u8],
     signer: u64,
     token: &[u8],
-    text: &mut [u8],
+    attached: &mut [u8],
     size: &mut usize,
     said: &mut Answer,
 ) -> u32
     // The octets of the new file, or the first rule that fails, in numbers and as the line.
-    ensures answer { IsAttaching file.now signer token.now said.new result text.old size.new
-        text.new }
+    ensures answer { IsAttaching file.now signer token.now said.new result attached.old size.new
+        attached.new }
     // For every SignedData that is the file with the token, its encoding, if there is memory.
     ensures only { (w : SignedDataValue) → Attaches file.now signer token.now w
-        → IsMadeIfMemory (encoding (SignedContent w)) said.new result text.old size.new
-        text.new }
+        → IsMadeIfMemory (encoding (SignedContent w)) said.new result attached.old size.new
+        attached.new }
 {
-    let told = tell_attached(alloc, file, signer, token, text);
+    let told = tell_attached(alloc, file, signer, token, attached);
     *size = told.size;
     *said = told.said;
     told.status

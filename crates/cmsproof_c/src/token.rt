@@ -4,6 +4,7 @@ ghost use Rattle.library_calls.specs.CheckedTokens.{SaysPasses};
 ghost use Rattle.cmsproof_c.specs.Held.{IsTokenCheck, VouchesSame};
 
 use crate::answers_handle::AnswersHandle;
+use crate::lists::take_both;
 use crate::trust_handle::TrustHandle;
 use library_answers::{Answer, NO_LIST, Told};
 use library_calls::tell_token_check;
@@ -23,20 +24,8 @@ fn check_held(
     ensures trust { trust.new.inside.kept ≡ trust.old.inside.kept }
     ensures answers { VouchesSame answers.old.inside.kept answers.new.inside.kept }
 {
-    let Some(mut list) = trust.take(alloc) else {
-        return Told {
-            status: NO_LIST,
-            size: 0,
-            said: Answer::nothing(),
-        };
-    };
-    let Some(mut asked) = answers.take(alloc) else {
-        *trust = TrustHandle::of(list);
-        return Told {
-            status: NO_LIST,
-            size: 0,
-            said: Answer::nothing(),
-        };
+    let Some((mut list, mut asked)) = take_both(alloc, trust, answers) else {
+        return Told::without_text(NO_LIST, Answer::nothing());
     };
     let told = tell_token_check(&mut list, &mut asked, token, octets, sha1);
     *trust = TrustHandle::of(list);

@@ -106,12 +106,15 @@ IsLine line verdict status before size after =
     ⊎ ((0 < length before) × (after ≡ before)
     × (((status ≡ 6) × (size ≡ length line) × (length before < length line)) ⊎ ((status ≡ 7) × (size ≡ 0))))
 
--- what was made, with status 1; or, with 6, it has this size and there is too little room, which is as it was
+-- the text, with this status; or, with 6, it has this size and there is too little room, which is as it was
+abbrev pub IsPut : (text : List ℕ) (told status : ℕ) (before : List ℕ) (size : ℕ) (after : List ℕ) → Type 0
+IsPut text told status before size after = (size ≡ length text) × (((status ≡ told) × Holds text before size after)
+    ⊎ ((status ≡ 6) × (length before < length text) × (after ≡ before)))
+
+-- what was made, with status 1, or that there is too little room for it
 abbrev pub IsMade : (octets : List ℕ) (said : Answer)
     (status : ℕ) (before : List ℕ) (size : ℕ) (after : List ℕ) → Type 0
-IsMade octets said status before size after = (said ≡ ruled 10 0 0) × (size ≡ length octets)
-    × (((status ≡ 1) × Holds octets before size after)
-    ⊎ ((status ≡ 6) × (length before < length octets) × (after ≡ before)))
+IsMade octets said status before size after = (said ≡ ruled 10 0 0) × IsPut octets 1 status before size after
 
 -- why nothing was made, in numbers and by the status; and the line that says so if there is room for it, unless there
 -- was no memory to make it, and then there is no text; without it the room is as it was

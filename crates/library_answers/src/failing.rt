@@ -10,7 +10,9 @@ ghost use Rattle.library_answers.specs.Failures.{failure_status, IsLine, IsMade,
 use crate::answer::{
     Answer, IS_MALFORMED, REFUSES, WRITTEN, kind_number, refused_answer, signer_rule_number,
 };
-use crate::text::{DONE, FAILED, MALFORMED, NO_MEMORY, NO_ROOM, REFUSED, Told, USAGE, put};
+use crate::text::{
+    DONE, FAILED, MALFORMED, NO_MEMORY, REFUSED, Told, USAGE, put, tell_line, tell_text,
+};
 use cli_failures::{Failure, Message, Status};
 use cms_compare::{CompareFault, CompareRule, Which};
 use cms_types::CmsFault;
@@ -161,37 +163,7 @@ fn failure_line(alloc: Global, failure: &Failure) -> Option<Vec<u8>>
     Some(line.into_bytes())
 }
 
-/// Says this in numbers, and puts the line of a verdict with this status into its room, if there is any.
-pub fn tell_line(line: &[u8], verdict: u32, said: Answer, room: &mut [u8]) -> Told
-    // The numbers are those.
-    ensures said { result.said ≡ said }
-    // The line is in the room, if there is any; or the status is 6, and the room is as it was.
-    ensures line { IsLine line.now verdict result.status room.old result.size room.new }
-{
-    if room.is_empty() {
-        return Told {
-            status: verdict,
-            size: 0,
-            said,
-        };
-    }
-    let size = line.len();
-    if put(line, room) {
-        Told {
-            status: verdict,
-            size,
-            said,
-        }
-    } else {
-        Told {
-            status: NO_ROOM,
-            size,
-            said,
-        }
-    }
-}
-
-/// The same for the line of a verdict that is a failure.
+/// Says a failure in numbers, and puts its line into the room, if there is any.
 pub fn tell_failure(alloc: Global, failure: &Failure, room: &mut [u8]) -> Told
     // The numbers are those of the failure.
     ensures said { result.said ≡ failure_numbers failure.now }
@@ -202,19 +174,11 @@ pub fn tell_failure(alloc: Global, failure: &Failure, room: &mut [u8]) -> Told
 {
     let said = failure_answer(failure);
     if room.is_empty() {
-        return Told {
-            status: failure_status(failure),
-            size: 0,
-            said,
-        };
+        return Told::without_text(failure_status(failure), said);
     }
     match failure_line(alloc, failure) {
         Some(line) => tell_line(&line, failure_status(failure), said, room),
-        None => Told {
-            status: NO_MEMORY,
-            size: 0,
-            said,
-        },
+        None => Told::without_text(NO_MEMORY, said),
     }
 }
 
@@ -222,20 +186,7 @@ pub fn tell_failure(alloc: Global, failure: &Failure, room: &mut [u8]) -> Told
 pub fn tell_made(octets: &[u8], room: &mut [u8]) -> Told
     ensures { IsMade octets.now result.said result.status room.old result.size room.new }
 {
-    let (size, said) = (octets.len(), Answer::ruled(WRITTEN, 0, 0));
-    if put(octets, room) {
-        Told {
-            status: DONE,
-            size,
-            said,
-        }
-    } else {
-        Told {
-            status: NO_ROOM,
-            size,
-            said,
-        }
-    }
+    tell_text(octets, DONE, Answer::ruled(WRITTEN, 0, 0), room)
 }
 
 /// Says why a call made nothing.
@@ -244,11 +195,7 @@ pub fn tell_unmade(alloc: Global, failure: &Failure, room: &mut [u8]) -> Told
 {
     let (status, said) = (failure_status(failure), failure_answer(failure));
     let Some(line) = failure_line(alloc, failure) else {
-        return Told {
-            status,
-            size: 0,
-            said,
-        };
+        return Told::without_text(status, said);
     };
     let _ = put(&line, room);
     Told {

@@ -1,6 +1,6 @@
 ghost use Rattle.std.specs.Prelude.{◌≡◌, ◌≤◌, ◌<◌, true, false, length, IfSome};
 ghost use Rattle.lines_report.specs.VerdictLine.{IsVerdictLine};
-ghost use Rattle.library_answers.specs.Failures.{Holds};
+ghost use Rattle.library_answers.specs.Failures.{Holds, IsPut, IsLine};
 ghost use Rattle.library_answers.specs.Numbers.{numbers_of};
 ghost use Rattle.library_answers.specs.Verdicts.{Tells, status_of};
 
@@ -46,6 +46,21 @@ pub struct Told {
     pub said: Answer,
 }
 
+impl Told {
+    /// There is no text.
+    pub fn without_text(status: u32, said: Answer) -> Told
+        ensures status { result.status ≡ status }
+        ensures size { result.size ≡ 0 }
+        ensures said { result.said ≡ said }
+    {
+        Told {
+            status,
+            size: 0,
+            said,
+        }
+    }
+}
+
 /// Puts a text to the front of its room, if it fits there.
 pub(crate) fn put(text: &[u8], room: &mut [u8]) -> bool
     ensures fits { result ≡ true → (length text.now ≤ length room.old)
@@ -57,6 +72,37 @@ pub(crate) fn put(text: &[u8], room: &mut [u8]) -> bool
     }
     room[..text.len()].copy_from_slice(text);
     true
+}
+
+/// Says this in numbers and by this status, and puts a text into its room, if it fits there.
+pub(crate) fn tell_text(text: &[u8], status: u32, said: Answer, room: &mut [u8]) -> Told
+    ensures said { result.said ≡ said }
+    ensures text { IsPut text.now status result.status room.old result.size room.new }
+{
+    let size = text.len();
+    if put(text, room) {
+        Told { status, size, said }
+    } else {
+        Told {
+            status: NO_ROOM,
+            size,
+            said,
+        }
+    }
+}
+
+/// Says this in numbers, and puts the line of a verdict with this status into its room, if there is any.
+pub fn tell_line(line: &[u8], verdict: u32, said: Answer, room: &mut [u8]) -> Told
+    // The numbers are those.
+    ensures said { result.said ≡ said }
+    // The line is in the room, if there is any; or the status is 6, and the room is as it was.
+    ensures line { IsLine line.now verdict result.status room.old result.size room.new }
+{
+    if room.is_empty() {
+        Told::without_text(verdict, said)
+    } else {
+        tell_text(line, verdict, said, room)
+    }
 }
 
 /// The line of an answer, if there is memory.
@@ -99,31 +145,10 @@ pub fn tell_verdict(alloc: Global, answer: &Result<Accepted, Refused>, room: &mu
 {
     let said = numbers_of(answer);
     if room.is_empty() {
-        return Told {
-            status: status_of(answer),
-            size: 0,
-            said,
-        };
+        return Told::without_text(status_of(answer), said);
     }
-    let Some(line) = line_of(alloc, answer) else {
-        return Told {
-            status: NO_MEMORY,
-            size: 0,
-            said,
-        };
-    };
-    let size = line.len();
-    if put(&line, room) {
-        Told {
-            status: status_of(answer),
-            size,
-            said,
-        }
-    } else {
-        Told {
-            status: NO_ROOM,
-            size,
-            said,
-        }
+    match line_of(alloc, answer) {
+        Some(line) => tell_line(&line, status_of(answer), said, room),
+        None => Told::without_text(NO_MEMORY, said),
     }
 }

@@ -64,8 +64,8 @@ never_another octets u h another = no (h.1 another)
 module _ (list : List EntryValue) (octets : List ℕ) (said : Answer) (status : ℕ) (before : List ℕ) (size : ℕ)
     (after : List ℕ) where
   made_status : (n : ℕ) (bytes : List ℕ) → IsMade bytes said status before size after → status ≡ n → (n ≡ 1) ⊎ (n ≡ 6)
-  made_status n bytes (is, long, inl (one, whole)) e = inl (sym e ∙ one)
-  made_status n bytes (is, long, inr (six, short, as_it_was)) e = inr (sym e ∙ six)
+  made_status n bytes (is, (long, inl (one, whole))) e = inl (sym e ∙ one)
+  made_status n bytes (is, (long, inr (six, short, as_it_was))) e = inr (sym e ∙ six)
 
   not_three : (bytes : List ℕ) → IsMade bytes said status before size after → status ≡ 3 → ⊥
   not_three bytes made e = no (made_status 3 bytes made e)

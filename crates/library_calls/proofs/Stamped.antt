@@ -1,18 +1,16 @@
 -- What is said of a request of a signature: of its values in their order, and then of the file.
-use Rattle.std.proofs.Common.{◌≡◌, ◌⊎◌, ◌≤◌, ◌^◌, ℕ, Bool, List, Option, Result, Ok, Err, inl, inr, subst, length}
+use Rattle.std.proofs.Common.{◌≡◌, ◌⊎◌, ℕ, Bool, List, Result, Ok, Err, inl, inr}
 use Rattle.std.specs.Prelude.{IfOk, IfErr, MatchResult}
 use Rattle.digests.specs.declared.algorithm.Alg.{Alg}
 use Rattle.digests.specs.declared.value.Digest.{Digest}
 use Rattle.digests.specs.Algorithms.{name_of}
-use Rattle.tsp_types.specs.Asked.{asked}
-use Rattle.tsp_types.specs.RequestValue.{EncodesRequest, request_parts}
 use Rattle.cli_failures.specs.declared.failure.Failure.{Failure}
 use Rattle.cli_failures.specs.declared.failure.Failure.TheVariants as failure
 use Rattle.library_answers.specs.declared.answer.Answer.{Answer}
 use Rattle.library_answers.specs.Failures.{IsMade, IsUnmade}
 use Rattle.library_calls.specs.Signatures.{IsSignatureDigest, HasNoSigner}
-use Rattle.library_calls.specs.Requests.{Names, longer, AreValues, RefusesPolicy, IsRequestOfSignature}
-use Rattle.library_calls.specs.Requests.{RefusesSignature, IsSignatureRequested}
+use Rattle.library_calls.specs.Requests.{AreValues, RefusesPolicy, RefusesLength, RefusesSignature, IsRequestOf}
+use Rattle.library_calls.specs.Requests.{IsRequestOfSignature, IsSignatureRequested}
 
 module _ (name file : List ℕ) (number : ℕ) (policy nonce : List ℕ) (certificate : Bool) where
   module _ (alg : Alg) (named : name ≡ name_of alg) where
@@ -26,56 +24,21 @@ module _ (name file : List ℕ) (number : ℕ) (policy nonce : List ℕ) (certif
           → RefusesSignature name file number policy nonce certificate f
       signer_refused f has = inr (alg, named, inr (inr (inr (are, inl has))))
 
-      pub signature_too_long : {T : Type 0} (digest : Digest) (oid : Option (List ℕ)) (r : Result T Failure)
-          → oid ≡ are.oid
-          → IsSignatureDigest alg file number digest → IfErr r (λ f. (f ≡ failure.Memory) ⊎ (Names (longer oid) f
-          × (2 ^ 32 ≤ length (request_parts (asked digest oid are.number certificate)))))
-          → IfErr r (RefusesSignature name file number policy nonce certificate)
-      signature_too_long digest oid (Ok t) e is long = tt
-      signature_too_long digest oid (Err f) e is (inl m) = inr (alg, named, inl m)
-      signature_too_long digest oid (Err f) e is (inr (names, size)) = inr (
-        alg,
-        named,
-        inr (inr (inr (
-          are,
-          inr (
-            digest,
-            is,
-            record {
-              oid = are.oid;
-              is_policy = are.is_policy;
-              number = are.number;
-              is_nonce = are.is_nonce;
-              size = subst (λ (p : Option (List ℕ)).
-                  2 ^ 32 ≤ length (request_parts (asked digest p are.number certificate))) e size;
-              names = subst (λ (p : Option (List ℕ)). Names (longer p) f) e names;
-            },
-          ),
-        ))),
-      )
-
-      pub signature_asked : {T : Type 0} (bytes : T → List ℕ) (digest : Digest) (oid : Option (List ℕ))
-          (r : Result T Failure) → oid ≡ are.oid
+      pub signature_too_long : {T : Type 0} (digest : Digest) (r : Result T Failure)
           → IsSignatureDigest alg file number digest
-          → IfOk r (λ o. EncodesRequest (bytes o) (asked digest oid are.number certificate))
-          → IfOk r (λ o. IsRequestOfSignature name file number policy nonce certificate (bytes o))
-      signature_asked bytes digest oid (Ok o) e is encoded = (
-        alg,
-        named,
-        (
-          digest,
-          is,
-          record {
-            oid = are.oid;
-            is_policy = are.is_policy;
-            number = are.number;
-            is_nonce = are.is_nonce;
-            encoded = subst
-                (λ (p : Option (List ℕ)). EncodesRequest (bytes o) (asked digest p are.number certificate)) e encoded;
-          },
-        ),
-      )
-      signature_asked bytes digest oid (Err f) e is encoded = tt
+          → IfErr r (λ f. (f ≡ failure.Memory) ⊎ RefusesLength digest policy nonce certificate f)
+          → IfErr r (RefusesSignature name file number policy nonce certificate)
+      signature_too_long digest (Ok t) is long = tt
+      signature_too_long digest (Err f) is (inl memory) = inr (alg, named, inl memory)
+      signature_too_long digest (Err f) is (inr long) =
+          inr (alg, named, inr (inr (inr (are, inr (digest, is, long)))))
+
+    pub signature_asked : {T : Type 0} (bytes : T → List ℕ) (digest : Digest) (r : Result T Failure)
+        → IsSignatureDigest alg file number digest
+        → IfOk r (λ o. IsRequestOf digest policy nonce certificate (bytes o))
+        → IfOk r (λ o. IsRequestOfSignature name file number policy nonce certificate (bytes o))
+    signature_asked bytes digest (Ok o) is asks = (alg, named, (digest, is, asks))
+    signature_asked bytes digest (Err f) is asks = tt
 
   pub signature_requested : {V : Type 0} (items : V → List ℕ) (made : Result V Failure) (said : Answer) (status : ℕ)
       (before : List ℕ) (size : ℕ)

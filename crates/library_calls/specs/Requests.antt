@@ -37,13 +37,18 @@ abbrev pub IsNonce : (octets : List ℕ) → Option (List ℕ) → Type 0
 IsNonce octets None = octets ≡ []
 IsNonce octets (Some b) = b ≡ octets
 
--- these octets encode the request for this digest
-pub record IsRequestOf (digest : Digest) (policy nonce : List ℕ) (certificate : Bool) (octets : List ℕ) : Type 0 where
+-- the policy and the nonce are as they must be: of an object identifier and an INTEGER, or none
+pub record AreValues (policy nonce : List ℕ) : Type 0 where
   pub oid : Option (List ℕ)
   pub is_policy : IsPolicy policy oid
   pub number : Option (List ℕ)
   pub is_nonce : IsNonce nonce number
-  pub encoded : EncodesRequest octets (asked digest oid number certificate)
+  pub integer : IfSome number (λ b. is_integer b ≡ true)
+
+-- these octets encode the request for this digest
+abbrev pub IsRequestOf : Digest → (policy nonce : List ℕ) (certificate : Bool) (octets : List ℕ) → Type 0
+IsRequestOf digest policy nonce certificate octets = (values : AreValues policy nonce)
+    × EncodesRequest octets (asked digest values.oid values.number certificate)
 
 -- the failure names this value
 abbrev pub Names : (value : List ℕ) → Failure → Type 0
@@ -78,13 +83,9 @@ longer None = codes "nonce"
 longer (Some b) = codes "policy"
 
 -- a request of this digest would be longer than an element can be
-pub record RefusesLength (digest : Digest) (policy nonce : List ℕ) (certificate : Bool) (f : Failure) : Type 0 where
-  pub oid : Option (List ℕ)
-  pub is_policy : IsPolicy policy oid
-  pub number : Option (List ℕ)
-  pub is_nonce : IsNonce nonce number
-  pub size : 2 ^ 32 ≤ length (request_parts (asked digest oid number certificate))
-  pub names : Names (longer oid) f
+abbrev pub RefusesLength : Digest → (policy nonce : List ℕ) (certificate : Bool) → Failure → Type 0
+RefusesLength digest policy nonce certificate f = (values : AreValues policy nonce) × Names (longer values.oid) f
+    × (2 ^ 32 ≤ length (request_parts (asked digest values.oid values.number certificate)))
 
 -- memory was refused, or the first value that isn't as it must be is named: policy, then nonce
 abbrev pub RefusesValues : Digest → (policy nonce : List ℕ) (certificate : Bool) → Failure → Type 0
@@ -95,14 +96,6 @@ RefusesValues digest policy nonce certificate f = (f ≡ failure.Memory) ⊎ (Re
 abbrev pub Refuses : (IsDigest : Digest → Type 0) → (name policy nonce : List ℕ) (certificate : Bool) → Failure → Type 0
 Refuses IsDigest name policy nonce certificate f = (RefusesAlg name f ⊎ RefusesDigest name IsDigest f)
     ⊎ ((digest : Digest) × IsDigest digest × RefusesValues digest policy nonce certificate f)
-
--- the policy and the nonce are as they must be
-pub record AreValues (policy nonce : List ℕ) : Type 0 where
-  pub oid : Option (List ℕ)
-  pub is_policy : IsPolicy policy oid
-  pub number : Option (List ℕ)
-  pub is_nonce : IsNonce nonce number
-  pub integer : IfSome number (λ b. is_integer b ≡ true)
 
 -- The algorithm's name, the policy and the nonce are judged in this order, and then the file: it has no such signer, or
 -- a request of the digest of its signature would be too long; or memory was refused.

@@ -43,19 +43,11 @@ fn tell_count(alloc: Global, count: usize, room: &mut [u8]) -> Told
         ..Answer::ruled(FITS, 0, 0)
     };
     if room.is_empty() {
-        return Told {
-            status: DONE,
-            size: 0,
-            said,
-        };
+        return Told::without_text(DONE, said);
     }
     match fits_line(alloc, count) {
         Some(line) => tell_line(&line, DONE, said, room),
-        None => Told {
-            status: NO_MEMORY,
-            size: 0,
-            said,
-        },
+        None => Told::without_text(NO_MEMORY, said),
     }
 }
 

@@ -63,10 +63,6 @@ pub fn tell_questions(alloc: Global, list: &Trust, octets: &[u8], room: &mut [u8
 {
     match text_of(alloc, list, octets) {
         Ok(found) => tell_made(&found, room),
-        Err(fault) => Told {
-            status: fault_status(fault),
-            size: 0,
-            said: fault_answer(fault),
-        },
+        Err(fault) => Told::without_text(fault_status(fault), fault_answer(fault)),
     }
 }

@@ -125,21 +125,23 @@ fn request_of(
     }
 }
 
-/// The octets of a request of a digest and these values.
+/// The octets of a request of a digest, if there is one, and these values.
 fn octets_of(
     alloc: Global,
-    digest: &Digest,
+    digest: Result<Digest, Failure<'static>>,
     policy: &[u8],
     nonce: &[u8],
     certificate: bool,
 ) -> Result<Vec<u8>, Failure<'static>>
-    ensures made { IfOk result
-        (λ octets. IsRequestOf digest.now policy.now nonce.now certificate octets.items) }
-    ensures refused { IfErr result (RefusesValues digest.now policy.now nonce.now certificate) }
+    ensures made { IfOk result (λ octets. (d : Digest) × (digest.entry ≡ Ok d)
+        × IsRequestOf d policy.now nonce.now certificate octets.items) }
+    ensures refused { IfErr result (λ f. (digest.entry ≡ Err f)
+        ⊎ ((d : Digest) × (digest.entry ≡ Ok d) × RefusesValues d policy.now nonce.now certificate f)) }
 {
+    let digest = digest?;
     let contents = policy_contents(alloc, policy)?;
     let number = nonce_in(nonce)?;
-    request_of(alloc, digest, policy_in(&contents), number, certificate)
+    request_of(alloc, &digest, policy_in(&contents), number, certificate)
 }
 
 /// The octets of a request of these values and of the digest of a signature: that of the signer of this number in the
@@ -180,23 +182,18 @@ fn tell(alloc: Global, made: Result<Vec<u8>, Failure<'static>>, room: &mut [u8])
 pub fn tell_request(
     alloc: Global,
     name: &[u8],
-    octets: &[u8],
+    digest: &[u8],
     policy: &[u8],
     nonce: &[u8],
     certificate: bool,
     room: &mut [u8],
 ) -> Told
     // The octets that encode the request of this digest, or the first value that is not as it must be.
-    ensures { IsRequested (IsGiven name.now octets.now) name.now policy.now nonce.now certificate result.said
+    ensures { IsRequested (IsGiven name.now digest.now) name.now policy.now nonce.now certificate result.said
         result.status room.old result.size room.new }
 {
-    match given(name, octets) {
-        Ok(digest) => {
-            let made = octets_of(alloc, &digest, policy, nonce, certificate);
-            tell(alloc, made, room)
-        }
-        Err(why) => tell_unmade(alloc, &why, room),
-    }
+    let made = octets_of(alloc, given(name, digest), policy, nonce, certificate);
+    tell(alloc, made, room)
 }
 
 /// A time-stamp request of octets.
@@ -213,13 +210,8 @@ pub fn tell_request_of(
     ensures { IsRequested (IsHashed name.now octets.now) name.now policy.now nonce.now certificate result.said
         result.status room.old result.size room.new }
 {
-    match hashed(name, octets) {
-        Ok(digest) => {
-            let made = octets_of(alloc, &digest, policy, nonce, certificate);
-            tell(alloc, made, room)
-        }
-        Err(why) => tell_unmade(alloc, &why, room),
-    }
+    let made = octets_of(alloc, hashed(name, octets), policy, nonce, certificate);
+    tell(alloc, made, room)
 }
 
 /// A time-stamp request of the signature of the signer of this number, from 1, in a file.

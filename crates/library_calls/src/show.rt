@@ -81,10 +81,6 @@ pub fn tell_shown(alloc: Global, kind: u32, input: &[u8], room: &mut [u8]) -> To
         3 => tell_tst(alloc, input, room),
         4 => tell_signed(alloc, input, room),
         5 => tell_certificate(alloc, input, room),
-        _ => Told {
-            status: USAGE,
-            size: 0,
-            said: Answer::nothing(),
-        },
+        _ => Told::without_text(USAGE, Answer::nothing()),
     }
 }

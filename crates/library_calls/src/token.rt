@@ -69,9 +69,5 @@ pub fn tell_token_check(
     ensures same { is_among asked.new ≡ is_among asked.old }
 {
     let verdict = verdict_of(list, asked, token, stamped, sha1);
-    Told {
-        status: status_of(&verdict),
-        size: 0,
-        said: numbers_of(&verdict),
-    }
+    Told::without_text(status_of(&verdict), numbers_of(&verdict))
 }

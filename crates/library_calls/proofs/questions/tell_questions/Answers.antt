@@ -1,4 +1,4 @@
-use Rattle.std.proofs.Common.{refl}
+use Rattle.std.proofs.Common.{refl, ◌∙◌}
 use Rattle.library_calls.proofs.AreUnasked.{questioned_made, questioned_not}
 use Rattle.library_calls.proofs.questions.tell_questions.Goals as goal
 
@@ -10,4 +10,5 @@ returns-in-Ok c =
 pub returns-in-Err : goal.returns-in-Err
 returns-in-Err c = questioned_not _ _ _ _ _ _ _ c.in-Err.fault c.in-Err.ensures.refused c.in-Err.ensures.only
     c.in-Err.ensures.malformed
-    c.in-Err.ensures.another c.fault_answer.ensures c.fault_status.ensures refl refl
+    c.in-Err.ensures.another (c.without_text.ensures.said ∙ c.fault_answer.ensures)
+    (c.without_text.ensures.status ∙ c.fault_status.ensures) c.without_text.ensures.size refl

@@ -1,13 +1,10 @@
-use Rattle.std.proofs.Common.{ℕ, Vec, Global, inl, inr}
+use Rattle.std.proofs.Common.{ℕ, Vec, Global}
 use Rattle.library_calls.specs.Requests.{IsGiven}
 use Rattle.library_calls.proofs.Requested.{requested}
 use Rattle.library_calls.proofs.request.tell_request.Goals as goal
 
-pub returns-in-Ok : goal.returns-in-Ok
-returns-in-Ok c = requested (IsGiven c.args.name.now c.args.octets.now) c.args.name.now c.args.policy.now
-    c.args.nonce.now c.args.certificate c.in-Ok.digest c.in-Ok.ensures.found (λ (v : Vec ℕ Global). v.items)
+pub returns : goal.returns
+returns c = requested c.args.policy.now c.args.nonce.now c.args.certificate (IsGiven c.args.name.now c.args.digest.now)
+    c.args.name.now c.given.result c.given.ensures.found c.given.ensures.refused (λ (v : Vec ℕ Global). v.items)
     c.octets_of-made.result c.tell.result.said c.tell.result.status _ c.tell.result.size _
     c.octets_of-made.ensures.made c.octets_of-made.ensures.refused c.tell.ensures
-
-pub returns-in-Err : goal.returns-in-Err
-returns-in-Err c = inr (c.in-Err.why, inl c.in-Err.ensures.refused, c.tell_unmade.ensures)

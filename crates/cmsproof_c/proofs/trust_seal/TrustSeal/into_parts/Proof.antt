@@ -21,24 +21,32 @@ use types.Run.{stop, fld, no_more, and_then, of_opd, returns, enter}
 use types.ByLocal.{alloc_all, pass_all, free_all, look_at, get, get_in, sets}
 use denote.Exit.{yes}
 use denote.RawPtr.{Ptr, block_ptr, null_ptr, ptr_val, in_a_block}
-use denote.Signature.{type_at}
+use denote.Signature.{Slot, plain, type_at}
 use denote.Steps.{nothing, heard}
 use denote.Triple.Spec.{triple_of}
 use denote.Triple.Table.{entered}
 use denote.Triple.Walked.{says, Stays, stay_dropped, walk_of, ends_at, Goes-dropped, walk_Meets}
 use Rattle.core.proofs.alloc.Calls.{token, handle_tells}
 use Rattle.std_alloc.specs.Box.Ownership.{box_owns}
-use Rattle.std_alloc.proofs.BoxSteps.Form.{D, R, τ, word, box_typed}
+use Rattle.std_alloc.proofs.BoxSteps.Form.{Bx, D, R, τ, word, box_typed}
 use Rattle.std_alloc.proofs.BoxSteps.Steps.{box_in}
 use Rattle.std.specs.Prelude.{Option, is_some}
 use Rattle.library_calls.specs.contracts.held.HeldTrust.{the_row}
+use Rattle.library_calls.proofs.held.HeldTrust.TheLaws.{the_row_laws}
 use Rattle.cmsproof_c.specs.Kept.{kept_owns}
 use Rattle.cmsproof_c.proofs.Kept.{kept_is}
-use Rattle.cmsproof_c.proofs.TrustAsBox.{E, FromSeal as From, FromHeap as Heap}
+use Rattle.cmsproof_c.proofs.AsBox.{boxed, FromHeap as Heap}
+use Rattle.cmsproof_c.specs.contracts.trust_seal.TrustSeal as Sealed
 use Rattle.cmsproof_c.specs.contracts.trust_seal.TrustSeal.into_parts as F
 use Rattle.cmsproof_c.specs.contracts.trust_seal.TrustSeal.into_parts.Key.{name as #self}
 use Rattle.cmsproof_c.proofs.trust_seal.TrustSeal.into_parts.Statement as stated
 use Rattle.cmsproof_c.proofs.trust_seal.TrustSeal.into_parts.Code as code
+
+abbrev E : Bx
+E = boxed the_row the_row_laws
+
+abbrev From : Slot 0
+From = plain (λ _. Sealed.the_row)
 
 abbrev stayed : Stays (F.ended).signature.params (F.ended).kept
 stayed = (stay_dropped From yes, (stay_dropped Heap yes, tt))

@@ -20,7 +20,7 @@ use types.ByLocal.{alloc_all, pass_all, free_all, look_at, get, get_in, sets}
 use denote.Exit.{yes}
 use denote.RattleType.{Valss}
 use denote.RawPtr.{RawPtr, block_ptr}
-use denote.Signature.{type_at}
+use denote.Signature.{Slot, type_at}
 use denote.Steps.{nothing}
 use denote.Struct.Struct.{within}
 use denote.Struct.Owning.{shape}
@@ -28,14 +28,22 @@ use denote.Triple.Spec.{triple_of}
 use denote.Triple.Table.{entered}
 use denote.Triple.Walked.{says, Stays, stay_dropped, walk_of, ends_at, Goes-dropped, walk_Meets}
 use Rattle.std.specs.Prelude.{Some}
-use Rattle.std_alloc.proofs.BoxSteps.Form.{D, B, word, box_typed}
+use Rattle.std_alloc.proofs.BoxSteps.Form.{Bx, D, B, word, box_typed}
 use Rattle.std_alloc.proofs.BoxSteps.Steps.{box_out}
-use Rattle.cmsproof_c.proofs.TrustAsBox.{E, FromParts as From}
+use Rattle.library_calls.specs.contracts.held.HeldTrust.{the_row}
+use Rattle.library_calls.proofs.held.HeldTrust.TheLaws.{the_row_laws}
+use Rattle.cmsproof_c.proofs.AsBox.{boxed, FromParts}
 use Rattle.cmsproof_c.specs.contracts.trust_seal.TrustSeal as Sealed
 use Rattle.cmsproof_c.specs.contracts.trust_seal.TrustSeal.of_parts as F
 use Rattle.cmsproof_c.specs.contracts.trust_seal.TrustSeal.of_parts.Key.{name as #self}
 use Rattle.cmsproof_c.proofs.trust_seal.TrustSeal.of_parts.Statement as stated
 use Rattle.cmsproof_c.proofs.trust_seal.TrustSeal.of_parts.Code as code
+
+abbrev E : Bx
+E = boxed the_row the_row_laws
+
+abbrev From : Slot 0
+From = FromParts the_row
 
 abbrev stayed : Stays (F.ended).signature.params (F.ended).kept
 stayed = (stay_dropped From yes, tt)

@@ -9,6 +9,7 @@ use Rattle.der_core.specs.declared.fault.Kind.TheVariants.{Tag, Overrun}
 use Rattle.der_core.specs.Element.{IsBytes}
 use Rattle.der_core.specs.Reading.{fault, Spot, spot, is_other}
 use Rattle.der_core.specs.Results.{◌>>=◌}
+use Rattle.devices.specs.declared.source.Source.{Ghosts}
 use Rattle.cms_stream_laws.specs.OpenReading.{OpenSpot, open_spot, is_short, ahead, lost, is_end, judged, length_in}
 use Rattle.cms_stream_laws.specs.OpenReading.{heading, entered, next_openly}
 use Rattle.cms_stream_laws.specs.OpenReading.{enter_openly}
@@ -17,6 +18,9 @@ use Rattle.cms_stream_laws.proofs.OpenSteps.{headed}
 use Rattle.cms_stream_laws.proofs.Windows.{EndsOf, size_ends, six_octets}
 use Rattle.cms_stream.specs.Passing.{IsAtHand, body_to, past, heard, is_missing, next_header_in, header_in, outer_size}
 use Rattle.cms_stream.specs.Passing.{outer_in}
+use Rattle.cms_stream.specs.declared.reader.Reader.{Reader}
+use Rattle.cms_stream.specs.declared.stream_fault.StreamFault.TheVariants.{Malformed}
+use Rattle.cms_stream.specs.Calls.{Moment, moment, Asks, Enters, Begins}
 
 abbrev ok_spot : OpenSpot → Result OpenSpot Fault
 ok_spot w = Ok w
@@ -231,6 +235,50 @@ module _ (entering : OpenSpot → Both) (header : (left at : ℕ) → List ℕ �
         ap (λ (z : Spot). entering (body_to end z)) (sym front.is) ∙ header_read (end - at) at v rest front.looked
         ∙ rw (subst (λ (xs : List ℕ). header (end - at) at xs ≡ Err f) front.same e) refl
 
+  -- the same, from the call that looked at them
+  module _ {S : Type 0} (g : Ghosts S) (r : Reader) (s : S) (a : Moment) (end : ℕ) {u : Unit {0}} {octets : List ℕ}
+      (asks : Asks a (Ok u) (moment g r s)) (looks : a.tells → IsAtHand 6 r.window (g.rest s))
+      (same : octets ≡ r.window) where
+    front_at : a.tells → IsLooked 6 r.at r.window octets (g.rest s) a.place
+    front_at t = record { looked = looks t; is = asks.moved t; same = same }
+
+    pub enter_fails : (f : Fault) → header (end - r.at) r.at octets ≡ Err f
+        → Enters entering end a (Err (Malformed f)) (moment g r s)
+    enter_fails f e = record {
+      exact = (asks.exact, λ t. enters_not end (front_at t) f e);
+      telling = asks.telling;
+      at = tt;
+      moved = λ t. tt;
+    }
+
+    pub enter_gives : {l count : ℕ} {left : List ℕ} → header (end - r.at) r.at octets ≡ Ok l
+        → (heading l ≤ length octets) × (heading l + l ≤ end - r.at) × (l < 2 ^ 32) → count ≡ heading l
+        → left ≡ drop count r.window → a.place.pos ≤ end
+        → Enters entering end a (Ok (r.at + count + l))
+        (record { tells = g.tells s; failures = g.failures s; place = spot (r.at + count) (left ++ g.rest s) })
+    enter_gives {l} {count} {left} e there size gone inside =
+        let front : a.place.pos ≡ r.at = sym asks.at in
+        let here : count ≤ length r.window = omega (arith, there.0, size, ap length same) in
+        let passed : r.at + count - r.at ≡ count = omega arith in
+        record {
+          exact = (
+            asks.exact,
+            λ t. enters_now end (front_at t) e (record { there = there.0; size = size; gone = gone })
+                (omega (arith, inside, front)) there.1,
+          );
+          telling = asks.telling;
+          at = (
+            omega (arith, front, size),
+            omega arith,
+            omega (arith, there.1, size, inside, front),
+            omega (arith, there.2),
+          );
+          moved = λ t. ap (spot (r.at + count)) (ap (λ (xs : List ℕ). xs ++ g.rest s) gone
+              ∙ sym (drop-append-le count r.window (g.rest s) here)
+              ∙ ap (λ (n : ℕ). drop n (r.window ++ g.rest s)) (sym passed))
+              ∙ ap (past (r.at + count)) (asks.moved t);
+        }
+
 -- ---- the outermost header
 
 outer_same : (v rest : List ℕ) → Looked v rest → outer_size (v ++ rest) ≡ outer_size v
@@ -266,3 +314,18 @@ begins_at {l} {count} {at} {v} {octets} {left} {rest} {s} front first e header_t
     rw (← all, outer_same v rest front.looked, ← front.same, e)
     (ap ok_spot (open_is _ _ _ _ _ _ (omega (arith, size)) (omega (arith, first, size))
     (ap (λ (xs : List ℕ). drop h (xs ++ rest)) front.same ∙ dropped)))
+
+-- the same, from the call that looked at them
+module _ {S : Type 0} (g : Ghosts S) (r : Reader) (s : S) (a : Moment) {u : Unit {0}} {octets : List ℕ}
+    (asks : Asks a (Ok u) (moment g r s)) (looks : a.tells → IsAtHand 6 r.window (g.rest s)) (same : octets ≡ r.window)
+  where
+    first_at : a.tells → IsLooked 6 r.at r.window octets (g.rest s) a.place
+    first_at t = record { looked = looks t; is = asks.moved t; same = same }
+
+    pub begin_fails : (f : Fault) → outer_size octets ≡ Err f → Begins outer_in a (Err (Malformed f)) (moment g r s)
+    begin_fails f e = record {
+      exact = (asks.exact, λ t. begins_not f (first_at t) e);
+      telling = asks.telling;
+      at = tt;
+      moved = λ t. tt;
+    }

@@ -121,13 +121,6 @@ pub record Within {Y W : Type 0} (t u : Type 0) (b c : ℕ) (read : Result Y Fau
 module _ {Y W : Type 0} {t u : Type 0} {b c : ℕ} {read : Result Y Fault} {whole : Result W Fault}
     (inner : Within t u b c read whole) where
   -- an error that such a call hands on
-  pub handed_on : {X Z : Type 0} (p : X → Y → Type 0) (q : Z → W → Type 0) (e : StreamFault) (a : ℕ)
-      → Finds p ⊥ (Err e) t b a read
-      → Finds q ⊥ (Err e) u c a whole
-  handed_on p q (Malformed f) a h = (h.0 ∙ inner.same, λ (x : u). inner.faults f x (h.1 (inner.tells x)))
-  handed_on p q TooLong a h = (h.0 ∙ inner.same, λ (x : u). h.1 (inner.tells x))
-  handed_on p q ReadFailed a h = h ∙ ap raised inner.same
-
   pub handed_over : {X Z : Type 0} (view : X → Y) (q : Z → W → Type 0) (e : StreamFault) (a : ℕ)
       → Reads view (Err e) t b a read
       → Finds q ⊥ (Err e) u c a whole

@@ -1,6 +1,6 @@
 -- Elements that are left whole, by the header and the octets that pass.
-use Rattle.std.proofs.Common.{◌≡◌, ℕ, ◌-◌, ◌<◌, Bool, true, false, cond, eqb, List, [], length, take, Option, Some}
-use Rattle.std.proofs.Common.{None, Result, Ok, Err, refl, sym, ap, ◌∙◌}
+use Rattle.std.proofs.Common.{◌≡◌, ℕ, ◌-◌, ◌<◌, Bool, true, false, cond, eqb, List, [], length, take, Some}
+use Rattle.std.proofs.Common.{Result, Ok, Err, refl, sym, ap, ◌∙◌}
 use Rattle.std.proofs.Common.{arith}
 use Rattle.std.proofs.lemmas.Bool.{ne_eqb, eqb-true, lt-ltb}
 use Rattle.std.proofs.lemmas.List.{nil_from_length}
@@ -11,6 +11,7 @@ use Rattle.der_core.specs.Results.{◌>>=◌}
 use Rattle.cms_stream_laws.specs.OpenReading.{OpenSpot, body_of, is_short, lost, next_openly, kept, opaque_openly}
 use Rattle.cms_stream_laws.specs.OpenReading.{optional_opaque_openly, is_none_of}
 use Rattle.cms_stream_laws.specs.OpenReading.{tagged_openly}
+use Rattle.cms_stream_laws.proofs.Switches.{MaybeWhole, some_whole, none_whole}
 use Rattle.cms_stream.specs.Passing.{body_to, past, tag_fits}
 use Rattle.cms_stream.proofs.Listing.{Misses, take_nothing}
 
@@ -59,26 +60,17 @@ opaque_misses w some none =
 
 -- ---- an element, unless the body ends
 
-abbrev Part : Type 0
-Part = Result (Option (List ℕ) × OpenSpot) Fault
-
-abbrev some_of : List ℕ × OpenSpot → Part
-some_of x = Ok (Some x.0, x.1)
-
-abbrev none_of : OpenSpot → Part
-none_of w = Ok (None, w)
-
-pub optional_absent : (w : OpenSpot) → w.left ≡ 0 → optional_opaque_openly w ≡ none_of w
+pub optional_absent : (w : OpenSpot) → w.left ≡ 0 → optional_opaque_openly w ≡ none_whole w
 unfolding optional_opaque_openly
 optional_absent w e = rw e refl
 
-optional_stands : (w : OpenSpot) → 0 < w.left → optional_opaque_openly w ≡ (opaque_openly w >>= some_of)
+optional_stands : (w : OpenSpot) → 0 < w.left → optional_opaque_openly w ≡ (opaque_openly w >>= some_whole)
 unfolding optional_opaque_openly
 optional_stands w some = rw (ne_eqb w.left 0 (λ z. omega (arith, z, some))) (by_rest (eqb (length w.rest) 0) refl)
   where
     by_rest : (b : Bool) → eqb (length w.rest) 0 ≡ b
-        → cond {A = Part} b (Err lost) (opaque_openly w >>= some_of) ≡ (opaque_openly w >>= some_of)
-    by_rest true h = sym (ap (λ (r : Whole). r >>= some_of) (opaque_misses w some (eqb-true _ _ h)))
+        → cond {A = MaybeWhole} b (Err lost) (opaque_openly w >>= some_whole) ≡ (opaque_openly w >>= some_whole)
+    by_rest true h = sym (ap (λ (r : Whole). r >>= some_whole) (opaque_misses w some (eqb-true _ _ h)))
     by_rest false h = refl
 
 pub optional_found : (w v : OpenSpot) (y : List ℕ × OpenSpot) → 0 < w.left → opaque_openly w ≡ Ok y → y.1 ≡ v

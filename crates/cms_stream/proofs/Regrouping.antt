@@ -1,5 +1,6 @@
 -- The readings in the order in which a pass goes are those of the file.
-use Rattle.std.proofs.Common.{◌≡◌, ℕ, Bool, true, false, List, [], ◌∷◌, Result, Ok, Err, refl, ap, ◌∙◌, inl, inr, ◌⊎◌}
+use Rattle.std.proofs.Common.{◌≡◌, ℕ, Bool, true, false, List, [], ◌∷◌, Result, Ok, Err, refl, sym, ap, ◌∙◌, inl, inr}
+use Rattle.std.proofs.Common.{◌⊎◌}
 use Rattle.std.specs.Prelude.{if◌then◌else◌}
 use Rattle.der_core.specs.declared.fault.Fault.{Fault}
 use Rattle.der_core.specs.Lists.{is_same}
@@ -25,55 +26,69 @@ cases_of (Ok x) = inr (x, refl)
 
 -- ---- the parts in order
 
+-- one step after another, of which the second gives the same
+under : {A B : Type 0} (r : Result A Fault) {f g : A → Result B Fault} → ((x : A) → f x ≡ g x) → (r >>= f) ≡ (r >>= g)
+under (Err f) same = refl
+under (Ok x) same = same x
+
+grouped : {A B C : Type 0} (r : Result A Fault) (f : A → Result B Fault) (g : B → Result C Fault)
+    → ((r >>= f) >>= g) ≡ (r >>= λ x. f x >>= g)
+grouped (Err f) g h = refl
+grouped (Ok x) g h = refl
+
+given_on : {A : Type 0} (r : Result A Fault) → (r >>= λ x. Ok x) ≡ r
+given_on (Err f) = refl
+given_on (Ok x) = refl
+
+-- two parts, and what follows
+apart : {A B C : Type 0} (a : OpenReader A) (b : OpenReader B) (k : (A × B) × OpenSpot → Result C Fault) (w : OpenSpot)
+    → ((a then_openly b) w >>= k) ≡ (a w >>= λ x. b x.1 >>= λ y. k ((x.0, y.0), y.1))
+apart a b k w =
+    grouped (a w) (λ x. b x.1 >>= λ y. Ok ((x.0, y.0), y.1)) k
+    ∙ under (a w) (λ x. grouped (b x.1) (λ y. Ok ((x.0, y.0), y.1)) k)
+
 module _ {A B C D E : Type 0} (a : OpenReader A) (b : OpenReader B) (c : OpenReader C) (d : OpenReader D)
     (e : OpenReader E) where
+  -- five parts, and what follows
+  all_apart : {Z : Type 0} (k : (A × (B × (C × (D × E)))) × OpenSpot → Result Z Fault) (w : OpenSpot)
+      → ((a then_openly b then_openly c then_openly d then_openly e) w >>= k)
+      ≡ (a w >>= λ x. b x.1 >>= λ y. c y.1 >>= λ z. d z.1 >>= λ u. e u.1
+      >>= λ v. k ((x.0, (y.0, (z.0, (u.0, v.0)))), v.1))
+  all_apart k w =
+      apart a (b then_openly c then_openly d then_openly e) k w
+      ∙ under (a w) (λ x. apart b (c then_openly d then_openly e) (λ y. k ((x.0, y.0), y.1)) x.1
+      ∙ under (b x.1) (λ y. apart c (d then_openly e) (λ z. k ((x.0, (y.0, z.0)), z.1)) y.1
+      ∙ under (c y.1) (λ z. apart d e (λ u. k ((x.0, (y.0, (z.0, u.0))), u.1)) z.1)))
+
   five_same : (w : OpenSpot)
       → ((a then_openly b) w >>= λ x. c x.1 >>= λ y. d y.1 >>= λ z. e z.1
       >>= λ u. Ok ((x.0.0, (x.0.1, (y.0, (z.0, u.0)))), u.1))
       ≡ (a then_openly b then_openly c then_openly d then_openly e) w
-  five_same w = elim (cases_of (a w)) [
-    | inl h ↦ rw h.1 refl
-    | inr x ↦ elim (cases_of (b x.0.1)) [
-      | inl h ↦ rw (x.1, h.1) refl
-      | inr y ↦ elim (cases_of (c y.0.1)) [
-        | inl h ↦ rw (x.1, y.1, h.1) refl
-        | inr z ↦ elim (cases_of (d z.0.1)) [
-          | inl h ↦ rw (x.1, y.1, z.1, h.1) refl
-          | inr u ↦ elim (cases_of (e u.0.1)) [
-            | inl h ↦ rw (x.1, y.1, z.1, u.1, h.1) refl
-            | inr v ↦ rw (x.1, y.1, z.1, u.1, v.1) refl
-          ]
-        ]
-      ]
-    ]
-  ]
+  five_same w =
+      apart a b (λ x. c x.1 >>= λ y. d y.1 >>= λ z. e z.1 >>= λ u. Ok ((x.0.0, (x.0.1, (y.0, (z.0, u.0)))), u.1)) w
+      ∙ sym (all_apart (λ x. Ok x) w)
+      ∙ given_on ((a then_openly b then_openly c then_openly d then_openly e) w)
 
-  six_same : {S Z : Type 0} (s : OpenReader S) (to : A × (B × (C × (D × (E × S)))) → Z) (w : OpenSpot)
+module _ {A B C D E S Z : Type 0} (a : OpenReader A) (b : OpenReader B) (c : OpenReader C) (d : OpenReader D)
+    (e : OpenReader E) (s : OpenReader S) (to : A × (B × (C × (D × (E × S)))) → Z) where
+  abbrev made : (A × (B × (C × (D × (E × S))))) × OpenSpot → Result Z Fault
+  made x = end_openly x.1 >>= λ u. Ok (to x.0)
+
+  six_same : (w : OpenSpot)
       → ((a then_openly b then_openly c then_openly d then_openly e) w >>= λ x. s x.1 >>= λ y. end_openly y.1
       >>= λ u. Ok (to (x.0.0, (x.0.1.0, (x.0.1.1.0, (x.0.1.1.1.0, (x.0.1.1.1.1, y.0)))))))
       ≡ made_openly to (whole_openly (a then_openly b then_openly c then_openly d then_openly e then_openly s)) w
-  six_same s to w = elim (cases_of (a w)) [
-    | inl h ↦ rw h.1 refl
-    | inr x ↦ elim (cases_of (b x.0.1)) [
-      | inl h ↦ rw (x.1, h.1) refl
-      | inr y ↦ elim (cases_of (c y.0.1)) [
-        | inl h ↦ rw (x.1, y.1, h.1) refl
-        | inr z ↦ elim (cases_of (d z.0.1)) [
-          | inl h ↦ rw (x.1, y.1, z.1, h.1) refl
-          | inr u ↦ elim (cases_of (e u.0.1)) [
-            | inl h ↦ rw (x.1, y.1, z.1, u.1, h.1) refl
-            | inr v ↦ elim (cases_of (s v.0.1)) [
-              | inl h ↦ rw (x.1, y.1, z.1, u.1, v.1, h.1) refl
-              | inr t ↦ elim (cases_of (end_openly t.0.1)) [
-                | inl h ↦ rw (x.1, y.1, z.1, u.1, v.1, t.1, h.1) refl
-                | inr o ↦ rw (x.1, y.1, z.1, u.1, v.1, t.1, o.1) refl
-              ]
-            ]
-          ]
-        ]
-      ]
-    ]
-  ]
+  six_same w =
+      let all = (a then_openly b then_openly c then_openly d then_openly e then_openly s) w in
+      all_apart a b c d e (λ x. s x.1 >>= λ y. made (
+        (x.0.0, (x.0.1.0, (x.0.1.1.0, (x.0.1.1.1.0, (x.0.1.1.1.1, y.0))))),
+        y.1,
+      )) w
+      ∙ sym (grouped all (λ x. end_openly x.1 >>= λ u. Ok x.0) (λ x. Ok (to x))
+      ∙ under all (λ x. grouped (end_openly x.1) (λ u. Ok x.0) (λ y. Ok (to y)))
+      ∙ all_apart a b c d (e then_openly s) made w
+      ∙ under (a w) (λ x. under (b x.1) (λ y. under (c y.1) (λ z. under (d z.1) (λ u.
+      apart e s (λ v. made ((x.0, (y.0, (z.0, (u.0, v.0)))), v.1)) u.1)))))
 
 pub head_same : (w : OpenSpot) → signed_head_in w ≡ before_signers w
 unfolding signed_head_in

@@ -9,10 +9,10 @@ use Rattle.cms_stream_laws.specs.OpenReading.{OpenSpot, OpenBody, body_of, close
 use Rattle.cms_stream_laws.specs.OpenReading.{within_openly, maybe_openly, last_openly}
 use Rattle.cms_stream.specs.Passing.{body_to, past, peeked, missed}
 
-abbrev Peek : Type 0
+abbrev pub Peek : Type 0
 Peek = Result Bool Fault
 
-abbrev peek : Bool → Peek
+abbrev pub peek : Bool → Peek
 peek b = Ok b
 
 module _ {A : Type 0} (tag : ℕ) (openly : OpenBody A) (w : OpenSpot) where
@@ -93,33 +93,8 @@ pub within_not : {A : Type 0} (tag : ℕ) (openly : OpenBody A) (w a b : OpenSpo
 within_not tag openly w a b f e h = rw (e, h) refl
 
 module _ {A : Type 0} (tag : ℕ) (openly : OpenBody A) (end : ℕ) where
-  abbrev pub some_at : A → Spot → Result (Option A × OpenSpot) Fault
-  some_at c s = Ok (Some c, body_to end s)
-
   abbrev pub none_at : Spot → Result (Option A × OpenSpot) Fault
   none_at s = Ok (None, body_to end s)
-
-  -- an element was entered, read to its end and passed
-  pub record IsWithin (inner : ℕ) (s t u : Spot) (c : A) : Type 0 where
-    pub enters : enter_openly tag (body_to end s) ≡ Ok (body_to inner t, body_to end (past inner t))
-    pub reads : openly (body_to inner t) ≡ Ok c
-    pub moved : u ≡ past inner t
-
-  within_found : (inner : ℕ) (s t u : Spot) (c : A) → IsWithin inner s t u c
-      → (within_openly tag openly (body_to end s) >>= λ x. Ok (Some x.0, x.1)) ≡ some_at c u
-  within_found inner s t u c h = rw (h.enters, h.reads, h.moved) refl
-
-  pub last_found : {b : Bool} (inner : ℕ) (r s t u : Spot) (c : A) → peeked tag (body_to end r) ≡ Ok b → b ≡ true
-      → s ≡ r → IsWithin inner s t u c
-      → last_openly tag openly (body_to end r) ≡ some_at c u
-  last_found inner r s t u c p is same h =
-      last_stands tag openly (body_to end r) (p ∙ ap peek is)
-      ∙ within_found inner r t u c
-      (record {
-        enters = ap (λ (z : Spot). enter_openly tag (body_to end z)) (sym same) ∙ h.enters;
-        reads = h.reads;
-        moved = h.moved;
-      })
 
   pub last_missed : (b : Bool) (r s t : Spot) (u : Unit {0}) → peeked tag (body_to end r) ≡ Ok b → b ≡ false → s ≡ r
       → missed (body_to end s) ≡ Ok u → t ≡ s
@@ -129,22 +104,6 @@ module _ {A : Type 0} (tag : ℕ) (openly : OpenBody A) (end : ℕ) where
       last_absent tag openly (body_to end r) (p ∙ ap peek is)
       ∙ ap (λ (z : Result (Unit {0}) Fault). z >>= λ v. none_at r) here
       ∙ ap none_at (sym (moved ∙ same))
-
-  pub maybe_found : {b : Bool} (inner : ℕ) (r s t u : Spot) (c : A) → peeked tag (body_to end r) ≡ Ok b → b ≡ true
-      → s ≡ r → IsWithin inner s t u c
-      → maybe_openly tag openly (body_to end r) ≡ some_at c u
-  maybe_found inner r s t u c p is same h =
-      maybe_stands tag openly (body_to end r) (p ∙ ap peek is)
-      ∙ within_found inner r t u c
-      (record {
-        enters = ap (λ (z : Spot). enter_openly tag (body_to end z)) (sym same) ∙ h.enters;
-        reads = h.reads;
-        moved = h.moved;
-      })
-
-  pub maybe_missed : (b : Bool) (r s : Spot) → peeked tag (body_to end r) ≡ Ok b → b ≡ false → s ≡ r
-      → maybe_openly tag openly (body_to end r) ≡ none_at s
-  maybe_missed b r s p is same = maybe_absent tag openly (body_to end r) (p ∙ ap peek is) ∙ ap none_at (sym same)
 
   pub within_at : (inner : ℕ) (s t u : Spot) (c : A)
       → enter_openly tag (body_to end s) ≡ Ok (body_to inner t, body_to end (past inner t))

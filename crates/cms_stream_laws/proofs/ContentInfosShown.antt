@@ -4,23 +4,24 @@ use Rattle.std.proofs.Common.{◌∙◌, arith, inl, inr}
 use Rattle.std.proofs.lemmas.List.{drop_at, length-drop}
 use Rattle.der_core.specs.Element.{len, IsBytes}
 use Rattle.der_core.specs.AlgorithmReading.{algorithm_from, algorithm_in}
-use Rattle.der_core.specs.Form.{opaque, opaques, full, One}
+use Rattle.der_core.specs.Form.{Form, opaque, opaques, full, One}
 use Rattle.der_core.specs.OpenFaults.{OpenPlace, open_place, ReachesOpenly, enters, open_start}
 use Rattle.der_core.specs.Reading.{any_at, oid_in, version_in, is_other}
 use Rattle.der_core.specs.Results.{◌>>=◌}
-use Rattle.der_core.specs.Grammar.{one, list, oid, algorithm, version, file}
+use Rattle.der_core.specs.Grammar.{one, opt, list, oid, algorithm, version, file}
 use Rattle.der_grammar.specs.Table.{encap, cert_choices, crl_choices, signer_info, signed_data, content_info}
 use Rattle.der_grammar.specs.Table.{id_signed_data}
 use Rattle.der_core.proofs.ReadLengths.{IsBytes-drop}
 use Rattle.der_core.proofs.Results.{bind_err}
-use Rattle.der_core.proofs.Readers.{any_body}
+use Rattle.der_core.proofs.Readers.{any_body, Anything}
 use Rattle.der_core.proofs.PartReaders.{oid_body, version_body}
 use Rattle.cms_types.specs.SignedDataValue.{certificate_tags, crl_tags}
 use Rattle.cms_types.specs.SignedDataReading.{explicit_octets_in, encapsulated_from, signers_in, signed_data_from}
 use Rattle.cms_types.specs.SignedDataReading.{content_info_from}
 use Rattle.cms_types.proofs.SignedDataReaders.{content_fault}
 use Rattle.cms_types.proofs.SignerReaders.{signers_body}
-use Rattle.cms_stream_laws.specs.OpenReading.{open_spot, length_in, heading, kept}
+use Rattle.cms_stream_laws.specs.OpenReading.{OpenReader, open_spot, length_in, heading, kept, within_openly}
+use Rattle.cms_stream_laws.specs.OpenReading.{◌then_openly◌, maybe_openly}
 use Rattle.cms_stream_laws.specs.OpenContentInfo.{explicit_octets_openly, encapsulated_openly, algorithm_openly}
 use Rattle.cms_stream_laws.specs.OpenContentInfo.{algorithms_openly, certificates_openly}
 use Rattle.cms_stream_laws.specs.OpenContentInfo.{crls_openly, explicit_opaque_openly, signed_data_openly}
@@ -35,7 +36,8 @@ use Rattle.cms_stream_laws.proofs.OpenContentInfos.{signed_data_open, explicit_s
 use Rattle.cms_stream_laws.proofs.Opaques.{tagged_list_open}
 use Rattle.cms_stream_laws.proofs.OpaquesShown.{opaque_shown, optional_shown, tagged_list_shown}
 use Rattle.cms_stream_laws.proofs.OpenSteps.{standing, headed, front_is}
-use Rattle.cms_stream_laws.proofs.FaultsShown.{ShowsInside, kept_shown, within_shown, maybe_shown, last_shown}
+use Rattle.cms_stream_laws.proofs.FaultsShown.{ShowsInside, ShowsFaults, kept_shown, within_shown, maybe_shown}
+use Rattle.cms_stream_laws.proofs.FaultsShown.{last_shown}
 use Rattle.cms_stream_laws.proofs.FaultsShown.{many_shown, then_shown, whole_shown, made_shown}
 use Rattle.cms_stream_laws.proofs.FaultsShown.{switched_shown}
 use Rattle.cms_stream_laws.proofs.WholeFiles.{failing, opened, read_alike}
@@ -68,10 +70,10 @@ algorithm_shown = made_shown algorithm_from _ algorithm (whole_shown _ _ _
 pub algorithms_shown : ShowsInside algorithms_openly (list 0x30 algorithm)
 algorithms_shown = many_shown 48 algorithm_in algorithm_openly algorithm_open algorithm algorithm_shown
 
-pub certificates_shown : ShowsInside certificates_openly cert_choices
+certificates_shown : ShowsInside certificates_openly cert_choices
 certificates_shown = tagged_list_shown certificate_tags
 
-pub crls_shown : ShowsInside crls_openly crl_choices
+crls_shown : ShowsInside crls_openly crl_choices
 crls_shown = tagged_list_shown crl_tags
 
 pub signers_shown : ShowsInside (kept signers_in) (list 0x30 signer_info)
@@ -80,20 +82,33 @@ signers_shown = kept_shown signers_in _ _ (list 0x30 signer_info) signers_body
 pub version_shown : ShowsInside (kept (version_in versions)) (version versions)
 version_shown = kept_shown (version_in versions) _ _ (version versions) (version_body versions)
 
-pub signed_data_shown : ShowsInside signed_data_openly signed_data
-unfolding signed_data_openly
-signed_data_shown = made_shown signed_data_from _ signed_data (whole_shown _ _ _
-    (then_shown _ _ (within_open 2 _ _ (kept_open (version_in versions))) _
+-- the parts up to the certificates, and those after them
+pub certificates_then : {A : Type 0} (rest : OpenReader A) (due : Form → Form) (Before : Form → Type 0)
+    → ShowsFaults rest due Before
+    → ShowsFaults (within_openly 0x02 (kept (version_in versions)) then_openly within_openly 0x31 algorithms_openly
+    then_openly within_openly 0x30 encapsulated_openly then_openly maybe_openly 0xa0 certificates_openly
+    then_openly rest)
+    (λ f. one 0x02 (version versions) (one 0x31 (list 0x30 algorithm) (one 0x30 encap (opt 0xa0 cert_choices (due f)))))
+    Before
+certificates_then rest due Before shows =
+    then_shown _ _ (within_open 2 _ _ (kept_open (version_in versions))) _
     (within_shown 2 _ _ (kept_open (version_in versions)) (version versions) version_shown) _ _ _
     (then_shown _ _ (within_open 49 _ _ algorithms_open) _
     (within_shown 49 _ _ algorithms_open (list 0x30 algorithm) algorithms_shown) _ _ _
     (then_shown _ _ (within_open 48 _ _ encapsulated_open) _
     (within_shown 48 _ _ encapsulated_open encap encapsulated_shown) _ _ _
     (then_shown _ _ (maybe_open 160 _ _ (tagged_list_open certificate_tags)) _
-    (maybe_shown 160 _ _ (tagged_list_open certificate_tags) cert_choices certificates_shown) _ _ _
-    (then_shown _ _ (maybe_open 161 _ _ (tagged_list_open crl_tags)) _
-    (maybe_shown 161 _ _ (tagged_list_open crl_tags) crl_choices crls_shown) _ _ _
-    (within_shown 49 _ _ (kept_open signers_in) (list 0x30 signer_info) signers_shown)))))) tt)
+    (maybe_shown 160 _ _ (tagged_list_open certificate_tags) cert_choices certificates_shown) rest due Before shows)))
+
+pub maybe_crls_shown : ShowsFaults (maybe_openly 0xa1 crls_openly) (opt 0xa1 crl_choices) Anything
+maybe_crls_shown = maybe_shown 161 _ _ (tagged_list_open crl_tags) crl_choices crls_shown
+
+pub signed_data_shown : ShowsInside signed_data_openly signed_data
+unfolding signed_data_openly
+signed_data_shown = made_shown signed_data_from _ signed_data (whole_shown _ _ _
+    (certificates_then _ _ _
+    (then_shown _ _ (maybe_open 161 _ _ (tagged_list_open crl_tags)) _ maybe_crls_shown _ _ _
+    (within_shown 49 _ _ (kept_open signers_in) (list 0x30 signer_info) signers_shown))) tt)
 
 explicit_signed_data_shown : ShowsInside explicit_signed_data_openly (one 0x30 signed_data full)
 unfolding explicit_signed_data_openly

@@ -27,6 +27,7 @@ use Rattle.cms_stream_laws.specs.OpenReading.{◌then_openly◌, whole_openly, m
 use Rattle.cms_stream_laws.specs.OpenReading.{last_openly, switched_openly, kept}
 use Rattle.cms_stream_laws.specs.OpenReading.{many_openly_from}
 use Rattle.cms_stream_laws.specs.OpenReading.{many_openly, IsMet, Went}
+use Rattle.cms_stream_laws.proofs.Switches.{Switched, left_of, right_of, rest_by}
 use Rattle.cms_stream_laws.proofs.OpenLaws.{IsOpenReader, IsOpenBody, bytes_ahead, within_open, kept_open}
 use Rattle.cms_stream_laws.proofs.OpenParts.{looked_ok}
 use Rattle.cms_stream_laws.proofs.OpenSteps.{standing, Shown, due_fact, whole_openly_at, EntersOpenly, enters_openly}
@@ -432,17 +433,8 @@ module _ {A B : Type 0} (tag : ℕ) (inside : Spot → Result (List ℕ) Fault) 
   abbrev due_switch : Form
   due_switch = switch tag form these form' form''
 
-  abbrev Switched : Type 0
-  Switched = Result (A ⊎ (List ℕ × B)) Fault
-
-  abbrev left_of : A → Switched
-  left_of a = Ok (inl a)
-
-  abbrev right_of : List ℕ → B → Switched
-  right_of id b = Ok (inr (id, b))
-
-  abbrev rest_of : List ℕ × OpenSpot → Switched
-  rest_of x = cond (is_same these x.0) (same x.1 >>= left_of) (other x.1 >>= right_of x.0)
+  abbrev rest_of : List ℕ × OpenSpot → Switched A B
+  rest_of = rest_by A B these same other
 
   abbrev id_open : IsOpenBody inside (kept inside)
   id_open = kept_open inside
@@ -472,9 +464,9 @@ module _ {A B : Type 0} (tag : ℕ) (inside : Spot → Result (List ℕ) Fault) 
             let fits' : IsBytes a.0.1.rest =
             bytes_ahead w a.0.1 ((within_open tag inside (kept inside) id_open).went w a.0 fits a.1) fits in
             let id-is : body_of t.where_to.0 ≡ a.0.0 = contents_are w a.0 fits t in
-            elim (chosen (is_same these a.0.0) (same a.0.1 >>= left_of) (other a.0.1 >>= right_of a.0.0)
+            elim (chosen (is_same these a.0.0) (same a.0.1 >>= left_of A B) (other a.0.1 >>= right_of A B a.0.0)
             (fails f) a.2) [
-              | inl h ↦ elim (bind_err (same a.0.1) left_of f h.1) [
+              | inl h ↦ elim (bind_err (same a.0.1) (left_of A B) f h.1) [
                 | inr b ↦ absurd (let z = b.2 in cc)
                 | inl b ↦
                     let g : Shown a.0.1 form' [] f =
@@ -485,7 +477,7 @@ module _ {A B : Type 0} (tag : ℕ) (inside : Spot → Result (List ℕ) Fault) 
                     (subst (λ (d : Form). ReachesOpenly (standing t.where_to.1 d []) q) (sym due-is)
                     (subst (λ (v : OpenSpot). ReachesOpenly (standing v form' []) q) (sym t.next) r))) g
               ]
-              | inr h ↦ elim (bind_err (other a.0.1) (right_of a.0.0) f h.1) [
+              | inr h ↦ elim (bind_err (other a.0.1) (right_of A B a.0.0) f h.1) [
                 | inr b ↦ absurd (let z = b.2 in cc)
                 | inl b ↦
                     let g : Shown a.0.1 form'' [] f =

@@ -22,9 +22,9 @@ use Rattle.cms_stream_laws.proofs.OpenParts.{maybe_open}
 use Rattle.cms_stream_laws.proofs.OpenContentInfos.{oid_open, encapsulated_open, algorithms_open}
 use Rattle.cms_stream_laws.proofs.Opaques.{tagged_list_open}
 use Rattle.cms_stream_laws.proofs.OpenSteps.{standing, enters_openly, bytes_within, inside_reached, states_here}
-use Rattle.cms_stream_laws.proofs.FaultsShown.{ShowsFaults, within_shown, maybe_shown, then_shown, switched_goes}
-use Rattle.cms_stream_laws.proofs.ContentInfosShown.{versions, version_shown, algorithms_shown, encapsulated_shown}
-use Rattle.cms_stream_laws.proofs.ContentInfosShown.{certificates_shown, crls_shown}
+use Rattle.cms_stream_laws.proofs.FaultsShown.{ShowsFaults, within_shown, then_shown, switched_goes}
+use Rattle.cms_stream_laws.proofs.ContentInfosShown.{versions, version_shown, algorithms_shown, certificates_then}
+use Rattle.cms_stream_laws.proofs.ContentInfosShown.{maybe_crls_shown}
 use Rattle.cms_stream_laws.proofs.ContentInfosShown.{signed_content_shown, other_content_shown, outer_reached}
 
 -- the octets at the contents of the SignedData
@@ -104,16 +104,7 @@ signers_open = then_open _ _ (within_open 2 _ _ (kept_open (version_in versions)
 signers_goes : ShowsFaults before_signers
     (λ f. one 0x02 (version versions)
     (one 0x31 (list 0x30 algorithm) (one 0x30 encap (opt 0xa0 cert_choices (opt 0xa1 crl_choices f))))) Anything
-signers_goes =
-    then_shown _ _ (within_open 2 _ _ (kept_open (version_in versions))) _
-    (within_shown 2 _ _ (kept_open (version_in versions)) (version versions) version_shown) _ _ _
-    (then_shown _ _ (within_open 49 _ _ algorithms_open) _
-    (within_shown 49 _ _ algorithms_open (list 0x30 algorithm) algorithms_shown) _ _ _
-    (then_shown _ _ (within_open 48 _ _ encapsulated_open) _
-    (within_shown 48 _ _ encapsulated_open encap encapsulated_shown) _ _ _
-    (then_shown _ _ (maybe_open 160 _ _ (tagged_list_open certificate_tags)) _
-    (maybe_shown 160 _ _ (tagged_list_open certificate_tags) cert_choices certificates_shown) _ _ _
-    (maybe_shown 161 _ _ (tagged_list_open crl_tags) crl_choices crls_shown))))
+signers_goes = certificates_then _ _ _ maybe_crls_shown
 
 pub signers_stated : SignersAreStated
 signers_stated bytes w v p y fits a e f =

@@ -20,6 +20,7 @@ use Rattle.cms_stream_laws.specs.OpenReading.{passed_whole, opaque_openly}
 use Rattle.cms_stream_laws.specs.OpenReading.{optional_opaque_openly, is_none_of, tagged_openly, many_openly, Went}
 use Rattle.cms_stream_laws.specs.OpenReading.{IsMet, Stays}
 use Rattle.cms_stream_laws.proofs.OpenReaders.{inner, both, next_same}
+use Rattle.cms_stream_laws.proofs.Switches.{MaybeWhole, some_whole, none_whole}
 use Rattle.cms_stream_laws.proofs.OpenLaws.{seen, IsOpenReader, IsOpenBody, went_nowhere, Entering, next_went}
 use Rattle.cms_stream_laws.proofs.OpenLaws.{inside_met, behind_went}
 use Rattle.cms_stream_laws.proofs.OpenParts.{looked_met, looked_ok, GoesOn, many_open}
@@ -166,29 +167,20 @@ opaque_steady w more fits = by_both (next_openly w) (next_openly (grown w more))
 
 -- ---- the same, unless the body ends
 
-abbrev Optional : Type 0
-Optional = Result (Option (List ℕ) × OpenSpot) Fault
-
-abbrev some_of : List ℕ × OpenSpot → Optional
-some_of x = Ok (Some x.0, x.1)
-
-abbrev none_of : OpenSpot → Optional
-none_of w = Ok (None, w)
-
-abbrev pub optional_here : OpenSpot → Optional
-optional_here w = cond (eqb w.left 0) (none_of w) (opaque_openly w >>= some_of)
+abbrev pub optional_here : OpenSpot → MaybeWhole
+optional_here w = cond (eqb w.left 0) (none_whole w) (opaque_openly w >>= some_whole)
 
 abbrev some_read : List ℕ × Spot → Result (Option (List ℕ) × Spot) Fault
 some_read x = Ok (Some x.0, x.1)
 
 optional_same : (w : OpenSpot) → IsMet w → IsBytes w.rest → (b : Bool) → eqb w.left 0 ≡ b → (xs : List ℕ)
     → body_of w ≡ xs
-    → opaque_in (closed w) xs ≡ (cond b (none_of w) (opaque_openly w >>= some_of) >>= seen)
+    → opaque_in (closed w) xs ≡ (cond b (none_whole w) (opaque_openly w >>= some_whole) >>= seen)
 unfolding opaque_item
 optional_same w met fits b e [] is = by_left b e
   where
     by_left : (b : Bool) → eqb w.left 0 ≡ b
-        → opaque_in (closed w) [] ≡ (cond b (none_of w) (opaque_openly w >>= some_of) >>= seen)
+        → opaque_in (closed w) [] ≡ (cond b (none_whole w) (opaque_openly w >>= some_whole) >>= seen)
     by_left true h = refl
     by_left false h = absurd
         (let n = eqb-false w.left 0 h in let z = ap length is in n (omega (arith, z, length-take-le w.left w.rest met)))
@@ -199,12 +191,12 @@ optional_same w met fits b e (t ∷ xs) is = by_left b e
     again (Ok x) = refl
     again (Err f) = refl
 
-    swapped : (r : OpenWhole) → ((r >>= seen) >>= some_read) ≡ ((r >>= some_of) >>= seen)
+    swapped : (r : OpenWhole) → ((r >>= seen) >>= some_read) ≡ ((r >>= some_whole) >>= seen)
     swapped (Ok x) = refl
     swapped (Err f) = refl
 
     by_left : (b : Bool) → eqb w.left 0 ≡ b
-        → opaque_in (closed w) (t ∷ xs) ≡ (cond b (none_of w) (opaque_openly w >>= some_of) >>= seen)
+        → opaque_in (closed w) (t ∷ xs) ≡ (cond b (none_whole w) (opaque_openly w >>= some_whole) >>= seen)
     by_left true h = absurd
         (let n = eqb-true w.left 0 h in let z = ap length is in omega (arith, z, n, length-take-le w.left w.rest met))
     by_left false h = again (next_at (closed w)) ∙ ap (λ (r : Whole). r >>= some_read) (opaque_open.same w met fits)
@@ -215,11 +207,11 @@ unfolding opaque_at optional_opaque_openly
 optional_open = record {
   same = λ w met fits.
       rw (looked_met w (optional_here w) met) (optional_same w met fits (eqb w.left 0) refl (body_of w) refl);
-  went = λ w y fits e. elim (chosen (eqb w.left 0) (none_of w) (opaque_openly w >>= some_of) (Ok y)
+  went = λ w y fits e. elim (chosen (eqb w.left 0) (none_whole w) (opaque_openly w >>= some_whole) (Ok y)
       (looked_ok w (optional_here w) y e)) [
         | inl h ↦ subst (λ (z : Option (List ℕ) × OpenSpot). Went w z.1) (ok_is (None, w) y h.1) (went_nowhere w)
         | inr h ↦ let a =
-            bind_ok (opaque_openly w) some_of y h.1 in
+            bind_ok (opaque_openly w) some_whole y h.1 in
             subst (λ (z : Option (List ℕ) × OpenSpot). Went w z.1) (ok_is (Some a.0.0, a.0.1) y a.2)
             (opaque_open.went w a.0 fits a.1)
       ];
@@ -231,13 +223,13 @@ optional_steady w more fits =
     front_stays w more (optional_here w) (optional_here (grown w more)) (λ same. by_left (eqb w.left 0))
     (λ x xs ys e h. by_left (eqb w.left 0))
   where
-    some_by : (r s : OpenWhole) → Stays r s more → Stays (r >>= some_of) (s >>= some_of) more
+    some_by : (r s : OpenWhole) → Stays r s more → Stays (r >>= some_whole) (s >>= some_whole) more
     some_by (Ok x) s h = rw h refl
     some_by (Err f) s (inl h) = inl h
     some_by (Err f) s (inr h) = rw h (inr refl)
 
-    by_left : (b : Bool) → Stays (cond b (none_of w) (opaque_openly w >>= some_of))
-        (cond b (none_of (grown w more)) (opaque_openly (grown w more) >>= some_of)) more
+    by_left : (b : Bool) → Stays (cond b (none_whole w) (opaque_openly w >>= some_whole))
+        (cond b (none_whole (grown w more)) (opaque_openly (grown w more) >>= some_whole)) more
     by_left true = refl
     by_left false = some_by (opaque_openly w) (opaque_openly (grown w more)) (opaque_steady w more fits)
 

@@ -19,6 +19,7 @@ use Rattle.der_core.proofs.Readers.{Anything}
 use Rattle.cms_stream_laws.specs.OpenReading.{OpenSpot, body_of, is_short, lost, next_openly, passed_whole}
 use Rattle.cms_stream_laws.specs.OpenReading.{opaque_openly, optional_opaque_openly, is_none_of}
 use Rattle.cms_stream_laws.specs.OpenReading.{tagged_openly, many_openly}
+use Rattle.cms_stream_laws.proofs.Switches.{MaybeWhole, some_whole, none_whole}
 use Rattle.cms_stream_laws.proofs.OpenParts.{looked_ok}
 use Rattle.cms_stream_laws.proofs.OpenSteps.{standing, Shown, EntersOpenly, next_enters, behind_reached, next_shown}
 use Rattle.cms_stream_laws.proofs.OpenSteps.{shown_here}
@@ -69,15 +70,6 @@ opaque_shown = record {
 
 -- ---- the same, unless the body ends
 
-abbrev Part : Type 0
-Part = Result (Option (List ℕ) × OpenSpot) Fault
-
-abbrev some_of : List ℕ × OpenSpot → Part
-some_of x = Ok (Some x.0, x.1)
-
-abbrev none_of : OpenSpot → Part
-none_of w = Ok (None, w)
-
 take_zero : (n : ℕ) (xs : List ℕ) → n ≡ 0 → take n xs ≡ []
 take_zero zero xs e = refl
 take_zero (suc n) xs e = absurd cc
@@ -92,12 +84,12 @@ unfolding optional_opaque_openly
 optional_fault after w f fits e = by_left (eqb w.left 0) (eqb (length w.rest) 0) refl refl e
   where
     by_left : (b c : Bool) → eqb w.left 0 ≡ b → eqb (length w.rest) 0 ≡ c
-        → cond {A = Part} b (cond b (none_of w) (opaque_openly w >>= some_of))
-        (cond c (fails lost) (cond b (none_of w) (opaque_openly w >>= some_of))) ≡ Err f
+        → cond {A = MaybeWhole} b (cond b (none_whole w) (opaque_openly w >>= some_whole))
+        (cond c (fails lost) (cond b (none_whole w) (opaque_openly w >>= some_whole))) ≡ Err f
         → Shown w (opaques Optional after) [] f
     by_left true c n m h = absurd (let z = h in cc)
     by_left false true n m h = inl (sym (err_is {A = Option (List ℕ) × OpenSpot} lost f h))
-    by_left false false n m h = elim (bind_err (opaque_openly w) some_of f h) [
+    by_left false false n m h = elim (bind_err (opaque_openly w) some_whole f h) [
       | inl a ↦ opaque_fault (opaques Optional after) w [] f fits tt
           (λ none. absurd (take_some w.left w.rest (eqb-false _ _ n) (eqb-false _ _ m) none)) a
       | inr a ↦ absurd (let z = a.2 in cc)
@@ -108,14 +100,15 @@ optional_goes : (after : Form) (w : OpenSpot) (y : Option (List ℕ) × OpenSpot
     → ReachesOpenly (standing y.1 after []) q → ReachesOpenly (standing w (opaques Optional after) []) q
 unfolding optional_opaque_openly
 optional_goes after w y q fits e h =
-    elim (chosen (eqb w.left 0) (none_of w) (opaque_openly w >>= some_of) (Ok y) (looked_ok w (optional_here w) y e)) [
+    elim (chosen (eqb w.left 0) (none_whole w) (opaque_openly w >>= some_whole) (Ok y)
+    (looked_ok w (optional_here w) y e)) [
       | inl a ↦
           let none : body_of w ≡ [] = take_zero w.left w.rest (eqb-true w.left 0 a.0) in
           drops {q = q} refl (none_stands after (body_of w) none)
           (subst (λ (z : Option (List ℕ) × OpenSpot). ReachesOpenly (standing z.1 after []) q)
           (sym (ok_is (None, w) y a.1)) h)
       | inr a ↦
-          let b = bind_ok (opaque_openly w) some_of y a.1 in
+          let b = bind_ok (opaque_openly w) some_whole y a.1 in
           let k = took_it w b.0 fits b.1 in
           let next : k.0.where_to.1 ≡ y.1 = k.0.next
           ∙ ap (λ (z : Option (List ℕ) × OpenSpot). z.1) (ok_is (Some b.0.0, b.0.1) y b.2) in

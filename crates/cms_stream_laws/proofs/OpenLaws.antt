@@ -119,12 +119,18 @@ length_there w (t ∷ ys) l fits e = by_identifier (is_tag t) e
 abbrev Both : Type 0
 Both = Result (OpenSpot × OpenSpot) Fault
 
-pub next_went : (w : OpenSpot) (x : OpenSpot × OpenSpot) → IsBytes w.rest → next_openly w ≡ Ok x → Entering w x
-next_went w x fits e =
+-- a header that was read states a size, by which an element was entered
+pub record States (w : OpenSpot) (x : OpenSpot × OpenSpot) : Type 0 where
+  pub size : ℕ
+  pub stated : length_in w (body_of w) ≡ Ok size
+  pub inside : heading size + size ≤ w.left
+  pub contents : x.0 ≡ open_spot size (w.pos + heading size) (drop (heading size) w.rest)
+  pub behind : x.1 ≡ ahead (heading size + size) w
+
+pub states : (w : OpenSpot) (x : OpenSpot × OpenSpot) → next_openly w ≡ Ok x → States w x
+states w x e =
     let b = bind_ok (judged w (length_in w (body_of w))) (entered w) x e in
     let l : ℕ = b.0 in
-    let there = length_there w (body_of w) l (IsBytes-take w.left w.rest fits) (judged_ok w _ l b.1) in
-    let shorter = length-take w.left w.rest in
     let over : Both = Err (fault Overrun w.pos) in
     let in-out : OpenSpot
     × OpenSpot = (open_spot l (w.pos + heading l) (drop (heading l) w.rest), ahead (heading l + l) w) in
@@ -135,12 +141,24 @@ next_went w x fits e =
           let is : in-out ≡ x = ok_is in-out x g.1 in
           record {
             size = l;
-            there = omega (arith, there, shorter);
+            stated = judged_ok w _ l b.1;
             inside = ltb-false _ _ g.0;
             contents = ap (λ (p : OpenSpot × OpenSpot). p.0) (sym is);
             behind = ap (λ (p : OpenSpot × OpenSpot). p.1) (sym is);
           }
     ]
+
+pub next_went : (w : OpenSpot) (x : OpenSpot × OpenSpot) → IsBytes w.rest → next_openly w ≡ Ok x → Entering w x
+next_went w x fits e =
+    let s = states w x e in
+    let there = length_there w (body_of w) s.size (IsBytes-take w.left w.rest fits) s.stated in
+    record {
+      size = s.size;
+      there = omega (arith, there, length-take w.left w.rest);
+      inside = s.inside;
+      contents = s.contents;
+      behind = s.behind;
+    }
 
 pub enter_went : (tag : ℕ) (w : OpenSpot) (x : OpenSpot × OpenSpot) → IsBytes w.rest → enter_openly tag w ≡ Ok x
     → Entering w x

@@ -15,6 +15,7 @@ use Rattle.cms_stream_laws.specs.OpenReading.{OpenSpot, body_of, closed, ahead, 
 use Rattle.cms_stream_laws.specs.OpenReading.{OpenBody, within_openly, maybe_openly}
 use Rattle.cms_stream_laws.specs.OpenReading.{last_openly, looked, switched_openly, many_openly_from, many_openly, Went}
 use Rattle.cms_stream_laws.specs.OpenReading.{IsMet}
+use Rattle.cms_stream_laws.proofs.Switches.{Switched, left_of, right_of, rest_by}
 use Rattle.cms_stream_laws.proofs.OpenLaws.{seen, done, IsOpenReader, IsOpenBody, met_ahead, bytes_ahead, went_nowhere}
 use Rattle.cms_stream_laws.proofs.OpenLaws.{enter_went, within_open}
 
@@ -220,20 +221,11 @@ module _ {A B : Type 0} (tag : ℕ) (inside : Spot → Result (List ℕ) Fault) 
     (same : Spot → Result A Fault) (same' : OpenBody A) (law-same : IsOpenBody same same')
     (other : Spot → Result B Fault) (other' : OpenBody B)
     (law-other : IsOpenBody other other') where
-  abbrev Switched : Type 0
-  Switched = Result (A ⊎ (List ℕ × B)) Fault
+  abbrev rest_read : List ℕ × Spot → Switched A B
+  rest_read = rest_by A B these same other
 
-  abbrev left_of : A → Switched
-  left_of a = Ok (inl a)
-
-  abbrev right_of : List ℕ → B → Switched
-  right_of id b = Ok (inr (id, b))
-
-  abbrev rest_read : List ℕ × Spot → Switched
-  rest_read x = cond (is_same these x.0) (same x.1 >>= left_of) (other x.1 >>= right_of x.0)
-
-  abbrev rest_open : List ℕ × OpenSpot → Switched
-  rest_open x = cond (is_same these x.0) (same' x.1 >>= left_of) (other' x.1 >>= right_of x.0)
+  abbrev rest_open : List ℕ × OpenSpot → Switched A B
+  rest_open = rest_by A B these same' other'
 
   by_first : (w : OpenSpot) (r : Result (List ℕ × OpenSpot) Fault) → within_openly tag inside' w ≡ r → IsMet w
       → IsBytes w.rest
@@ -257,7 +249,7 @@ module _ {A B : Type 0} (tag : ℕ) (inside : Spot → Result (List ℕ) Fault) 
     where
       rest_met : (x : List ℕ × OpenSpot) (y : A ⊎ (List ℕ × B)) → IsBytes x.1.rest → rest_open x ≡ Ok y → IsMet x.1
       rest_met x y fits e =
-          elim (chosen (is_same these x.0) (same' x.1 >>= left_of) (other' x.1 >>= right_of x.0) (Ok y) e) [
-            | inl h ↦ let b = bind_ok (same' x.1) left_of y h.1 in law-same.met x.1 b.0 fits b.1
-            | inr h ↦ let b = bind_ok (other' x.1) (right_of x.0) y h.1 in law-other.met x.1 b.0 fits b.1
+          elim (chosen (is_same these x.0) (same' x.1 >>= left_of A B) (other' x.1 >>= right_of A B x.0) (Ok y) e) [
+            | inl h ↦ let b = bind_ok (same' x.1) (left_of A B) y h.1 in law-same.met x.1 b.0 fits b.1
+            | inr h ↦ let b = bind_ok (other' x.1) (right_of A B x.0) y h.1 in law-other.met x.1 b.0 fits b.1
           ]

@@ -3,7 +3,7 @@
 use Rattle.std.proofs.Common.{◌≡◌, ℕ, ◌+◌, ◌-◌, ◌<◌, ◌≤◌, ◌^◌, Bool, true, false, not, ◌&&◌, cond, ltb, eqb, List, []}
 use Rattle.std.proofs.Common.{◌∷◌, ◌++◌, length, take, drop, Option}
 use Rattle.std.proofs.Common.{Some, Result, Ok, Err, refl, sym, ap, subst, ◌∙◌, arith, inl, inr, ◌⊎◌, append_assoc}
-use Rattle.std.proofs.lemmas.Bool.{ltb-true, ltb-false, eqb-true, not-false}
+use Rattle.std.proofs.lemmas.Bool.{ltb-true, eqb-true, not-false}
 use Rattle.std.proofs.lemmas.List.{length-take, length-take-le, length-append, drop_at, take-append-drop, append-nil}
 use Rattle.der_core.specs.declared.fault.Fault.{Fault}
 use Rattle.der_core.specs.declared.fault.Kind.{Kind}
@@ -20,12 +20,12 @@ use Rattle.der_core.specs.Reading.{fault, length_at, is_other}
 use Rattle.der_core.specs.Results.{◌>>=◌}
 use Rattle.der_core.proofs.ReadLengths.{chosen, ok_is, IsBytes-tail, IsBytes-take, IsBytes-drop, length_takes}
 use Rattle.der_core.proofs.Headers.{fails, err_is, fact_is, length_fault}
-use Rattle.der_core.proofs.Results.{bind_ok, bind_err}
+use Rattle.der_core.proofs.Results.{bind_err}
 use Rattle.cms_stream_laws.specs.OpenReading.{OpenSpot, open_spot, body_of, is_short, ahead, lost, is_end, judged}
 use Rattle.cms_stream_laws.specs.OpenReading.{length_in, heading, entered, next_openly}
 use Rattle.cms_stream_laws.specs.OpenReading.{enter_openly, IsMet}
 use Rattle.cms_stream_laws.proofs.OpenReaders.{take_body, drop_body}
-use Rattle.cms_stream_laws.proofs.OpenLaws.{judged_ok}
+use Rattle.cms_stream_laws.proofs.OpenLaws.{judged_ok, states}
 
 -- the open place at which a body stands
 abbrev pub standing : OpenSpot → Form → List Element → OpenPlace
@@ -166,30 +166,20 @@ front_is tag t xs id h =
 pub next_enters : (w : OpenSpot) (x : OpenSpot × OpenSpot) → IsBytes w.rest → next_openly w ≡ Ok x
     → (tag : ℕ) × EntersOpenly tag w x
 next_enters w x fits e =
-    let b = bind_ok (judged w (length_in w (body_of w))) (entered w) x e in
-    let l : ℕ = b.0 in
-    let k = headed w (body_of w) l (IsBytes-take w.left w.rest fits) (judged_ok w _ l b.1) in
-    let over : Both = Err (fault Overrun w.pos) in
-    let in-out : OpenSpot
-    × OpenSpot = (open_spot l (w.pos + heading l) (drop (heading l) w.rest), ahead (heading l + l) w) in
-    let good : Both = Ok in-out in
-    elim (chosen (ltb w.left (heading l + l)) over good (Ok x) b.2) [
-      | inl g ↦ absurd cc
-      | inr g ↦
-          let is : in-out ≡ x = ok_is in-out x g.1 in (
-            k.tag,
-            record {
-              size = l;
-              beyond = k.beyond;
-              spelled = k.spelled;
-              identifier = k.identifier;
-              fits = k.fits;
-              inside = ltb-false _ _ g.0;
-              contents = ap (λ (p : OpenSpot × OpenSpot). p.0) (sym is);
-              behind = ap (λ (p : OpenSpot × OpenSpot). p.1) (sym is);
-            },
-          )
-    ]
+    let s = states w x e in
+    let k = headed w (body_of w) s.size (IsBytes-take w.left w.rest fits) s.stated in (
+      k.tag,
+      record {
+        size = s.size;
+        beyond = k.beyond;
+        spelled = k.spelled;
+        identifier = k.identifier;
+        fits = k.fits;
+        inside = s.inside;
+        contents = s.contents;
+        behind = s.behind;
+      },
+    )
 
 pub enters_openly : (tag : ℕ) (w : OpenSpot) (x : OpenSpot × OpenSpot) → IsBytes w.rest → enter_openly tag w ≡ Ok x
     → EntersOpenly tag w x

@@ -1,7 +1,7 @@
 -- Open readings made of open readings give the same with more octets behind.
 use Rattle.std.proofs.Common.{◌≡◌, ℕ, zero, suc, Bool, true, false, cond, eqb, List, [], ◌∷◌, ◌++◌, length, take}
 use Rattle.std.proofs.Common.{Option, Some, None, Result, Ok, Err, refl}
-use Rattle.std.proofs.Common.{sym, ap, ◌∙◌, arith, inl, inr, ◌⊎◌}
+use Rattle.std.proofs.Common.{sym, ap, ◌∙◌, arith, inl, inr}
 use Rattle.std.proofs.lemmas.Bool.{cases_lt, lt-ltb, le-ltb, ne_eqb}
 use Rattle.std.proofs.lemmas.List.{length-append, take-append-le}
 use Rattle.der_core.specs.declared.fault.Fault.{Fault}
@@ -17,6 +17,7 @@ use Rattle.cms_stream_laws.specs.OpenReading.{whole_openly, made_openly, maybe_o
 use Rattle.cms_stream_laws.specs.OpenReading.{switched_openly, kept, many_openly_from}
 use Rattle.cms_stream_laws.specs.OpenReading.{many_openly}
 use Rattle.cms_stream_laws.specs.OpenReading.{Stays, StaysBody}
+use Rattle.cms_stream_laws.proofs.Switches.{Switched, left_of, right_of, rest_by}
 use Rattle.cms_stream_laws.proofs.OpenLaws.{done, IsOpenReader, IsOpenBody, bytes_ahead, enter_went, inside_bytes}
 use Rattle.cms_stream_laws.proofs.OpenLaws.{within_open}
 use Rattle.cms_stream_laws.proofs.Steady.{EntersAlike, EnterStays, enter_stays}
@@ -311,31 +312,23 @@ module _ {A B : Type 0} (tag : ℕ) (inside : Spot → Result (List ℕ) Fault) 
     (steady : IsSteadyBody inside')
     (these : List ℕ) (same' : OpenBody A) (steady-same : IsSteadyBody same') (other' : OpenBody B)
     (steady-other : IsSteadyBody other') where
-  abbrev Switched : Type 0
-  Switched = Result (A ⊎ (List ℕ × B)) Fault
-
-  abbrev left_of : A → Switched
-  left_of a = Ok (inl a)
-
-  abbrev right_of : List ℕ → B → Switched
-  right_of id b = Ok (inr (id, b))
-
-  left_by : (r s : Result A Fault) → StaysBody r s → StaysBody (r >>= left_of) (s >>= left_of)
+  left_by : (r s : Result A Fault) → StaysBody r s → StaysBody (r >>= left_of A B) (s >>= left_of A B)
   left_by (Ok x) s h = rw h refl
   left_by (Err f) s (inl h) = inl h
   left_by (Err f) s (inr h) = rw h (inr refl)
 
-  right_by : (id : List ℕ) (r s : Result B Fault) → StaysBody r s → StaysBody (r >>= right_of id) (s >>= right_of id)
+  right_by : (id : List ℕ) (r s : Result B Fault) → StaysBody r s
+      → StaysBody (r >>= right_of A B id) (s >>= right_of A B id)
   right_by id (Ok x) s h = rw h refl
   right_by id (Err f) s (inl h) = inl h
   right_by id (Err f) s (inr h) = rw h (inr refl)
 
-  abbrev others_of : List ℕ × OpenSpot → Switched
-  others_of x = cond (is_same these x.0) (same' x.1 >>= left_of) (other' x.1 >>= right_of x.0)
+  abbrev others_of : List ℕ × OpenSpot → Switched A B
+  others_of = rest_by A B these same' other'
 
   by_which : (b : Bool) (id : List ℕ) (w : OpenSpot) (more : List ℕ) → IsBytes w.rest
-      → StaysBody (cond b (same' w >>= left_of) (other' w >>= right_of id))
-      (cond b (same' (grown w more) >>= left_of) (other' (grown w more) >>= right_of id))
+      → StaysBody (cond b (same' w >>= left_of A B) (other' w >>= right_of A B id))
+      (cond b (same' (grown w more) >>= left_of A B) (other' (grown w more) >>= right_of A B id))
   by_which true id w more fits = left_by (same' w) (same' (grown w more)) (steady-same w more fits)
   by_which false id w more fits = right_by id (other' w) (other' (grown w more)) (steady-other w more fits)
 

@@ -8,5 +8,7 @@ pub mod ShortSchedules
 pub mod LongSchedules
 pub mod ShortPairs
 pub mod LongPairs
-pub mod ShortPieces
-pub mod LongPieces
+pub mod Words
+pub mod Pieces
+pub mod SeveralBlocks
+pub mod Both

@@ -3,11 +3,9 @@ use Rattle.std.proofs.Common.{◌≡◌, ℕ, ◌+◌, ◌*◌, ◌/◌, ◌%◌
 use Rattle.std.proofs.Common.{bit_and, bit_or, bit_xor, refl, sym, ap, ◌∙◌, arith}
 use Rattle.std.proofs.lemmas.Nat.{and_mask, or_comm, or_shifted, xor_mod}
 use Rattle.std.specs.Simd.Lanes.{zip2}
-use Rattle.sha2.specs.Sha256.{add32, big_sigma0, big_sigma1, ch, maj, round, round_constants, rounds, temp1, temp2}
+use Rattle.sha2.specs.Sha256.{add32, big_sigma0, big_sigma1, ch, maj, temp1, temp2}
 use Rattle.sha2.specs.Sha512.{add64}
-use Rattle.sha2.proofs.Schedule256.{rounds_next}
-use Rattle.sha2_blocks.specs.declared.pairs.Pair.{Pair}
-use Rattle.sha2_blocks.specs.Pairs.{AreBoth, HoldTwice, both_at, low_words, two_lanes}
+use Rattle.sha2_blocks.specs.Pairs.{HoldTwice, both_at, low_words, two_lanes}
 use Rattle.sha2_blocks.proofs.Bits.{turned, turned_is}
 use Rattle.sha2_blocks.proofs.Lanes.{low, low_lt, of_two}
 
@@ -147,26 +145,3 @@ temp2_is x y sigma most es em = low_sum sigma most ∙ (λ i. zip2 add32 (es i) 
 pub sum_is : (u v : List ℕ) (a b c d : ℕ) → low_words u ≡ both a b → low_words v ≡ both c d
     → low_words (zip2 add64 u v) ≡ both (add32 a c) (add32 b d)
 sum_is u v a b c d eu ev = low_sum u v ∙ (λ i. zip2 add32 (eu i) (ev i))
-
--- ---- the rounds of both
-
--- a round of both, with its sum
-pub both_next : (g h ws : List ℕ) (v next : Pair) (t sum : ℕ)
-    → sum ≡ add32 (slice_index round_constants t) (slice_index ws t)
-    → AreBoth HoldTwice v (rounds g ws t) (rounds h ws t)
-    → ((x y : List ℕ) (k w : ℕ) → sum ≡ add32 k w → AreBoth HoldTwice v x y
-    → AreBoth HoldTwice next (round x k w) (round y k w))
-    → AreBoth HoldTwice next (rounds g ws (t + 1)) (rounds h ws (t + 1))
-both_next g h ws v next t sum held both is =
-    rw (rounds_next g ws t, rounds_next h ws t)
-    (is (rounds g ws t) (rounds h ws t) (slice_index round_constants t) (slice_index ws t) held both)
-
-pub both_after : (v : Pair) (g h ws : List ℕ) (n k : ℕ) → n ≡ k → AreBoth HoldTwice v (rounds g ws n) (rounds h ws n)
-    → AreBoth HoldTwice v (rounds g ws k) (rounds h ws k)
-both_after v g h ws n k e held = rw (← e) held
-
--- before the first round
-pub both_none : (v : Pair) (g h ws : List ℕ) → AreBoth HoldTwice v g h
-    → AreBoth HoldTwice v (rounds g ws 0) (rounds h ws 0)
-unfolding rounds
-both_none v g h ws held = held

@@ -7,7 +7,9 @@ use Rattle.sha2.specs.Sha256.{add32, next_word, round, round_constants, rounds, 
 use Rattle.sha2.specs.Sha256.{word_at}
 use Rattle.sha2.proofs.Schedule256.{rounds_next, slice_index-schedule_first, slice_index-schedule_next}
 use Rattle.sha2_blocks.specs.ShortSteps.{AreSixteen, four_words}
+use Rattle.sha2_blocks.specs.Sums.{AreShortSums}
 use Rattle.sha2_blocks.specs.declared.short_words.Sixteen.{Sixteen}
+use Rattle.sha2_blocks.proofs.Sums.{fewer_short}
 
 -- ---- the lower case sigmas of four lanes
 
@@ -142,3 +144,41 @@ pub round_by : (h ws v next : List ℕ) (t sum : ℕ) → sum ≡ add32 (slice_i
 round_by h ws v next t sum held ev is =
     is (slice_index round_constants t) (slice_index ws t) held
     ∙ ap (λ (x : List ℕ). round x (slice_index round_constants t) (slice_index ws t)) ev ∙ sym (rounds_next h ws t)
+
+-- ---- sixteen words more
+
+-- what taking four words more does to the words and the sums
+abbrev pub FourMore : ℕ → Sixteen → Sixteen → List ℕ → List ℕ → Type 0
+FourMore t w w' sums sums' = record {
+  words : (b : List ℕ) → AreSixteen w (schedule b 48) t → AreSixteen w' (schedule b 48) (t + 4);
+  sums : (b : List ℕ) → AreSixteen w (schedule b 48) t → AreShortSums sums (schedule b 48) (t + 16)
+      → AreShortSums sums' (schedule b 48) (t + 20);
+}
+
+-- after four such steps, and the sums after each
+pub record SixteenMore (ws : List ℕ) (t : ℕ) (w : Sixteen) (s1 s2 s3 s4 : List ℕ) : Type 0 where
+  pub words : AreSixteen w ws (t + 16)
+  pub first : AreShortSums s1 ws (t + 4 + 16)
+  pub second : AreShortSums s2 ws (t + 8 + 16)
+  pub third : AreShortSums s3 ws (t + 12 + 16)
+  pub fourth : AreShortSums s4 ws (t + 16 + 16)
+
+pub sixteen_more : {w0 w1 w2 w3 w4 : Sixteen} (s0 s1 s2 s3 s4 b : List ℕ) (t : ℕ)
+    → FourMore t w0 w1 s0 s1 → FourMore (t + 4) w1 w2 s1 s2 → FourMore (t + 8) w2 w3 s2 s3
+    → FourMore (t + 12) w3 w4 s3 s4 → AreSixteen w0 (schedule b 48) t → AreShortSums s0 (schedule b 48) (t + 16)
+    → SixteenMore (schedule b 48) t w4 s1 s2 s3 s4
+sixteen_more s0 s1 s2 s3 s4 b t first second third fourth words sums =
+    let ws = schedule b 48 in
+    let w1 = first.words b words in
+    let w2 = sixteen_at _ ws _ (t + 8) (omega arith) (second.words b w1) in
+    let w3 = sixteen_at _ ws _ (t + 12) (omega arith) (third.words b w2) in
+    let sums1 = fewer_short s1 ws _ (t + 4 + 16) (omega arith) (first.sums b words sums) in
+    let sums2 = fewer_short s2 ws _ (t + 8 + 16) (omega arith) (second.sums b w1 sums1) in
+    let sums3 = fewer_short s3 ws _ (t + 12 + 16) (omega arith) (third.sums b w2 sums2) in
+    record {
+      words = sixteen_at _ ws _ (t + 16) (omega arith) (fourth.words b w3);
+      first = sums1;
+      second = sums2;
+      third = sums3;
+      fourth = fewer_short s4 ws _ (t + 16 + 16) (omega arith) (fourth.sums b w3 sums3);
+    }

@@ -1,6 +1,6 @@
 use Rattle.std.proofs.Common.{◌*◌, refl, ap, ◌∙◌, arith}
 use Rattle.sha2_blocks.specs.LongHashers.{long_after}
-use Rattle.sha2_blocks.proofs.LongPieces.{after_next, none_after}
+use Rattle.sha2_blocks.proofs.SeveralBlocks.{after_next, none_after}
 use Rattle.sha2_blocks.proofs.long_hashers.take_blocks_of_several.Goals as goal
 
 pub each-init : goal.each-init

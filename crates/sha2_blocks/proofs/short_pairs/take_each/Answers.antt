@@ -1,6 +1,7 @@
 use Rattle.std.proofs.Common.{◌*◌, refl, ap, ◌∙◌, arith}
 use Rattle.sha2.specs.Sha256.{hash_after}
-use Rattle.sha2_blocks.proofs.ShortPieces.{next_block}
+use Rattle.sha2_blocks.proofs.Pieces.{block_taken}
+use Rattle.sha2_blocks.proofs.Words.{short}
 use Rattle.sha2_blocks.proofs.short_pairs.take_each.Goals as goal
 
 pub each-init : goal.each-init
@@ -13,10 +14,10 @@ each-preserved c =
     let sums = c.put_schedule.ensures in
     let i = c.each.invariant in
     record {
-      first = rw (c.take_sums_of_two.ensures.first _ sums, i.first)
-          (next_block c.args.first.now d _ c.each.i (64 * c.each.i) refl refl);
-      second = rw (c.take_sums_of_two.ensures.second _ sums, i.second)
-          (next_block c.args.second.now d _ c.each.i (64 * c.each.i) refl refl);
+      first = block_taken short c.args.first.now d _ _ _ c.each.i (64 * c.each.i) i.first
+          (c.take_sums_of_two.ensures.first _ sums) refl refl;
+      second = block_taken short c.args.second.now d _ _ _ c.each.i (64 * c.each.i) i.second
+          (c.take_sums_of_two.ensures.second _ sums) refl refl;
     }
 
 pub returns-clause-first : goal.returns-clause-first

@@ -1,6 +1,6 @@
 use Rattle.std.proofs.Common.{◌≡◌, ℕ, ◌+◌, ◌*◌, refl, ap, ◌∙◌, arith}
 use Rattle.sha2.specs.Sha256.{add_state, compress, rounds, schedule}
-use Rattle.sha2_blocks.proofs.ShortSchedules.{sixteen_at}
+use Rattle.sha2_blocks.proofs.ShortSchedules.{sixteen_at, sixteen_more}
 use Rattle.sha2_blocks.proofs.Sums.{fewer_short}
 use Rattle.sha2_blocks.proofs.short_rounds.take_block.Goals as goal
 
@@ -20,22 +20,17 @@ turns-preserved c =
     let t : ℕ = 16 * c.turns.turn in
     let next : ℕ = 16 * (c.turns.turn + 1) in
     let i = c.turns.invariant in
-    let w1 = c.four_more-w.ensures.words b i.words in
-    let w2 = sixteen_at _ ws _ (t + 8) (omega arith) (c.four_more-w-in-turns.ensures.words b w1) in
-    let w3 = sixteen_at _ ws _ (t + 12) (omega arith) (c.four_more-w-in-turns-2.ensures.words b w2) in
-    let s1 = fewer_short _ ws _ (t + 4 + 16) (omega arith) (c.four_more-w.ensures.sums b i.words i.sums) in
-    let s2 = fewer_short _ ws _ (t + 8 + 16) (omega arith) (c.four_more-w-in-turns.ensures.sums b w1 s1) in
-    let s3 = fewer_short _ ws _ (t + 12 + 16) (omega arith) (c.four_more-w-in-turns-2.ensures.sums b w2 s2) in
-    let s4 = c.four_more-w-in-turns-3.ensures.sums b w3 s3 in
-    let v1 = c.four_rounds-v.ensures h ws (fewer_short _ ws _ (t + 4) (omega arith) s1) i.rounds in
-    let v2 = c.four_rounds-v-in-turns.ensures h ws (fewer_short _ ws _ (t + 4 + 4) (omega arith) s2) v1 in
-    let v3 = c.four_rounds-v-in-turns-2.ensures h ws (fewer_short _ ws _ (t + 8 + 4) (omega arith) s3)
+    let more = sixteen_more _ _ _ _ _ b t c.four_more-w.ensures c.four_more-w-in-turns.ensures
+    c.four_more-w-in-turns-2.ensures c.four_more-w-in-turns-3.ensures i.words i.sums in
+    let v1 = c.four_rounds-v.ensures h ws (fewer_short _ ws _ (t + 4) (omega arith) more.first) i.rounds in
+    let v2 = c.four_rounds-v-in-turns.ensures h ws (fewer_short _ ws _ (t + 4 + 4) (omega arith) more.second) v1 in
+    let v3 = c.four_rounds-v-in-turns-2.ensures h ws (fewer_short _ ws _ (t + 8 + 4) (omega arith) more.third)
     (v2 ∙ ap (rounds h ws) (omega arith)) in
-    let v4 = c.four_rounds-v-in-turns-3.ensures h ws (fewer_short _ ws _ (t + 12 + 4) (omega arith) s4)
+    let v4 = c.four_rounds-v-in-turns-3.ensures h ws (fewer_short _ ws _ (t + 12 + 4) (omega arith) more.fourth)
     (v3 ∙ ap (rounds h ws) (omega arith)) in
     record {
-      words = sixteen_at _ ws _ next (omega arith) (c.four_more-w-in-turns-3.ensures.words b w3);
-      sums = fewer_short _ ws _ (next + 16) (omega arith) s4;
+      words = sixteen_at _ ws _ next (omega arith) more.words;
+      sums = fewer_short _ ws _ (next + 16) (omega arith) more.fourth;
       rounds = v4 ∙ ap (rounds h ws) (omega arith);
     }
 

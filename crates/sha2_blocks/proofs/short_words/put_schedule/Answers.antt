@@ -1,6 +1,6 @@
 use Rattle.std.proofs.Common.{ℕ, ◌+◌, ◌*◌, arith}
 use Rattle.sha2.specs.Sha256.{schedule}
-use Rattle.sha2_blocks.proofs.ShortSchedules.{sixteen_at}
+use Rattle.sha2_blocks.proofs.ShortSchedules.{sixteen_at, sixteen_more}
 use Rattle.sha2_blocks.proofs.Sums.{fewer_short}
 use Rattle.sha2_blocks.proofs.short_words.put_schedule.Goals as goal
 
@@ -9,20 +9,14 @@ turns-init c = record { words = c.sixteen_first-w.ensures; sums = c.put_sixteen.
 
 pub turns-preserved : goal.turns-preserved
 turns-preserved c =
-    let b = c.args.block.now in
-    let ws = schedule b 48 in
-    let t : ℕ = 16 * c.turns.turn in
+    let ws = schedule c.args.block.now 48 in
     let next : ℕ = 16 * (c.turns.turn + 1) in
-    let i = c.turns.invariant in
-    let w1 = c.four_more-w.ensures.words b i.words in
-    let w2 = sixteen_at _ ws _ (t + 8) (omega arith) (c.four_more-w-in-turns.ensures.words b w1) in
-    let w3 = sixteen_at _ ws _ (t + 12) (omega arith) (c.four_more-w-in-turns-2.ensures.words b w2) in
-    let s1 = fewer_short _ ws _ (t + 4 + 16) (omega arith) (c.four_more-w.ensures.sums b i.words i.sums) in
-    let s2 = fewer_short _ ws _ (t + 8 + 16) (omega arith) (c.four_more-w-in-turns.ensures.sums b w1 s1) in
-    let s3 = fewer_short _ ws _ (t + 12 + 16) (omega arith) (c.four_more-w-in-turns-2.ensures.sums b w2 s2) in
+    let more = sixteen_more _ _ _ _ _ c.args.block.now (16 * c.turns.turn) c.four_more-w.ensures
+    c.four_more-w-in-turns.ensures c.four_more-w-in-turns-2.ensures c.four_more-w-in-turns-3.ensures
+    c.turns.invariant.words c.turns.invariant.sums in
     record {
-      words = sixteen_at _ ws _ next (omega arith) (c.four_more-w-in-turns-3.ensures.words b w3);
-      sums = fewer_short _ ws _ (next + 16) (omega arith) (c.four_more-w-in-turns-3.ensures.sums b w3 s3);
+      words = sixteen_at _ ws _ next (omega arith) more.words;
+      sums = fewer_short _ ws _ (next + 16) (omega arith) more.fourth;
     }
 
 pub returns : goal.returns

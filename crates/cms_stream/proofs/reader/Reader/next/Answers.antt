@@ -1,42 +1,17 @@
-use Rattle.std.proofs.Common.{◌≤◌, arith}
-use Rattle.std.proofs.lemmas.Grind.{common_steps}
 use Rattle.cms_stream_laws.specs.OpenReading.{next_openly}
 use Rattle.cms_stream.specs.Passing.{next_header_in}
-use Rattle.cms_stream.proofs.Heading.{next_header_is, IsLooked, IsHeaded, enters_now, enters_not}
+use Rattle.cms_stream.proofs.Heading.{next_header_is, enter_fails, enter_gives}
 use Rattle.cms_stream.proofs.reader.Reader.next.Goals as goal
 
 pub returns-in-Err : goal.returns-in-Err
 returns-in-Err g c =
-    let e = c.in_ok-look.ensures in record {
-      exact = (
-        e.asks.exact,
-        λ t.
-            let front : IsLooked 6 c.look.new.self.at c.look.new.self.window c.bytes.result.now _ _ =
-            record { looked = e.looked t; is = e.asks.moved t; same = c.bytes.ensures.octets } in
-            enters_not next_openly next_header_in next_header_is c.args.end front c.in-Err.fault c.in-Err.ensures.gives,
-      );
-      telling = e.asks.telling;
-      at = grind (arith, common_steps);
-      moved = grind (arith, common_steps);
-    }
+    let e = c.in_ok-look.ensures in
+    enter_fails next_openly next_header_in next_header_is g.S.Source c.look.new.self c.look.new.source _ c.args.end
+    e.asks e.looked c.bytes.ensures.octets c.in-Err.fault c.in-Err.ensures.gives
 
 pub returns : goal.returns
 returns g c =
     let e = c.in_ok-look.ensures in
-    let there = c.in-Ok.ensures.there in
-    let inside : c.look.new.self.at ≤ c.args.end = omega (arith, e.asks.at, c.requires.inside) in record {
-      exact = (
-        e.asks.exact,
-        λ t.
-            let front : IsLooked 6 c.look.new.self.at c.look.new.self.window c.bytes.result.now _ _ =
-            record { looked = e.looked t; is = e.asks.moved t; same = c.bytes.ensures.octets } in
-            let header :
-            IsHeaded c.in-Ok.len c.heading-count.result c.look.new.self.window c.bytes.result.now c.pass.new.self =
-            record { there = there.0; size = c.heading-count.ensures.is; gone = c.pass.ensures } in
-            enters_now next_openly next_header_in next_header_is c.args.end front c.in-Ok.ensures.gives header inside
-            there.1,
-      );
-      telling = e.asks.telling;
-      at = grind (arith, common_steps);
-      moved = grind (arith, common_steps);
-    }
+    enter_gives next_openly next_header_in next_header_is g.S.Source c.look.new.self c.look.new.source _ c.args.end
+    e.asks e.looked c.bytes.ensures.octets c.in-Ok.ensures.gives c.in-Ok.ensures.there c.heading-count.ensures.is
+    c.pass.ensures c.requires.inside

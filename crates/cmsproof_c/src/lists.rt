@@ -3,8 +3,8 @@ ghost use Rattle.std.specs.Prelude.{◌≡◌, ◌⊎◌, Some, None, IfSome};
 use crate::answers_handle::AnswersHandle;
 use crate::trust_handle::TrustHandle;
 use library_calls::HeldTrust;
+use list_answers::Answers;
 use std::alloc::Global;
-use trust_lists::Answers;
 
 /// Takes the lists out of two handles. If one of them holds none, both keep what they hold.
 pub(crate) fn take_both(

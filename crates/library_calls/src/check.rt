@@ -34,7 +34,7 @@ pub(crate) fn source_of<'a>(given: bool, content: &'a [u8]) -> Option<Slice<'a>>
 }
 
 /// The verdict about a file and its content under these lists.
-fn verdict_of(
+fn file_verdict(
     list: &mut HeldTrust,
     asked: &mut Answers,
     input: Input,
@@ -70,6 +70,6 @@ pub fn tell_check(
     // The answers list vouches for what it vouched for.
     ensures same { is_among asked.new ≡ is_among asked.old }
 {
-    let verdict = verdict_of(list, asked, input, sha1);
+    let verdict = file_verdict(list, asked, input, sha1);
     tell_verdict(alloc, &verdict, room)
 }

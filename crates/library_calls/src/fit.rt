@@ -15,7 +15,7 @@ use std::alloc::Global;
 const FITS: u32 = 5;
 
 /// Whether the signers of a file fit its content.
-fn verdict_of(input: Input, sha1: bool) -> Result<usize, Refused>
+fn fit_verdict(input: Input, sha1: bool) -> Result<usize, Refused>
     ensures { FitsHanded (record { sha1 = sha1 }) input.entry.file.now (handed input.entry.given
         input.entry.content.now) result }
 {
@@ -58,7 +58,7 @@ pub fn tell_fit(alloc: Global, input: Input, sha1: bool, room: &mut [u8]) -> Tol
         result.status room.old
         result.size room.new }
 {
-    match verdict_of(input, sha1) {
+    match fit_verdict(input, sha1) {
         Ok(count) => tell_count(alloc, count, room),
         Err(why) => tell_failure(alloc, &Failure::Refused(why), room),
     }

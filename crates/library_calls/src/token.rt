@@ -12,7 +12,7 @@ use library_answers::{
 use list_answers::Answers;
 
 /// The verdict about a token under these lists.
-fn verdict_of(
+fn token_verdict(
     list: &mut HeldTrust,
     asked: &mut Answers,
     token: &[u8],
@@ -68,6 +68,6 @@ pub fn tell_token_check(
     // The answers list vouches for what it vouched for.
     ensures same { is_among asked.new ≡ is_among asked.old }
 {
-    let verdict = verdict_of(list, asked, token, stamped, sha1);
+    let verdict = token_verdict(list, asked, token, stamped, sha1);
     Told::without_text(status_of(&verdict), numbers_of(&verdict))
 }

@@ -1,6 +1,6 @@
 use Rattle.trust_lists.specs.Asking.{is_among}
 use Rattle.library_calls.proofs.InMemory.{known_by, never_raised}
-use Rattle.library_calls.proofs.check.verdict_of.Goals as goal
+use Rattle.library_calls.proofs.check.file_verdict.Goals as goal
 
 pub returns-clause-verdict : goal.returns-clause-verdict
 returns-clause-verdict c =

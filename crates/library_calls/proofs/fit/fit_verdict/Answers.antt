@@ -2,7 +2,7 @@ use Rattle.std.proofs.Common.{List, ℕ, Option, subst}
 use Rattle.check_fit.specs.FileFitting.{FitsSigned}
 use Rattle.library_calls.specs.Fit.{FitsHanded}
 use Rattle.library_calls.proofs.InMemory.{judges_handed, never_raised}
-use Rattle.library_calls.proofs.fit.verdict_of.Goals as goal
+use Rattle.library_calls.proofs.fit.fit_verdict.Goals as goal
 
 pub returns : goal.returns
 returns c = subst

@@ -1,6 +1,6 @@
 use Rattle.trust_lists.specs.Asking.{is_among}
 use Rattle.library_calls.proofs.CheckingTokens.{judged_by}
-use Rattle.library_calls.proofs.token.verdict_of.Goals as goal
+use Rattle.library_calls.proofs.token.token_verdict.Goals as goal
 
 pub returns-clause-verdict : goal.returns-clause-verdict
 returns-clause-verdict c = judged_by _ _ (is_among c.args.asked.now) c.args.token.now c.args.stamped.now

@@ -1,6 +1,5 @@
 -- What was written where a token was attached, and what is said where it was not.
-use Rattle.std.proofs.Common.{◌≡◌, ◌⊎◌, ℕ, List, Option, Result, Ok, Err, subst, inl, inr}
-use Rattle.std.specs.Prelude.{OnOk}
+use Rattle.std.proofs.Common.{◌≡◌, ◌⊎◌, ℕ, List, Option, Err, subst, inl, inr}
 use Rattle.cli_tasks.specs.declared.task.AttachWords.{AttachWords}
 use Rattle.cli_failures.specs.declared.failure.Failure.{Failure}
 use Rattle.cli_failures.specs.Files.{IsHeld}
@@ -19,20 +18,17 @@ pub record IsMade {F : Type 0} (holds : F → Option (List ℕ)) (signer : ℕ) 
   pub read_token : IsHeld holds token
   pub is : IsNewFile file signer token octets
 
-pub attached_when : {F T E : Type 0} (holds contents : F → Option (List ℕ)) (signer : ℕ) (octets put : List ℕ)
-    (r : Result T E) → put ≡ octets
-    → IsMade holds signer octets → OnOk r (IsWritten contents put) → OnOk r (IsAttached holds contents signer)
-attached_when holds contents signer octets put (Ok t) e made written =
-    record {
-      file = made.file;
-      token = made.token;
-      octets = octets;
-      read_file = made.read_file;
-      read_token = made.read_token;
-      is = made.is;
-      written = subst (λ (bs : List ℕ). IsWritten contents bs) e written;
-    }
-attached_when holds contents signer octets put (Err why) e made written = tt
+pub attached_when : {F : Type 0} (holds contents : F → Option (List ℕ)) (signer : ℕ) (octets put : List ℕ)
+    → put ≡ octets → IsMade holds signer octets → IsWritten contents put → IsAttached holds contents signer
+attached_when holds contents signer octets put e made written = record {
+  file = made.file;
+  token = made.token;
+  octets = octets;
+  read_file = made.read_file;
+  read_token = made.read_token;
+  is = made.is;
+  written = subst (λ (bs : List ℕ). IsWritten contents bs) e written;
+}
 
 pub not_attached : {F : Type 0} (holds : F → Option (List ℕ)) (words : AttachWords) (file token : List ℕ) (f : Failure)
     → IsHeld holds file → IsHeld holds token

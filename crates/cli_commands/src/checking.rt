@@ -190,8 +190,10 @@ fn is_too_long(verdict: &Result<Accepted, Refused>) -> bool
 
 /// The verdict about a file from which nothing was read, and whether it can be read again.
 ///
-/// If a regular file has the content in it, a hint saves time. A file that can be read only once is hashed by all
-/// algorithms; and a content that is handed in is read when the file's signers are known, so it needs no hint.
+/// If a regular file has the content in it, a hint saves time: the content is hashed by the algorithms that the file's
+/// digestAlgorithms name; if a signer needs another one, which is no fault, the file is read again, and hashed by all.
+/// A file that can be read only once is hashed by all algorithms; and a content that is handed in is read when the
+/// file's signers are known, so it needs no hint.
 ///
 /// Errors: as `check_stream`; X1 also if a regular file can't go back to its front.
 fn verdict_of<F: Read + Seek, S: Source>(
@@ -217,34 +219,9 @@ fn verdict_of<F: Read + Seek, S: Source>(
     // What the check goes by stays the same.
     ensures stays { checker.new ≡ checker.old }
 {
-    if content.is_none() && again {
-        verdict_by_hint(file, content, buffer, answers, passing, checker)
-    } else {
-        check_stream_with(passing, checker, file, content, buffer, answers)
+    if content.is_some() || !again {
+        return check_stream_with(passing, checker, file, content, buffer, answers);
     }
-}
-
-/// The same for a file that can go back to its front. Its content is hashed by the algorithms that its digestAlgorithms
-/// name; if a signer needs another one, which is no fault, the file is read again, and hashed by all.
-fn verdict_by_hint<F: Read + Seek, S: Source>(
-    file: &mut Rereadable<F>,
-    content: &mut Option<S>,
-    buffer: &mut [u8],
-    answers: &mut Answers,
-    passing: &mut Pass,
-    checker: &mut Checker,
-) -> Result<Accepted, Refused>
-    ensures judged { OfReading F.stream_position F.remaining (λ octets. ChecksStream
-        (facts_of S.tells S.rest S.failures) (terms_for checker.old (λ q. is_among answers.old q)) octets
-        content.old content.new) file.old.file (length buffer.old) file.old.failed file.new.failed
-        content.old content.new result }
-    // After X3 the content was not read, and no device failed.
-    ensures untouched { IsTooLong result → (content.new ≡ content.old) × (file.new.failed ≡ file.old.failed) }
-    // What the answers list vouches for stays the same.
-    ensures same { ◌≡◌ {A = Asked → Bool} (λ q. is_among answers.new q) (λ q. is_among answers.old q) }
-    // What the check goes by stays the same.
-    ensures stays { checker.new ≡ checker.old }
-{
     let Ok(listed) = file.listed(passing) else {
         return Err(Refused::Device(DeviceFault::ReadFailed));
     };

@@ -39,8 +39,9 @@ impl<O: Write> Sink for Output<'_, O> {
     }
 }
 
-/// Writes the text of the questions of a file, which is read once, straight to a writer, which may buffer it.
-fn put_straight<F: Read, O: Write>(
+/// Writes the text of the questions of a file, which is read once, straight to a writer, which may buffer it, and is
+/// flushed at the end. No more octets of the file are kept than the buffer has.
+pub fn put_questions<F: Read, O: Write>(
     file: &mut Rereadable<F>,
     buffer: &mut [u8],
     trust: &Trust,
@@ -57,25 +58,7 @@ fn put_straight<F: Read, O: Write>(
     let Output { to, failed: _ } = sink;
     // No effect at run time. The proof reads what `out` holds from this use of `to`.
     let _ = &*to;
-    asked
-}
-
-/// Writes the text of the questions of a file, which is read once, straight to a writer. No more octets of the file are
-/// kept than the buffer has.
-#[tactic(auto, using(crate::proofs::Straight::flushed, crate::proofs::Straight::unflushed))]
-pub fn put_questions<F: Read, O: Write>(
-    file: &mut Rereadable<F>,
-    buffer: &mut [u8],
-    trust: &Trust,
-    out: &mut O,
-    passing: &mut Pass,
-) -> Result<(), StreamQuestionsFault>
-    ensures asks { AsksPass trust.now (F.remaining file.old.file) (length buffer.old) result (O.contents out.old)
-        (O.contents out.new) }
-    // The file's count of failures is raised exactly if the file failed.
-    ensures reads { CountsReads result file.old.failed file.new.failed }
-{
-    put_straight(file, buffer, trust, out, passing)?;
+    asked?;
     match out.flush() {
         Ok(()) => Ok(()),
         Err(_) => Err(StreamQuestionsFault::Questions(QuestionsFault::WriteFailed)),

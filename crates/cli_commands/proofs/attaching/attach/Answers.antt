@@ -5,7 +5,7 @@ use Rattle.cli_commands.proofs.attaching.attach.Goals as goal
 
 pub returns-clause-attached : goal.returns-clause-attached
 returns-clause-attached g c =
-    attached_when _ _ c.args.words.now.signer _ _ c.write_whole.result c.as_slice-3.ensures.value
+    attached_when _ _ c.args.words.now.signer _ _ c.as_slice-3.ensures.value
     (record {
       file = c.as_slice.result.now;
       token = c.as_slice-2.result.now;
@@ -13,7 +13,7 @@ returns-clause-attached g c =
       read_token = held_as _ _ _ c.as_slice-2.ensures.value c.in_ok-token.ensures.whole;
       is = c.in_ok-octets.ensures.found;
     })
-    c.write_whole.ensures.whole
+    c.in_ok-write_whole.ensures.whole
 
 pub returns-in_err-octets-clause-refused : goal.returns-in_err-octets-clause-refused
 returns-in_err-octets-clause-refused g c =

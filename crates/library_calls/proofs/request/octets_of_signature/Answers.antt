@@ -1,4 +1,4 @@
-use Rattle.std.proofs.Common.{ℕ, Vec, Global, List, Option, option_map}
+use Rattle.std.proofs.Common.{ℕ, Vec, Global}
 use Rattle.std.proofs.lemmas.Result.{err_from_is_err_and}
 use Rattle.library_calls.proofs.Requested.{values, asks, too_long}
 use Rattle.library_calls.proofs.Stamped.{policy_refused, signer_refused, signature_too_long, signature_asked}

@@ -1,0 +1,19 @@
+-- The seal of an answers list, as one of the seals that go alike.
+use mathlib.Core.Path.{refl}
+use Rattle.list_answers.specs.contracts.answers.Answers.{the_row}
+use Rattle.cmsproof_c.specs.contracts.answers_seal.AnswersSeal as Sealed
+use Rattle.cmsproof_c.proofs.Seals.{Seal}
+
+abbrev pub seal : Seal the_row
+seal = record {
+  name = Sealed.the_type.name;
+  row = Sealed.the_row;
+  at = λ d. d.at;
+  kept = λ d. d.kept;
+  make = λ p k. record { at = p; kept = k };
+  owns = λ d vs. refl;
+  owns_made = λ p k vs. refl;
+  kept_made = λ p k. refl;
+  last = λ d. tt;
+  silent = λ d f. refl;
+}

@@ -11,6 +11,7 @@ use Rattle.check_names.specs.Naming.{NamesIfAny}
 use Rattle.check_verdict.specs.Trusted.{asked}
 use Rattle.check_verdict.specs.SignerStages.{LeftAt, IsSignersAt}
 use Rattle.check_verdict.proofs.Tallies.{at_falls}
+use Rattle.check_verdict.proofs.Going.{goes_further}
 use Rattle.check_verdict.proofs.Found.{entry_among, best_of_found, best_of_rest}
 use Rattle.check_verdict.proofs.signer_stages.signer_stages.Given.{Over}
 use Rattle.check_verdict.proofs.signer_stages.signer_stages.Goals.{After-signer_stage}
@@ -43,11 +44,9 @@ loop-at-preserved g c =
           (at_falls t c.args.signer.now attributes c.args.moment.now)
           (λ x p. (p.role, p.matches)) c.loop-at.from c.in-Some.at _ _ _
           c.in-Some.ensures _ c.entries.ensures c.index-entries-at.is (h.so_far t vouches attributes has)
-          (c.in_ok-failed.ensures.stage t (vouches ∙ sym h.same) attributes has));
+          (c.in_ok-failed.ensures.stage t (vouches ∙ sym h.goes.same) attributes has));
       only = only g (goal.at.loop-at-preserved g c).After-signer_stage;
-      same = c.in_ok-failed.ensures.same ∙ h.same;
-      count = c.in_ok-failed.ensures.count ∙ h.count;
-      stays = c.in_ok-failed.ensures.stays ∙ h.stays;
+      goes = goes_further h.goes c.in_ok-failed.ensures.same c.in_ok-failed.ensures.count c.in_ok-failed.ensures.stays;
     }
 
 pub returns-clause-stage : goal.returns-clause-stage

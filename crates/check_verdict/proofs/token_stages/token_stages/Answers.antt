@@ -6,6 +6,7 @@ use Rattle.check_verdict.specs.Filters.{Best}
 use Rattle.check_verdict.specs.Stages.{passed_for_token}
 use Rattle.check_verdict.specs.TokenRules.{TokenClaim, LeftForToken}
 use Rattle.check_verdict.proofs.Tokens.{falls}
+use Rattle.check_verdict.proofs.Going.{goes_further}
 use Rattle.check_verdict.proofs.Found.{entry_among, best_of_found, best_of_rest}
 use Rattle.check_verdict.proofs.token_stages.token_stages.Goals as goal
 
@@ -20,13 +21,11 @@ loop-at-preserved g c =
           (best_of_found (LeftForToken t c.args.claim.now) 5 c.trust-trust.result.now Tsa
           (sid_value c.sid.result.now) c.args.claim.now.signer.sid sid (falls t c.args.claim.now)
           (λ x p. p) c.loop-at.from c.in-Some.at _ _ _ c.in-Some.ensures _ c.entries.ensures c.index-entries-at.is
-          (h.so_far t vouches) (c.in_ok-failed.ensures.stage t (vouches ∙ sym h.same)));
+          (h.so_far t vouches) (c.in_ok-failed.ensures.stage t (vouches ∙ sym h.goes.same)));
       only = λ test asks. g.V.Verifier.asked_further test _ _ _ (h.only test asks) (c.in_ok-failed.ensures.only test
           (asks _ (entry_among _ _ _ c.entries.ensures c.trust-trust.ensures c.in-Some.at _ c.index-entries-at.is
           c.in-Some.ensures.1)));
-      same = c.in_ok-failed.ensures.same ∙ h.same;
-      count = c.in_ok-failed.ensures.count ∙ h.count;
-      stays = c.in_ok-failed.ensures.stays ∙ h.stays;
+      goes = goes_further h.goes c.in_ok-failed.ensures.same c.in_ok-failed.ensures.count c.in_ok-failed.ensures.stays;
     }
 
 pub returns-clause-stage : goal.returns-clause-stage

@@ -30,7 +30,7 @@ use Rattle.cli_commands.specs.Fit.{ShowsUnfit}
 use Rattle.cli_commands.specs.Lists.{IsFailureOfAnswers, IsFailureOfTrust}
 use Rattle.cli_commands.specs.Rereading.{Sayings}
 use Rattle.cli_files.specs.Lines.{AreAll, AreTold, none, next, Begins, EndsFiles, IsAsked, IsCut, IsFailureOfList}
-use Rattle.cli_files.specs.Lines.{IsLine, IsLost}
+use Rattle.cli_files.specs.Lines.{IsLine, IsLost, TellsNotAll}
 use Rattle.cli_files.specs.Lines.{check_of, fit_of, questions_of}
 
 pub read_fails : (path : Bor (List ℕ)) (f : Failure) → IsFailureToRead path f → status_of f ≡ status.Failed
@@ -206,8 +206,7 @@ module _ {F : Type 0} (holds : F → Option (List ℕ)) (says : Sayings F) where
     list_ends fails (inl ends) (inr is) told begun = absurd (let no : ⊥ = cc in no)
     list_ends fails (inr ends) is told begun = inr (ends, inr (f, fails, begun))
 
-    pub reported_ends : (IsFailureOfList holds e f × (mid ≡ old))
-        ⊎ (IsLost f × IsCut holds says e paths (contents old) (contents mid))
+    pub reported_ends : TellsNotAll holds says contents e paths old mid f
         → (result ≡ status_of f) ⊎ (result ≡ status.Failed)
         → (result ≡ status.Malformed → Appends (contents mid) (contents after) (failure_text f))
         → Begins (contents mid) (contents after) (failure_text f)

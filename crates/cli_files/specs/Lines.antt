@@ -127,13 +127,25 @@ abbrev pub IsCut : {F : Type 0} → (holds : F → Option (List ℕ)) → (says 
 IsCut holds says e paths before after = (count : ℕ) × (text : List ℕ) × (worst : Status)
     × AreAll holds says e (take count paths) text worst × Begins before after text
 
+-- a writer took all that is printed of these files, if what it takes is known, and this is the worst status
+abbrev pub TellsAll : {F : Type 0} → (holds : F → Option (List ℕ)) → (says : Sayings F) → Each
+    → (paths : List (Bor (List ℕ))) → (before after : Option (List ℕ)) → Status → Type 0
+TellsAll holds says e paths before after worst = (text : List ℕ) × AreAll holds says e paths text worst
+    × Appends before after text
+
+-- not all of these files are told: a list failed, before whose line nothing was printed, or a line was not printed, and
+-- a writer took a beginning. `contents` is what a writer took, if that is known
+abbrev pub TellsNotAll : {F W : Type 0} → (holds : F → Option (List ℕ)) → (says : Sayings F)
+    → (contents : W → Option (List ℕ)) → Each → (paths : List (Bor (List ℕ))) → (before after : W) → Failure → Type 0
+TellsNotAll holds says contents e paths before after f = (IsFailureOfList holds e f × (after ≡ before))
+    ⊎ (IsLost f × IsCut holds says e paths (contents before) (contents after))
+
 -- a writer took all that is printed of these files, or the line of a list that fails, and the command ends so, if what
 -- the writer takes is known
 abbrev pub TellsFiles : {F : Type 0} → (holds : F → Option (List ℕ)) → (says : Sayings F) → Each
     → (paths : List (Bor (List ℕ)))
     → Status → (before after : Option (List ℕ)) → Type 0
-TellsFiles holds says e paths ends before after = ((text : List ℕ) × AreAll holds says e paths text ends
-    × Appends before after text)
+TellsFiles holds says e paths ends before after = TellsAll holds says e paths before after ends
     ⊎ ((f : Failure) × IsFailureOfList holds e f × (status_of f ≡ ends) × (ends ≡ status.Malformed)
     × Appends before after (failure_text f))
 

@@ -1,11 +1,11 @@
 //! `questions` of several files.
-ghost use Rattle.std.specs.Prelude.{◌≡◌, ◌⊎◌, ◌++◌, ℕ, List, IfErr, IfOk, OnOk};
+ghost use Rattle.std.specs.Prelude.{◌≡◌, ◌++◌, ℕ, List, IfErr, IfOk, OnOk};
 ghost use Rattle.std.specs.Io.KnownBytes.{Appends};
 ghost use Rattle.cli_failures.specs.declared.status.Status.{Status};
 ghost use Rattle.cli_tasks.specs.declared.task.Each.TheVariants as asked;
 ghost use Rattle.cli_commands.specs.Asking.{AsksNot, ShowsQuestions};
-ghost use Rattle.cli_commands.specs.Lists.{IsFailureOfTrust, IsTrustOf};
-ghost use Rattle.cli_files.specs.Lines.{AreAll, Begins, IsCut, IsHeaded, IsLost, first_line};
+ghost use Rattle.cli_commands.specs.Lists.{IsTrustOf};
+ghost use Rattle.cli_files.specs.Lines.{Begins, IsHeaded, IsLost, TellsAll, TellsNotAll, first_line};
 ghost use Rattle.cli_files.specs.Names.{heading_of};
 
 use crate::lines::put_failure;
@@ -34,23 +34,18 @@ const COMMENT: &[u8] = b"# ";
 /// Errors: those of the list; memory that is refused for a line; an output that fails. After them no other file is
 /// opened.
 #[inline(never)]
-pub fn ask_all<'a, R, O>(
+pub fn ask_all<'a, R: Files + AllocGlobal, O: Write>(
     rt: &R,
     each: &QuestionsEach<'a>,
     paths: &[&'a str],
     out: &mut O,
 ) -> Result<Status, Failure<'a>>
 where
-    R: Files + AllocGlobal,
     R::File: Describes,
-    O: Write,
-    ensures told { IfOk result (λ worst. (text : List ℕ)
-        × AreAll R.File.remaining R.File.says (asked.Questions each.now) paths.now text worst
-        × Appends (O.contents out.old) (O.contents out.new) text) }
-    // Before the line of a list nothing was printed.
-    ensures refused { IfErr result (λ f. (IsFailureOfTrust R.File.remaining each.now.trust f × (out.new ≡ out.old))
-        ⊎ (IsLost f × IsCut R.File.remaining R.File.says (asked.Questions each.now) paths.now (O.contents out.old)
-        (O.contents out.new))) }
+    ensures told { IfOk result (TellsAll R.File.remaining R.File.says (asked.Questions each.now) paths.now
+        (O.contents out.old) (O.contents out.new)) }
+    ensures refused { IfErr result (TellsNotAll R.File.remaining R.File.says O.contents (asked.Questions each.now)
+        paths.now out.old out.new) }
 {
     let trust = trust_in(rt, each.trust)?;
     put(out, FIRST_LINE)?;

@@ -1,9 +1,7 @@
 //! `check` of several files.
-ghost use Rattle.std.specs.Prelude.{◌≡◌, ◌⊎◌, ℕ, List, IfErr, IfOk};
-ghost use Rattle.std.specs.Io.KnownBytes.{Appends};
-ghost use Rattle.cli_commands.specs.Lists.{IsFailureOfAnswers, IsFailureOfTrust};
+ghost use Rattle.std.specs.Prelude.{IfErr, IfOk};
 ghost use Rattle.cli_tasks.specs.declared.task.Each.TheVariants as asked;
-ghost use Rattle.cli_files.specs.Lines.{AreAll, IsCut, IsLost};
+ghost use Rattle.cli_files.specs.Lines.{TellsAll, TellsNotAll};
 
 use crate::lines::put_said;
 use crate::worst::worse;
@@ -22,24 +20,18 @@ use std::rt::Files;
 /// Errors: those of a list; memory that is refused for a line; an output that fails. After them no other file is
 /// opened.
 #[inline(never)]
-pub fn check_all<'a, R, O>(
+pub fn check_all<'a, R: Files + AllocGlobal, O: Write>(
     rt: &R,
     each: &CheckEach<'a>,
     paths: &[&'a str],
     out: &mut O,
 ) -> Result<Status, Failure<'a>>
 where
-    R: Files + AllocGlobal,
     R::File: Describes,
-    O: Write,
-    ensures told { IfOk result (λ worst. (text : List ℕ)
-        × AreAll R.File.remaining R.File.says (asked.Check each.now) paths.now text worst
-        × Appends (O.contents out.old) (O.contents out.new) text) }
-    // Before the line of a list nothing was printed.
-    ensures refused { IfErr result (λ f. ((IsFailureOfTrust R.File.remaining each.now.trust f
-        ⊎ IsFailureOfAnswers R.File.remaining each.now.answers f) × (out.new ≡ out.old)) ⊎ (IsLost f
-        × IsCut R.File.remaining R.File.says (asked.Check each.now) paths.now (O.contents out.old)
-        (O.contents out.new))) }
+    ensures told { IfOk result (TellsAll R.File.remaining R.File.says (asked.Check each.now) paths.now
+        (O.contents out.old) (O.contents out.new)) }
+    ensures refused { IfErr result (TellsNotAll R.File.remaining R.File.says O.contents (asked.Check each.now)
+        paths.now out.old out.new) }
 {
     let trust = trust_in(rt, each.trust)?;
     let mut answers = answers_in(rt, each.answers)?;

@@ -1,8 +1,7 @@
 //! `fit` of several files.
-ghost use Rattle.std.specs.Prelude.{ℕ, List, IfErr, IfOk};
-ghost use Rattle.std.specs.Io.KnownBytes.{Appends};
+ghost use Rattle.std.specs.Prelude.{IfErr, IfOk};
 ghost use Rattle.cli_tasks.specs.declared.task.Each.TheVariants as asked;
-ghost use Rattle.cli_files.specs.Lines.{AreAll, IsCut, IsLost};
+ghost use Rattle.cli_files.specs.Lines.{TellsAll, TellsNotAll};
 
 use crate::lines::put_said;
 use crate::worst::worse;
@@ -15,21 +14,18 @@ use std::rt::Files;
 /// Prints a line for each of these files, and returns the worst status.
 ///
 /// Errors: memory that is refused for a line; an output that fails. After them no other file is opened.
-pub fn fit_all<'a, R, O>(
+pub fn fit_all<'a, R: Files + AllocGlobal, O: Write>(
     rt: &R,
     each: &FitEach<'a>,
     paths: &[&'a str],
     out: &mut O,
 ) -> Result<Status, Failure<'a>>
 where
-    R: Files + AllocGlobal,
     R::File: Describes,
-    O: Write,
-    ensures told { IfOk result (λ worst. (text : List ℕ)
-        × AreAll R.File.remaining R.File.says (asked.Fit each.now) paths.now text worst
-        × Appends (O.contents out.old) (O.contents out.new) text) }
-    ensures lost { IfErr result (λ f. IsLost f × IsCut R.File.remaining R.File.says (asked.Fit each.now) paths.now
+    ensures told { IfOk result (TellsAll R.File.remaining R.File.says (asked.Fit each.now) paths.now
         (O.contents out.old) (O.contents out.new)) }
+    ensures refused { IfErr result (TellsNotAll R.File.remaining R.File.says O.contents (asked.Fit each.now)
+        paths.now out.old out.new) }
 {
     let mut worst = Status::Done;
     for path in paths {

@@ -1,8 +1,7 @@
 //! What a command does that is asked of several files.
-ghost use Rattle.std.specs.Prelude.{◌≡◌, ◌≢◌, ◌⊎◌, ℕ, List, IfErr, IfOk, OnOk, codes, map};
-ghost use Rattle.std.specs.Io.KnownBytes.{Appends};
+ghost use Rattle.std.specs.Prelude.{◌≡◌, ◌≢◌, ◌⊎◌, IfErr, IfOk, OnOk, codes, map};
 ghost use Rattle.cli_failures.specs.Failures.{failure_text, said, status_of};
-ghost use Rattle.cli_files.specs.Lines.{AreAll, AreUnlisted, EndsFiles, EndsMany, IsCut, IsFailureOfList, IsLost};
+ghost use Rattle.cli_files.specs.Lines.{AreUnlisted, EndsFiles, EndsMany, TellsAll, TellsNotAll};
 ghost use Rattle.cli_files.specs.Paths.{ListsNone, end_of, names_of, path_of_name};
 
 use crate::asking::ask_all;
@@ -124,23 +123,18 @@ where
 /// Prints what is said of the files of these paths, and returns the worst status.
 ///
 /// Errors: a list fails, or a line can't be printed.
-fn all<'a, R, O>(
+fn all<'a, R: Files + AllocGlobal, O: Write>(
     rt: &R,
     each: &Each<'a>,
     paths: &[&'a str],
     out: &mut O,
 ) -> Result<Status, Failure<'a>>
 where
-    R: Files + AllocGlobal,
     R::File: Describes,
-    O: Write,
-    ensures told { IfOk result
-        (λ worst. (text : List ℕ) × AreAll R.File.remaining R.File.says each.now paths.now text worst
-        × Appends (O.contents out.old) (O.contents out.new) text) }
-    // Before the line of a list nothing was printed.
-    ensures refused { IfErr result (λ f. (IsFailureOfList R.File.remaining each.now f × (out.new ≡ out.old))
-        ⊎ (IsLost f × IsCut R.File.remaining R.File.says each.now paths.now (O.contents out.old)
-        (O.contents out.new))) }
+    ensures told { IfOk result (TellsAll R.File.remaining R.File.says each.now paths.now (O.contents out.old)
+        (O.contents out.new)) }
+    ensures refused { IfErr result (TellsNotAll R.File.remaining R.File.says O.contents each.now paths.now out.old
+        out.new) }
 {
     match each {
         Each::Check(words) => check_all(rt, words, paths, out),

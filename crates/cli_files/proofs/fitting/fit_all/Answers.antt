@@ -1,4 +1,4 @@
-use Rattle.std.proofs.Common.{◌+◌, ℕ, List, [], get_or, refl, arith}
+use Rattle.std.proofs.Common.{◌+◌, ℕ, List, [], get_or, refl, inr, arith}
 use Rattle.std.specs.Borrow.{Bor}
 use Rattle.std.proofs.lemmas.Result.{err_from_is_err_and}
 use Rattle.cli_files.specs.Lines.{IsLine, none, fit_of}
@@ -32,12 +32,12 @@ loop-path-preserved g c =
       worse = c.worse-worst.ensures;
     })
 
-pub returns-in_err-put_said-clause-lost : goal.returns-in_err-put_said-clause-lost
-returns-in_err-put_said-clause-lost g c =
+pub returns-in_err-put_said-clause-refused : goal.returns-in_err-put_said-clause-refused
+returns-in_err-put_said-clause-refused g c =
     let p = err_from_is_err_and c.from_residual.result c.from_residual.ensures.1 in
     let (lost, (text, ends, said, begun)) = c.in_err-put_said.ensures.lost in
     let path : Bor (List ℕ) = get_or c.args.paths.now c.loop-path.path-index (record { ref_ptr = (0, 0); now = [] }) in
-    rw (p.1, p.2) (
+    rw (p.1, p.2) (inr (
       lost,
       cut_next (IsLine g.R.File.Read.remaining g.R.File.Describes.says (fit_of c.args.each.now)) c.args.paths.now
           (record { ref_ptr = (0, 0); now = [] }) c.loop-path.path-index (g.O.Write.contents c.args.out.now)
@@ -50,4 +50,4 @@ returns-in_err-put_said-clause-lost g c =
                 c.text_of-said.ensures.done c.text_of-said.ensures.failed,
             refl,
           ) begun,
-    )
+    ))

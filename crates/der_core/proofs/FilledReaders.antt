@@ -1,17 +1,17 @@
 -- Parts that may be absent, and whose contents have at least one octet if they are present.
-use Rattle.std.proofs.Common.{◌≡◌, ℕ, ◌+◌, ◌<◌, ◌^◌, true, false, eqb, List, [], ◌∷◌, ◌++◌, length, Option, Some, None}
+use Rattle.std.proofs.Common.{◌≡◌, ℕ, ◌+◌, ◌<◌, ◌^◌, true, false, eqb, List, [], ◌++◌, length, Option, Some, None}
 use Rattle.std.proofs.Common.{Result, Ok, Err, refl, sym, ap, subst}
-use Rattle.std.proofs.Common.{◌∙◌, arith, inl, inr, ◌⊎◌}
+use Rattle.std.proofs.Common.{◌∙◌, arith, inl, inr}
 use Rattle.std.proofs.lemmas.Bool.{eqb-true, eqb-false, eq-eqb, ne_eqb}
 use Rattle.std.proofs.lemmas.List.{nil_from_length}
 use Rattle.der_core.specs.declared.fault.Fault.{Fault}
-use Rattle.der_core.specs.declared.fault.Kind.TheVariants.{Empty, Tag, HighTag}
+use Rattle.der_core.specs.declared.fault.Kind.TheVariants.{Empty}
 use Rattle.der_core.specs.Element.{is_tag, len, el, IsElement, IsBytes, has_tag}
 use Rattle.der_core.specs.Form.{Form, Optional, full, filled, body_of}
 use Rattle.der_core.specs.Encoding.{Encodes, next, absent, has}
-use Rattle.der_core.specs.Faults.{Place, place, StandsNot, stays, drops, FaultFrom}
+use Rattle.der_core.specs.Faults.{Place, place, stays, drops, FaultFrom}
 use Rattle.der_core.specs.Grammar.{opt}
-use Rattle.der_core.specs.Reading.{fault, Spot, spot, enter_at, none_in, none_at, within, filled_in, maybe_filled}
+use Rattle.der_core.specs.Reading.{fault, Spot, spot, enter_at, none_at, within, filled_in, maybe_filled}
 use Rattle.der_core.specs.Reading.{last_filled}
 use Rattle.der_core.specs.Results.{◌>>=◌}
 use Rattle.der_core.specs.Standing.{Enters}
@@ -20,28 +20,8 @@ use Rattle.der_core.proofs.Headers.{fails, err_is, fact_is}
 use Rattle.der_core.proofs.Results.{bind_ok, bind_err}
 use Rattle.der_core.proofs.Readers.{Body, Follows, IsReader, IsBody, Anything, Nothing, took, enter_ok, enter_again}
 use Rattle.der_core.proofs.Readers.{enter_fault_here, fault_inside}
-use Rattle.der_core.proofs.Readers.{fault_behind, swapped, last_refuses}
-
-none_stands : (tag : ℕ) (form after : Form) (xs : List ℕ) → has_tag tag xs ≡ false → StandsNot (opt tag form after) xs
-none_stands tag form after [] h = tt
-none_stands tag form after (t ∷ xs) h = rw (swapped tag t h) refl
-
-none_fault : (tag : ℕ) (form : Form) (s : Spot) (xs : List ℕ) (f : Fault) → s.rest ≡ xs → has_tag tag xs ≡ false
-    → none_in s xs ≡ Err f
-    → FaultFrom (place s.pos s.rest (opt tag form full) []) f
-none_fault tag form s [] f is h e = absurd cc
-none_fault tag form s (t ∷ xs) f is h e =
-    let p : Place = place s.pos s.rest (opt tag form full) [] in
-    let other : Result (Unit {0}) Fault = Err (fault Tag s.pos) in
-    let high : Result (Unit {0}) Fault = Err (fault HighTag s.pos) in
-    elim (chosen (is_tag t) other high (fails f) e) [
-      | inl g ↦ (
-        p,
-        stays,
-        fact_is p (fault Tag s.pos) f (err_is _ _ g.1) (t, xs, ((tt, is), g.0), last_refuses tag t form h, refl),
-      )
-      | inr g ↦ (p, stays, fact_is p (fault HighTag s.pos) f (err_is _ _ g.1) (t, xs, (tt, is), g.0, refl))
-    ]
+use Rattle.der_core.proofs.Readers.{fault_behind, last_gives, last_lacks}
+use Rattle.der_core.proofs.Readers.{maybe_gives, none_stands, none_fault}
 
 module _ {A : Type 0} (tag : ℕ) (id : is_tag tag ≡ true) (read : Body A) (enc : A → List ℕ) (Good : A → Type 0)
     (form : Form)
@@ -82,27 +62,10 @@ module _ {A : Type 0} (tag : ℕ) (id : is_tag tag ≡ true) (read : Body A) (en
       (ok_is (b.0, a.0.1) y b.2) (k, t.0, t.1) in
       (a.0.0, r.0, r.1, r.2, f.1)
 
-  maybe_is : (s : Spot) (y : Option A × Spot) → maybe_filled tag read s ≡ Ok y
-      → ((x : A) × (within tag (filled_in s.pos read) s ≡ Ok (x, y.1)) × (y.0 ≡ Some x))
-      ⊎ ((has_tag tag s.rest ≡ false) × (y ≡ (None, s)))
-  maybe_is s y e =
-      let some : Part = within tag (filled_in s.pos read) s >>= λ x. Ok (Some x.0, x.1) in
-      elim (chosen (has_tag tag s.rest) some (Ok (None, s)) (Ok y) e) [
-        | inl h ↦
-            let b = bind_ok (within tag (filled_in s.pos read) s) (λ x. Ok (Some x.0, x.1)) y h.1 in
-            let is : (Some b.0.0, b.0.1) ≡ y = ok_is (Some b.0.0, b.0.1) y b.2 in
-            inl (
-              b.0.0,
-              subst (λ (z : Option A × Spot). within tag (filled_in s.pos read) s ≡ Ok (b.0.0, z.1)) is b.1,
-              sym (ap (λ (z : Option A × Spot). z.0) is),
-            )
-        | inr h ↦ inr (h.0, sym (ok_is (None, s) y h.1))
-      ]
-
   filled_takes : (s : Spot) (y : Option A × Spot) → IsBytes s.rest → maybe_filled tag read s ≡ Ok y
       → GoodFilled y.0 × Follows s (enc_filled y.0) y.1
   filled_takes s y fits e =
-      elim (maybe_is s y e) [
+      elim (maybe_gives tag (filled_in s.pos read) s y e) [
         | inl h ↦
             let w = filled_within s.pos s (h.0, y.1) fits h.1 in
             let some : enc h.0 ≡ [] → ⊥ = λ nil. w.4 (w.3 ∙ nil) in
@@ -177,7 +140,7 @@ module _ {A : Type 0} (tag : ℕ) (id : is_tag tag ≡ true) (read : Body A) (en
       → (after : Form) (f : Fault)
       → FaultFrom (place y.1.pos y.1.rest after []) f → FaultFrom (place s.pos s.rest (due after) []) f
   filled_goes s y fits e after f q =
-      elim (maybe_is s y e) [
+      elim (maybe_gives tag (filled_in s.pos read) s y e) [
         | inl h ↦
             let k = filled_within s.pos s (h.0, y.1) fits h.1 in
             fault_behind Optional tag s k.0 y.1 (filled form) after [] f k.1 q
@@ -206,16 +169,6 @@ module _ {A : Type 0} (tag : ℕ) (id : is_tag tag ≡ true) (read : Body A) (en
 
   -- ---- the last part of a body
 
-  last_is : (s : Spot) (y : Option A × Spot) → last_filled tag read s ≡ Ok y → maybe_filled tag read s ≡ Ok y
-  unfolding none_at
-  last_is s y e =
-      let some : Part = within tag (filled_in s.pos read) s >>= λ x. Ok (Some x.0, x.1) in
-      let none : Part = none_in s s.rest >>= λ u. Ok (None, s) in
-      elim (chosen (has_tag tag s.rest) some none (Ok y) e) [
-        | inl h ↦ rw h.0 h.1
-        | inr h ↦ let b = bind_ok (none_in s s.rest) (λ u. Ok (None, s)) y h.1 in rw h.0 b.2
-      ]
-
   last_again : (x : Option A) (n : ℕ) (r : List ℕ) → GoodFilled x → r ≡ []
       → last_filled tag read (spot n (enc_filled x ++ r)) ≡ Ok (x, spot (n + length (enc_filled x)) r)
   unfolding none_at
@@ -224,27 +177,20 @@ module _ {A : Type 0} (tag : ℕ) (id : is_tag tag ≡ true) (read : Body A) (en
 
   last_fault : (s : Spot) (f : Fault) → IsBytes s.rest → last_filled tag read s ≡ Err f
       → FaultFrom (place s.pos s.rest (due full) []) f
-  unfolding none_at
-  last_fault s f fits e =
-      let some : Part = within tag (filled_in s.pos read) s >>= λ x. Ok (Some x.0, x.1) in
-      let none : Part = none_in s s.rest >>= λ u. Ok (None, s) in
-      elim (chosen (has_tag tag s.rest) some none (fails f) e) [
-        | inl h ↦ let m : maybe_filled tag read s ≡ Err f = rw h.0 h.1 in maybe_fault s f fits m full
-        | inr h ↦ elim (bind_err (none_in s s.rest) (λ u. Ok (None, s)) f h.1) [
-          | inl b ↦ none_fault tag (filled form) s s.rest f refl h.0 b
-          | inr b ↦ absurd (let z = b.2 in cc)
-        ]
-      ]
+  last_fault s f fits e = elim (last_lacks tag (filled_in s.pos read) s f e) [
+    | inl m ↦ maybe_fault s f fits m full
+    | inr h ↦ none_fault tag (filled form) s s.rest f refl h.0 h.1
+  ]
 
   -- such an element, if one is present; if none is, the body must end
   pub last_filled_reader :
       IsReader (last_filled tag read) enc_filled GoodFilled (λ after. opt tag (filled form) after) (λ r. r ≡ []) Nothing
   last_filled_reader = record {
     plain = λ after. refl;
-    takes = λ s y fits e. filled_takes s y fits (last_is s y e);
+    takes = λ s y fits e. filled_takes s y fits (last_gives tag (filled_in s.pos read) s y e);
     again = last_again;
     faults = λ s f fits e after b. subst (λ (g : Form). FaultFrom (place s.pos s.rest (opt tag (filled form) g) []) f)
         (sym b) (last_fault s f fits e);
-    goes = λ s y fits e after f h. filled_goes s y fits (last_is s y e) after f h;
+    goes = λ s y fits e after f h. filled_goes s y fits (last_gives tag (filled_in s.pos read) s y e) after f h;
     encodes = filled_encodes;
   }

@@ -252,6 +252,74 @@ fault_behind count tag s c s' form after ps f k h =
     subst (λ (xs : List ℕ). FaultFrom (place s.pos xs (single count tag form after) ps) f) (sym k.parts)
     (q.0, passes tag c.rest s'.rest k.element (took tag form after) q.1, q.2)
 
+-- ---- an element that may be absent
+
+-- the cases of it
+pub maybe_gives : {A : Type 0} (tag : ℕ) (read : Body A) (s : Spot) (y : Option A × Spot) → maybe tag read s ≡ Ok y
+    → ((x : A) × (within tag read s ≡ Ok (x, y.1)) × (y.0 ≡ Some x)) ⊎ ((has_tag tag s.rest ≡ false) × (y ≡ (None, s)))
+maybe_gives {A} tag read s y e =
+    let some : Result (Option A × Spot) Fault = within tag read s >>= λ x. Ok (Some x.0, x.1) in
+    elim (chosen (has_tag tag s.rest) some (Ok (None, s)) (Ok y) e) [
+      | inl h ↦
+          let b = bind_ok (within tag read s) (λ x. Ok (Some x.0, x.1)) y h.1 in
+          let is : (Some b.0.0, b.0.1) ≡ y = ok_is (Some b.0.0, b.0.1) y b.2 in
+          inl (
+            b.0.0,
+            subst (λ (z : Option A × Spot). within tag read s ≡ Ok (b.0.0, z.1)) is b.1,
+            sym (ap (λ (z : Option A × Spot). z.0) is),
+          )
+      | inr h ↦ inr (h.0, sym (ok_is (None, s) y h.1))
+    ]
+
+pub none_stands : (tag : ℕ) (form after : Form) (xs : List ℕ) → has_tag tag xs ≡ false
+    → StandsNot (opt tag form after) xs
+none_stands tag form after [] h = tt
+none_stands tag form after (t ∷ xs) h = rw (swapped tag t h) refl
+
+pub none_fault : (tag : ℕ) (form : Form) (s : Spot) (xs : List ℕ) (f : Fault) → s.rest ≡ xs → has_tag tag xs ≡ false
+    → none_in s xs ≡ Err f
+    → FaultFrom (place s.pos s.rest (opt tag form full) []) f
+none_fault tag form s [] f is h e = absurd cc
+none_fault tag form s (t ∷ xs) f is h e =
+    let p : Place = place s.pos s.rest (opt tag form full) [] in
+    let other : Result (Unit {0}) Fault = Err (fault Tag s.pos) in
+    let high : Result (Unit {0}) Fault = Err (fault HighTag s.pos) in
+    elim (chosen (is_tag t) other high (fails f) e) [
+      | inl g ↦ (
+        p,
+        stays,
+        fact_is p (fault Tag s.pos) f (err_is _ _ g.1) (t, xs, ((tt, is), g.0), last_refuses tag t form h, refl),
+      )
+      | inr g ↦ (p, stays, fact_is p (fault HighTag s.pos) f (err_is _ _ g.1) (t, xs, (tt, is), g.0, refl))
+    ]
+
+-- as the last part of a body it is read if the element is present, or the body ends
+pub last_gives : {A : Type 0} (tag : ℕ) (read : Body A) (s : Spot) (y : Option A × Spot) → last tag read s ≡ Ok y
+    → maybe tag read s ≡ Ok y
+unfolding none_at
+last_gives {A} tag read s y e =
+    let some : Result (Option A × Spot) Fault = within tag read s >>= λ x. Ok (Some x.0, x.1) in
+    let none : Result (Option A × Spot) Fault = none_in s s.rest >>= λ u. Ok (None, s) in
+    elim (chosen (has_tag tag s.rest) some none (Ok y) e) [
+      | inl h ↦ rw h.0 h.1
+      | inr h ↦ let b = bind_ok (none_in s s.rest) (λ u. Ok (None, s)) y h.1 in rw h.0 b.2
+    ]
+
+-- a fault is one of the element, or of what is there in its place
+pub last_lacks : {A : Type 0} (tag : ℕ) (read : Body A) (s : Spot) (f : Fault) → last tag read s ≡ Err f
+    → (maybe tag read s ≡ Err f) ⊎ ((has_tag tag s.rest ≡ false) × (none_in s s.rest ≡ Err f))
+unfolding none_at
+last_lacks {A} tag read s f e =
+    let some : Result (Option A × Spot) Fault = within tag read s >>= λ x. Ok (Some x.0, x.1) in
+    let none : Result (Option A × Spot) Fault = none_in s s.rest >>= λ u. Ok (None, s) in
+    elim (chosen (has_tag tag s.rest) some none (fails f) e) [
+      | inl h ↦ inl (rw h.0 h.1)
+      | inr h ↦ elim (bind_err (none_in s s.rest) (λ u. Ok (None, s)) f h.1) [
+        | inl b ↦ inr (h.0, b)
+        | inr b ↦ absurd (let z = b.2 in cc)
+      ]
+    ]
+
 -- ---- readings made of readings
 
 module _ {A : Type 0} (tag : ℕ) (id : is_tag tag ≡ true) (read : Body A) (enc : A → List ℕ) (Good : A → Type 0)
@@ -325,32 +393,10 @@ module _ {A : Type 0} (tag : ℕ) (id : is_tag tag ≡ true) (read : Body A) (en
   abbrev Part : Type 0
   Part = Result (Option A × Spot) Fault
 
-  -- the cases of an optional element
-  maybe_ok : (s : Spot) (y : Option A × Spot) → maybe tag read s ≡ Ok y
-      → ((x : A) × (within tag read s ≡ Ok (x, y.1)) × (y.0 ≡ Some x))
-      ⊎ ((has_tag tag s.rest ≡ false) × (y ≡ (None, s)))
-  maybe_ok s y e =
-      let some : Part = within tag read s >>= λ x. Ok (Some x.0, x.1) in
-      elim (chosen (has_tag tag s.rest) some (Ok (None, s)) (Ok y) e) [
-        | inl h ↦
-            let b = bind_ok (within tag read s) (λ x. Ok (Some x.0, x.1)) y h.1 in
-            let is : (Some b.0.0, b.0.1) ≡ y = ok_is (Some b.0.0, b.0.1) y b.2 in
-            inl (
-              b.0.0,
-              subst (λ (z : Option A × Spot). within tag read s ≡ Ok (b.0.0, z.1)) is b.1,
-              sym (ap (λ (z : Option A × Spot). z.0) is),
-            )
-        | inr h ↦ inr (h.0, sym (ok_is (None, s) y h.1))
-      ]
-
-  none_stands : (xs : List ℕ) (after : Form) → has_tag tag xs ≡ false → StandsNot (opt tag form after) xs
-  none_stands [] after h = tt
-  none_stands (t ∷ xs) after h = rw (swapped tag t h) refl
-
   maybe_takes : (s : Spot) (y : Option A × Spot) → IsBytes s.rest → maybe tag read s ≡ Ok y
       → GoodOption y.0 × Follows s (enc_option y.0) y.1
   maybe_takes s y fits e =
-      elim (maybe_ok s y e) [
+      elim (maybe_gives tag read s y e) [
         | inl h ↦
             let t = within_takes s (h.0, y.1) fits h.1 in
             subst (λ (o : Option A). GoodOption o × Follows s (enc_option o) y.1) (sym h.2) t
@@ -386,11 +432,11 @@ module _ {A : Type 0} (tag : ℕ) (id : is_tag tag ≡ true) (read : Body A) (en
   maybe_goes : (s : Spot) (y : Option A × Spot) → IsBytes s.rest → maybe tag read s ≡ Ok y → (after : Form) (f : Fault)
       → FaultFrom (place y.1.pos y.1.rest after []) f → FaultFrom (place s.pos s.rest (opt tag form after) []) f
   maybe_goes s y fits e after f q =
-      elim (maybe_ok s y e) [
+      elim (maybe_gives tag read s y e) [
         | inl h ↦ let k = within_ok s (h.0, y.1) fits h.1 in fault_behind Optional tag s k.0 y.1 form after [] f k.1 q
         | inr h ↦
             let p = subst (λ (z : Option A × Spot). FaultFrom (place z.1.pos z.1.rest after []) f) h.1 q in
-            (p.0, drops refl (none_stands s.rest after h.0) p.1, p.2)
+            (p.0, drops refl (none_stands tag form after s.rest h.0) p.1, p.2)
       ]
 
   maybe_encodes : (x : Option A) (r : List ℕ) (after : Form) → GoodOption x → Encodes [] after r
@@ -413,41 +459,6 @@ module _ {A : Type 0} (tag : ℕ) (id : is_tag tag ≡ true) (read : Body A) (en
 
   -- ---- the last part of a body
 
-  none_ok : (s : Spot) (xs : List ℕ) (u : Unit {0}) → none_in s xs ≡ Ok u → xs ≡ []
-  none_ok s [] u e = refl
-  none_ok s (t ∷ xs) u e =
-      let other : Result (Unit {0}) Fault = Err (fault Tag s.pos) in
-      let high : Result (Unit {0}) Fault = Err (fault HighTag s.pos) in
-      elim (chosen (is_tag t) other high
-      (Ok u) e) [ inl h ↦ absurd (let z = h.1 in cc) | inr h ↦ absurd (let z = h.1 in cc) ]
-
-  none_fault : (s : Spot) (xs : List ℕ) (f : Fault) → s.rest ≡ xs → has_tag tag xs ≡ false → none_in s xs ≡ Err f
-      → FaultFrom (place s.pos s.rest (opt tag form full) []) f
-  none_fault s [] f is h e = absurd cc
-  none_fault s (t ∷ xs) f is h e =
-      let p : Place = place s.pos s.rest (opt tag form full) [] in
-      let other : Result (Unit {0}) Fault = Err (fault Tag s.pos) in
-      let high : Result (Unit {0}) Fault = Err (fault HighTag s.pos) in
-      elim (chosen (is_tag t) other high (fails f) e) [
-        | inl g ↦ (
-          p,
-          stays,
-          fact_is p (fault Tag s.pos) f (err_is _ _ g.1) (t, xs, ((tt, is), g.0), last_refuses tag t form h, refl),
-        )
-        | inr g ↦ (p, stays, fact_is p (fault HighTag s.pos) f (err_is _ _ g.1) (t, xs, (tt, is), g.0, refl))
-      ]
-
-  -- it is read if the element is present, or the body ends
-  last_ok : (s : Spot) (y : Option A × Spot) → last tag read s ≡ Ok y → maybe tag read s ≡ Ok y
-  unfolding none_at
-  last_ok s y e =
-      let some : Part = within tag read s >>= λ x. Ok (Some x.0, x.1) in
-      let none : Part = none_in s s.rest >>= λ u. Ok (None, s) in
-      elim (chosen (has_tag tag s.rest) some none (Ok y) e) [
-        | inl h ↦ rw h.0 h.1
-        | inr h ↦ let b = bind_ok (none_in s s.rest) (λ u. Ok (None, s)) y h.1 in rw h.0 b.2
-      ]
-
   last_again : (x : Option A) (n : ℕ) (r : List ℕ) → GoodOption x → r ≡ []
       → last tag read (spot n (enc_option x ++ r)) ≡ Ok (x, spot (n + length (enc_option x)) r)
   unfolding none_at
@@ -456,27 +467,20 @@ module _ {A : Type 0} (tag : ℕ) (id : is_tag tag ≡ true) (read : Body A) (en
 
   last_fault : (s : Spot) (f : Fault) → IsBytes s.rest → last tag read s ≡ Err f
       → FaultFrom (place s.pos s.rest (opt tag form full) []) f
-  unfolding none_at
-  last_fault s f fits e =
-      let some : Part = within tag read s >>= λ x. Ok (Some x.0, x.1) in
-      let none : Part = none_in s s.rest >>= λ u. Ok (None, s) in
-      elim (chosen (has_tag tag s.rest) some none (fails f) e) [
-        | inl h ↦ let m : maybe tag read s ≡ Err f = rw h.0 h.1 in maybe_fault s f fits m full
-        | inr h ↦ elim (bind_err (none_in s s.rest) (λ u. Ok (None, s)) f h.1) [
-          | inl b ↦ none_fault s s.rest f refl h.0 b
-          | inr b ↦ absurd (let z = b.2 in cc)
-        ]
-      ]
+  last_fault s f fits e = elim (last_lacks tag read s f e) [
+    | inl m ↦ maybe_fault s f fits m full
+    | inr h ↦ none_fault tag form s s.rest f refl h.0 h.1
+  ]
 
   -- such an element, if one is present; if none is, the body must end
   pub last_reader : IsReader (last tag read) enc_option GoodOption (opt tag form) (λ r. r ≡ []) Nothing
   last_reader = record {
     plain = λ after. refl;
-    takes = λ s y fits e. maybe_takes s y fits (last_ok s y e);
+    takes = λ s y fits e. maybe_takes s y fits (last_gives tag read s y e);
     again = last_again;
     faults = λ s f fits e after b.
         subst (λ (g : Form). FaultFrom (place s.pos s.rest (opt tag form g) []) f) (sym b) (last_fault s f fits e);
-    goes = λ s y fits e after f h. maybe_goes s y fits (last_ok s y e) after f h;
+    goes = λ s y fits e after f h. maybe_goes s y fits (last_gives tag read s y e) after f h;
     encodes = maybe_encodes;
   }
 

@@ -1,15 +1,18 @@
 -- The worked rows of signing certificates, by computing.
 use Rattle.std.proofs.Common.{[], ◌∷◌, drop, refl, lit<}
+use Rattle.std.specs.List.{AllByRecursion}
+use Rattle.std.specs.Prelude.{IfSome}
 use Rattle.der_core.specs.declared.fault.Kind.TheVariants as kind
 use Rattle.der_core.specs.Element.{len}
 use Rattle.der_core.specs.Reading.{fault}
 use Rattle.der_core.specs.Grammar.{file}
 use Rattle.der_grammar.specs.Table.{signing_certificate, signing_certificate_v2}
-use Rattle.der_core.specs.Values.{GoodAlgorithm}
+use Rattle.der_core.specs.Values.{GoodAlgorithm, HasLength, IsInteger, IsOpaque}
 use Rattle.der_core.proofs.Found.{not_encoded}
 use Rattle.digests.specs.Spelled.{with_null, alone, sha1, sha256, sha384, sha512_256}
 use Rattle.ess_types.specs.SigningRows.{root, anchor, under_root, SigningRows}
-use Rattle.ess_types.specs.SigningCertificateValue.{GoodIssuerSerial}
+use Rattle.ess_types.specs.SigningCertificateValue.{IssuerSerialValue, GoodIssuerSerial, CertIdValue, GoodCertId}
+use Rattle.ess_types.specs.SigningCertificateValue.{names_parts, issuer_serial_parts, cert_id_parts}
 use Rattle.ess_types.proofs.SigningCertificateReaders.{signing_encodes, plain_encodes}
 use Rattle.ess_types.proofs.Spelled.{spelled}
 
@@ -37,14 +40,19 @@ good_sha512_256 : GoodAlgorithm (alone sha512_256)
 unfolding len
 good_sha512_256 = record { oid = (refl, lit< tt); parameters = tt; size = lit< tt }
 
+serial : (i : IssuerSerialValue) → AllByRecursion IsOpaque i.names → HasLength (names_parts i.names)
+    → IsInteger i.serial → HasLength (issuer_serial_parts i) → GoodIssuerSerial i
+serial i names list number size = record { names = names; list = list; serial = number; size = size }
+
+named : (i : CertIdValue) → IfSome i.algorithm GoodAlgorithm → HasLength i.hash
+    → IfSome i.issuer_serial GoodIssuerSerial → HasLength (cert_id_parts i) → GoodCertId i
+named i algorithm hash issuer size =
+    record { algorithm = algorithm; hash = hash; issuer_serial = issuer; size = size }
+
 good_root : GoodIssuerSerial under_root
 unfolding len
-good_root = record {
-  names = ((164, drop 2 root, record { identifier = refl; size = lit< tt }, refl), tt);
-  list = lit< tt;
-  serial = (refl, lit< tt);
-  size = lit< tt;
-}
+good_root = serial _ ((164, drop 2 root, record { identifier = refl; size = lit< tt }, refl), tt)
+    (lit< tt) (refl, lit< tt) (lit< tt)
 
 pub signing_rows : SigningRows
 unfolding len
@@ -73,28 +81,14 @@ signing_rows = record {
       (lit< tt) tt (lit< tt);
   by_default = spelled _ _ refl (record { algorithm = tt; hash = lit< tt; issuer_serial = tt; size = lit< tt }, tt)
       (lit< tt) tt (lit< tt);
-  of_signer = (
-    refl,
-    record {
-      ids = (
-        record {
-          algorithm = tt;
-          hash = lit< tt;
-          issuer_serial = record {
-            names = ((164, drop 2 anchor, record { identifier = refl; size = lit< tt }, refl), tt);
-            list = lit< tt;
-            serial = (refl, lit< tt);
-            size = lit< tt;
-          };
-          size = lit< tt;
-        },
-        tt,
-      );
-      list = lit< tt;
-      policies = tt;
-      size = lit< tt;
-    },
-  );
+  of_signer = spelled _ _ refl (
+    named _ tt (lit< tt)
+        (serial _ ((164, drop 2 anchor, record { identifier = refl; size = lit< tt }, refl), tt)
+        (lit< tt) (refl, lit< tt) (lit< tt))
+        (lit< tt),
+    tt,
+  )
+      (lit< tt) tt (lit< tt);
   by_sha1 = spelled _ _ refl (record { algorithm = good_sha1; hash = lit< tt; issuer_serial = tt; size = lit< tt }, tt)
       (lit< tt) tt (lit< tt);
   by_spelled_default = spelled _ _ refl
@@ -114,31 +108,16 @@ signing_rows = record {
     (refl, tt),
   );
   two_names = (
-    (
-      refl,
-      record {
-        ids = (
-          record {
-            algorithm = tt;
-            hash = lit< tt;
-            issuer_serial = record {
-              names = (
-                (130, 97 ∷ [], record { identifier = refl; size = lit< tt }, refl),
-                ((130, 98 ∷ [], record { identifier = refl; size = lit< tt }, refl), tt),
-              );
-              list = lit< tt;
-              serial = (refl, lit< tt);
-              size = lit< tt;
-            };
-            size = lit< tt;
-          },
-          tt,
-        );
-        list = lit< tt;
-        policies = tt;
-        size = lit< tt;
-      },
-    ),
+    spelled _ _ refl (
+      named _ tt (lit< tt) (serial _ (
+        (130, 97 ∷ [], record { identifier = refl; size = lit< tt }, refl),
+        ((130, 98 ∷ [], record { identifier = refl; size = lit< tt }, refl), tt),
+      )
+          (lit< tt) (refl, lit< tt) (lit< tt))
+          (lit< tt),
+      tt,
+    )
+        (lit< tt) tt (lit< tt),
     (refl, tt),
   );
   no_name = (

@@ -6,6 +6,7 @@ use Rattle.der_core.specs.Element.{len}
 use Rattle.der_core.specs.Reading.{fault}
 use Rattle.der_core.specs.Grammar.{file}
 use Rattle.der_grammar.specs.Table.{tst_info, response}
+use Rattle.der_core.specs.Contents.{is_bits}
 use Rattle.der_core.specs.Times.{is_generalized}
 use Rattle.der_core.specs.Values.{GoodAlgorithm, algorithm_parts, HasLength, IsOid, IsInteger, IsOpaque}
 use Rattle.der_core.proofs.Found.{not_encoded}
@@ -14,6 +15,9 @@ use Rattle.cert_types.specs.ExtensionValue.{GoodExtensions, extensions_parts}
 use Rattle.tsp_types.specs.ImprintValue.{GoodImprint}
 use Rattle.tsp_types.specs.TstValue.{TstValue, GoodAccuracy, tst_parts, encoding, EncodesTst}
 use Rattle.tsp_types.specs.TstRows.{abc_by_sha256, name_of_authority, TstRows}
+use Rattle.tsp_types.specs.ResponseValue.{ResponseValue, GoodTexts, IsToken, status_parts, response_parts}
+use Rattle.tsp_types.specs.ResponseValue.{EncodesResponse}
+use Rattle.tsp_types.specs.ResponseValue.{encoding as response_encoding}
 use Rattle.tsp_types.specs.ResponseRows.{ResponseRows, FailRows}
 use Rattle.tsp_types.proofs.TstReaders.{tst_encodes}
 use Rattle.tsp_types.proofs.ResponseReaders.{response_encodes}
@@ -88,72 +92,33 @@ tst_rows = record {
   longer = λ v h. not_encoded (file tst_info) _ (fault kind.Trailing 81) refl refl (tst_encodes _ v h);
 }
 
+good_response : (bytes : List ℕ) (v : ResponseValue) → bytes ≡ response_encoding v → IsInteger v.status.number
+    → IfSome v.status.texts GoodTexts → IfSome v.status.fail (λ b. (is_bits b ≡ true) × HasLength b)
+    → HasLength (status_parts v.status) → IfSome v.token IsToken → HasLength (response_parts v)
+    → EncodesResponse bytes v
+good_response bytes v is number texts fail length token size = (
+  is,
+  record {
+    status = record { number = number; texts = texts; fail = fail; size = length };
+    token = token;
+    size = size;
+  },
+)
+
 pub response_rows : ResponseRows
 unfolding len
 response_rows = record {
-  least = (
-    refl,
-    record {
-      status = record { number = (refl, lit< tt); texts = tt; fail = tt; size = lit< tt };
-      token = tt;
-      size = lit< tt;
-    },
-  );
-  rejected = (
-    refl,
-    record {
-      status = record { number = (refl, lit< tt); texts = tt; fail = (refl, lit< tt); size = lit< tt };
-      token = tt;
-      size = lit< tt;
-    },
-  );
-  bad_algorithm = (
-    refl,
-    record {
-      status =
-          record { number = (refl, lit< tt); texts = ((lit< tt, tt), lit< tt); fail = (refl, lit< tt); size = lit< tt };
-      token = tt;
-      size = lit< tt;
-    },
-  );
-  unaccepted_policy = (
-    refl,
-    record {
-      status =
-          record { number = (refl, lit< tt); texts = ((lit< tt, tt), lit< tt); fail = (refl, lit< tt); size = lit< tt };
-      token = tt;
-      size = lit< tt;
-    },
-  );
-  granted = (
-    refl,
-    record {
-      status = record { number = (refl, lit< tt); texts = tt; fail = tt; size = lit< tt };
-      token = (5 ∷ 0 ∷ [], record { identifier = refl; size = lit< tt }, refl);
-      size = lit< tt;
-    },
-  );
-  every_part = (
-    refl,
-    record {
-      status = record {
-        number = (refl, lit< tt);
-        texts = ((lit< tt, (lit< tt, tt)), lit< tt);
-        fail = (refl, lit< tt);
-        size = lit< tt;
-      };
-      token = ([], record { identifier = refl; size = lit< tt }, refl);
-      size = lit< tt;
-    },
-  );
-  no_text = (
-    refl,
-    record {
-      status = record { number = (refl, lit< tt); texts = (tt, lit< tt); fail = tt; size = lit< tt };
-      token = tt;
-      size = lit< tt;
-    },
-  );
+  least = good_response _ _ refl (refl, lit< tt) tt tt (lit< tt) tt (lit< tt);
+  rejected = good_response _ _ refl (refl, lit< tt) tt (refl, lit< tt) (lit< tt) tt (lit< tt);
+  bad_algorithm = good_response _ _ refl (refl, lit< tt) ((lit< tt, tt), lit< tt) (refl, lit< tt) (lit< tt)
+      tt (lit< tt);
+  unaccepted_policy = good_response _ _ refl (refl, lit< tt) ((lit< tt, tt), lit< tt) (refl, lit< tt) (lit< tt)
+      tt (lit< tt);
+  granted = good_response _ _ refl (refl, lit< tt) tt tt (lit< tt)
+      (5 ∷ 0 ∷ [], record { identifier = refl; size = lit< tt }, refl) (lit< tt);
+  every_part = good_response _ _ refl (refl, lit< tt) ((lit< tt, (lit< tt, tt)), lit< tt) (refl, lit< tt) (lit< tt)
+      ([], record { identifier = refl; size = lit< tt }, refl) (lit< tt);
+  no_text = good_response _ _ refl (refl, lit< tt) (tt, lit< tt) tt (lit< tt) tt (lit< tt);
   no_status = λ v h. not_encoded (file response) _ (fault kind.Integer 6) refl refl (response_encodes _ v h);
   other_text = λ v h. not_encoded (file response) _ (fault kind.Tag 9) refl refl (response_encodes _ v h);
   early_bits = λ v h. not_encoded (file response) _ (fault kind.Trailing 11) refl refl (response_encodes _ v h);

@@ -1,35 +1,22 @@
-use Rattle.std.proofs.Common.{◌≡◌, length, eqb, true, false}
-use Rattle.der_core.specs.Reading.{within}
 use Rattle.der_core.proofs.ReadLengths.{ok_is}
-use Rattle.der_lists.specs.Shorter.{within_shorter}
-use Rattle.der_lists.proofs.Items.{no_items}
-use Rattle.cms_types.specs.SignerReading.{signer_in}
-use Rattle.cms_types.proofs.Entering.{entered, not_entered}
+use Rattle.cms_types.proofs.SignersAgain.{none_left, not_again, again}
 use Rattle.cms_types.proofs.signer_again.first_digest_algorithm.Goals as goal
 
 pub returns-then-is_empty-clause-values : goal.returns-then-is_empty-clause-values
-returns-then-is_empty-clause-values c =
-    let none : eqb (length c.args.list.now.rest) 0 ≡ true = cc in
-    no_items (within 0x30 signer_in) (within_shorter 0x30 signer_in) c.args.list.now none
+returns-then-is_empty-clause-values c = none_left c.args.list.now cc
 
 pub returns-in_default-clause-values : goal.returns-in_default-clause-values
 returns-in_default-clause-values c =
-    let some : eqb (length c.args.list.now.rest) 0 ≡ false = cc in
-    absurd (not_entered 0x30 signer_in c.args.list.now c.in_default.field-0 c.rest-rest.ensures.octets some
-    (rw (← c.again-ahead.ensures) c.in_default.ensures.exact.0) c.requires)
+    absurd (not_again c.rest-rest.ensures.octets c.again-ahead.ensures c.in_default.ensures.exact.0 c.requires cc)
 
 pub returns-in_default-digest_algorithm_of-clause-values : goal.returns-in_default-digest_algorithm_of-clause-values
 returns-in_default-digest_algorithm_of-clause-values c =
-    let some : eqb (length c.args.list.now.rest) 0 ≡ false = cc in
-    let first = entered 0x30 signer_in c.args.list.now c.in-Ok.parts c.enter.new.self c.rest-rest.ensures.octets some
-    (rw (← c.again-ahead.ensures) c.in-Ok.ensures.exact) c.requires in
+    let first = again c.rest-rest.ensures.octets c.again-ahead.ensures c.in-Ok.ensures.exact c.requires cc in
     absurd (let z = c.in_default-digest_algorithm_of.ensures first.value first.read in cc)
 
 pub returns-clause-values : goal.returns-clause-values
 returns-clause-values c =
-    let some : eqb (length c.args.list.now.rest) 0 ≡ false = cc in
-    let first = entered 0x30 signer_in c.args.list.now c.in-Ok.parts c.enter.new.self c.rest-rest.ensures.octets some
-    (rw (← c.again-ahead.ensures) c.in-Ok.ensures.exact) c.requires in (
+    let first = again c.rest-rest.ensures.octets c.again-ahead.ensures c.in-Ok.ensures.exact c.requires cc in (
       first.value,
       first.items,
       ok_is c.in-Ok-digest_algorithm_of.algorithm first.value.digest_algorithm
@@ -38,6 +25,4 @@ returns-clause-values c =
 
 pub returns-clause-list : goal.returns-clause-list
 returns-clause-list c =
-    let some : eqb (length c.args.list.now.rest) 0 ≡ false = cc in
-    (entered 0x30 signer_in c.args.list.now c.in-Ok.parts c.enter.new.self c.rest-rest.ensures.octets some
-    (rw (← c.again-ahead.ensures) c.in-Ok.ensures.exact) c.requires).list
+    (again c.rest-rest.ensures.octets c.again-ahead.ensures c.in-Ok.ensures.exact c.requires cc).list

@@ -1,7 +1,8 @@
-use Rattle.std.proofs.Common.{◌≡◌, true, sym, ◌∙◌, arith}
+use Rattle.std.proofs.Common.{◌≡◌, ◌+◌, ◌*◌, true, sym, ap, ◌∙◌}
 use Rattle.der_core.specs.Times.{is_generalized}
-use Rattle.der_time.specs.Moments.{generalized_moment, fraction_digits}
+use Rattle.der_time.specs.Moments.{generalized_moment, fraction_digits, in_places}
 use Rattle.der_time.proofs.Civil.{day_below}
+use Rattle.der_time.proofs.Moments.{made_of}
 use Rattle.der_time.proofs.Places.{in_places_below}
 use Rattle.der_time.proofs.Texts.{generalized_parts, generalized_read, year_below, fraction_of_digits}
 use Rattle.der_time.proofs.generalized.read_generalized.Goals as goal
@@ -48,19 +49,9 @@ pub returns-clause-found : goal.returns-clause-found
 unfolding generalized_moment
 returns-clause-found c = (
   sym c.is_generalized.ensures ∙ c.if-not-is_generalized.false,
-  rw (
-    c.at.ensures,
-    c.day_number-days.ensures,
-    c.nanos_of_digits-nanos.ensures,
-    c.fraction_digits.ensures,
-    c.pair.ensures.pair,
-    c.pair-2.ensures.pair,
-    c.pair-3.ensures.pair,
-    c.pair-4.ensures.pair,
-    c.pair-5.ensures.pair,
-    c.pair-6.ensures.pair,
-    c.pair-7.ensures.pair,
-  ) (omega arith),
+  made_of c.at.ensures c.day_number-days.ensures (λ i. 100 * c.pair.ensures.pair i + c.pair-2.ensures.pair i)
+      c.pair-3.ensures.pair c.pair-4.ensures.pair c.pair-5.ensures.pair c.pair-6.ensures.pair c.pair-7.ensures.pair
+      (c.nanos_of_digits-nanos.ensures ∙ ap (in_places 9) c.fraction_digits.ensures),
 )
 
 pub returns-clause-exact : goal.returns-clause-exact

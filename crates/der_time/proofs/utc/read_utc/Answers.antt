@@ -1,7 +1,8 @@
-use Rattle.std.proofs.Common.{◌≡◌, true, sym, ◌∙◌, arith, rules}
-use Rattle.der_core.specs.Times.{is_utc}
+use Rattle.std.proofs.Common.{◌≡◌, true, refl, sym, ap, ◌∙◌, arith, rules}
+use Rattle.der_core.specs.Times.{is_utc, full_year}
 use Rattle.der_time.specs.Moments.{utc_moment}
 use Rattle.der_time.proofs.Civil.{day_below}
+use Rattle.der_time.proofs.Moments.{made_of}
 use Rattle.der_time.proofs.Texts.{utc_parts, utc_read}
 use Rattle.der_time.proofs.utc.read_utc.Goals as goal
 
@@ -27,17 +28,9 @@ pub returns-clause-found : goal.returns-clause-found
 unfolding utc_moment
 returns-clause-found c = (
   sym c.is_utc.ensures ∙ c.if-not-is_utc.false,
-  rw (
-    c.at.ensures,
-    c.day_number-days.ensures,
-    c.full_year.ensures,
-    c.pair.ensures.pair,
-    c.pair-2.ensures.pair,
-    c.pair-3.ensures.pair,
-    c.pair-4.ensures.pair,
-    c.pair-5.ensures.pair,
-    c.pair-6.ensures.pair,
-  ) (omega arith),
+  made_of c.at.ensures c.day_number-days.ensures (c.full_year.ensures ∙ ap full_year c.pair.ensures.pair)
+      c.pair-2.ensures.pair c.pair-3.ensures.pair c.pair-4.ensures.pair c.pair-5.ensures.pair c.pair-6.ensures.pair refl
+      ∙ omega arith,
 )
 
 pub returns-clause-exact : goal.returns-clause-exact

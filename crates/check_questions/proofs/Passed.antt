@@ -12,6 +12,7 @@ use Rattle.trust_lists.specs.Entries.{EntryValue}
 use Rattle.trust_lists.specs.Asking.{Asked}
 use Rattle.trust_lists.specs.Marks.{NoneFrom}
 use Rattle.check_questions.specs.FileQuestions.{Joined, InOrder, OfEntry}
+use Rattle.check_verdict.proofs.Found.{stands_at}
 use Rattle.check_questions.proofs.Under.{no_question}
 
 -- what belongs to entries of which the first have nothing belongs to the others
@@ -53,6 +54,7 @@ of_found role s trust found is from at le within none qs are =
 pub at_end : (trust : List EntryValue) → drop (length trust) trust ≡ []
 at_end trust = drop_all (length trust) trust (omega arith)
 
-pub first_left : (trust : List EntryValue) (at : ℕ) (e : EntryValue) → at < length trust → e ≡ get_or trust at e
-    → drop at trust ≡ e ∷ drop (at + 1) trust
-first_left trust at e lt is = drop_more trust at e lt ∙ ap (λ (y : EntryValue). y ∷ drop (at + 1) trust) (sym is)
+pub first_left : (es trust : List EntryValue) → es ≡ trust → (at : ℕ) (e : EntryValue) → e ≡ get_or es at e
+    → at < length trust → drop at trust ≡ e ∷ drop (at + 1) trust
+first_left es trust same at e is lt = drop_more trust at e lt
+    ∙ ap (λ (y : EntryValue). y ∷ drop (at + 1) trust) (sym (stands_at es trust same at e is))

@@ -28,7 +28,8 @@ use Rattle.check_verdict.specs.Asks.{AsksOnly}
 use Rattle.check_verdict.specs.Questions.{IsQuestion, Answers, with_answers}
 use Rattle.check_verdict.specs.Checking.{JudgesAsking, ChecksStream, IsUnread}
 use Rattle.check_verdict.proofs.Asks.{question_of_file}
-use Rattle.check_verdict.proofs.Checked.{InPlace, in_place, by_rules, handed_by, judges_by, of_along}
+use Rattle.check_verdict.proofs.Checked.{InPlace, in_place, by_rules, handed_by, of_along}
+use Rattle.check_verdict.proofs.Sufficiency.{judges_by}
 use Rattle.check_fit.proofs.Readings.{reading_of}
 use Rattle.check_verdict.proofs.Verdicts.{never_both, one_moment}
 use Rattle.check_stream.specs.StreamVerdicts.{OfStream, fails as source_fails, too_long as no_room, told}

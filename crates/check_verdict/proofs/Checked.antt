@@ -18,7 +18,7 @@ use Rattle.check_verdict.specs.Verdicts.{IsContent, Yes, Judges, Refuses}
 use Rattle.check_verdict.specs.Checking.{Checks, JudgesAsking, ChecksAsking, VerdictOrDevice}
 use Rattle.trust_lists.specs.Asking.{Asked}
 use Rattle.check_verdict.specs.Questions.{Answers, with_answers}
-use Rattle.check_verdict.proofs.Sufficiency.{accepts_along, signer_along, token_along}
+use Rattle.check_verdict.proofs.Sufficiency.{judges_by}
 use Rattle.check_verdict.proofs.Verdicts.{file_refusal, never_both, one_moment}
 
 abbrev refusal : Refused → Result SignedDataValue Refused
@@ -187,18 +187,6 @@ gives_yes facts t file before after result told checks m =
     }
 
 -- ---- the verdict with a list of answers that agrees on the questions
-
-pub judges_by : (t : Terms) (file : List ℕ) (w : Asked → Bool) → Answers t file w → (v : SignedDataValue)
-    → EncodesSignedData file v
-    → (content : List ℕ) (result : Result ℕ Refused) → Judges t content v result
-    → Judges (with_answers t w) content v result
-judges_by t file w agree v e content (Ok m) j = accepts_along t file w agree v e content m j
-judges_by t file w agree v e content (Err (refused.File failed)) j = j
-judges_by t file w agree v e content (Err (refused.Signer number failed)) j =
-    signer_along t file w agree v e content number failed j
-judges_by t file w agree v e content (Err (refused.Token number token failed)) j =
-    token_along t file w agree v e content number token failed j
-judges_by t file w agree v e content (Err (refused.Device fault)) j = j
 
 module _ {S : Type 0} (facts : SourceFacts S) (J K : List ℕ → SignedDataValue → Result ℕ Refused → Type 0) where
   source_along :

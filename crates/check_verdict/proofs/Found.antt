@@ -1,23 +1,26 @@
 -- Filters over the entries that a signer's identifier can match, while the others are passed over.
-use Rattle.std.proofs.Common.{◌≡◌, ℕ, suc, ◌+◌, ◌<◌, ◌≤◌, max, List, length, get_or, take, sym, subst, arith}
+use Rattle.std.proofs.Common.{◌≡◌, ◌∙◌, ℕ, suc, ◌+◌, ◌<◌, ◌≤◌, max, List, length, get_or, take, Some, sym, ap, subst}
+use Rattle.std.proofs.Common.{arith}
 use Rattle.std.specs.Prelude.{Contains}
 use Rattle.std.proofs.lemmas.List.{take_all}
 use Rattle.cms_types.specs.SignerValue.{SidValue}
 use Rattle.check_names.specs.Naming.{Matches}
 use Rattle.trust_lists.specs.Entries.{EntryValue}
 use Rattle.trust_lists.specs.declared.role.Role.{Role}
-use Rattle.trust_lists.specs.Marks.{NoneFrom}
+use Rattle.trust_lists.specs.Marks.{NoneFrom, IsNext}
 use Rattle.check_verdict.specs.Filters.{Comes, Best}
 use Rattle.check_verdict.proofs.Stages.{best_of_next, best_of_skipped}
 
-pub entry_among : (es : List EntryValue) (i : ℕ) (e : EntryValue) → i < length es → e ≡ get_or es i e → Contains es e
-entry_among es i e lt is = (i, lt, sym is)
+-- what stands at a place of a list stands there in the same list
+pub stands_at : (es trust : List EntryValue) → es ≡ trust → (i : ℕ) (e : EntryValue) → e ≡ get_or es i e
+    → e ≡ get_or trust i e
+stands_at es trust same i e is = is ∙ ap (λ (xs : List EntryValue). get_or xs i e) same
 
--- what is said of each entry of a list is said of the same list
-pub asks_of : (es fs : List EntryValue) → es ≡ fs → (Says : EntryValue → Type 0)
-    → ((e : EntryValue) → Contains es e → Says e)
-    → (e : EntryValue) → Contains fs e → Says e
-asks_of es fs same Says says e among = says e (subst (λ (xs : List EntryValue). Contains xs e) (sym same) among)
+-- and is among its entries
+pub entry_among : (es trust all : List EntryValue) → es ≡ trust → trust ≡ all → (i : ℕ) (e : EntryValue)
+    → e ≡ get_or es i e → i < length trust → Contains all e
+entry_among es trust all same same' i e is lt =
+    subst (λ (xs : List EntryValue). Contains xs e) same' (i, lt, sym (stands_at es trust same i e is))
 
 -- which has this role, and whose certificate this identifier matches
 abbrev pub IsMatched : Role → SidValue → EntryValue → Type 0
@@ -33,10 +36,11 @@ module _ (Left : ℕ → EntryValue → Type 0) (total : ℕ) (trust : List Entr
 
   -- one that was found
   module _ (from at n k : ℕ) (e : EntryValue) where
-    pub best_of_found : from ≤ at → at < length trust → NoneFrom (IsMatched role found) trust from at
-        → e ≡ get_or trust at e
+    pub best_of_found : IsNext (IsMatched role found) trust from (Some at) → (es : List EntryValue) → es ≡ trust
+        → e ≡ get_or es at e
         → Best Left total (take from trust) n → Comes Left total e k → Best Left total (take (at + 1) trust) (max n k)
-    best_of_found le lt none is b c = best_of_next Left total trust at n k e falls lt is
+    best_of_found (le, lt, none) es same is b c = best_of_next Left total trust at n k e falls lt
+        (stands_at es trust same at e is)
         (best_of_skipped Left total trust from at n falls le (omega (arith, lt)) (others from at none) b) c
 
   -- none is left

@@ -1,5 +1,6 @@
 pub mod Claims
 pub mod Lists
+pub mod Answered
 pub mod Sufficiency
 pub mod Readings
 pub mod Tokens

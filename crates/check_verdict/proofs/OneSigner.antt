@@ -48,7 +48,8 @@ use Rattle.check_verdict.proofs.Readings.{one_reading}
 use Rattle.check_verdict.proofs.Verdicts.{OfRule, file_refusal, good_not_failing, good_tokens, one_signer_rule}
 use Rattle.check_verdict.proofs.Verdicts.{rule_not_tokens, one_token_rule, one_content}
 use Rattle.check_verdict.proofs.Verdicts.{is_placed, same_signer, rules_alone, rules_alike, same_file_rule}
-use Rattle.check_verdict.proofs.Sufficiency.{ready, signer_passes, signer_fails, tokens_fail}
+use Rattle.check_verdict.proofs.Answered.{signer_passes, signer_fails, tokens_fail}
+use Rattle.check_verdict.proofs.Sufficiency.{ready}
 use Rattle.check_verdict.proofs.Checked.{by_rules, handed_by, opened_by, of_along}
 
 -- a signer that has a number is among them
@@ -468,13 +469,15 @@ module _ (t : Terms) (file : List ℕ) (w : Asked → Bool) where
       → (content : List ℕ) (number : ℕ) (s : SignerValue) → Contains v.signers s
       → (result : Result ℕ Refused) → JudgesAlone t content v.encapsulated.content_type number s result
       → JudgesAlone (with_answers t w) content v.encapsulated.content_type number s result
-  alone_along agree v e content number s c (Ok m) p = signer_passes t w content v.encapsulated.content_type s m
-      (ready t file w agree v e s c (p.fits.attributes, p.fits.present)) p
+  alone_along agree v e content number s c (Ok m) p = signer_passes content v.encapsulated.content_type t w s m
+      (ready t file w agree v e content s c) p
   alone_along agree v e content number s c (Err (refused.File failed)) j = j
   alone_along agree v e content number s c (Err (refused.Signer told failed)) (is, j) =
-      (is, signer_fails t w content v.encapsulated.content_type s failed (ready t file w agree v e s c) j)
-  alone_along agree v e content number s c (Err (refused.Token told token failed)) (is, j) =
-      (is, tokens_fail t w content v.encapsulated.content_type s token failed (ready t file w agree v e s c) j)
+      (is, signer_fails content v.encapsulated.content_type t w s failed (ready t file w agree v e content s c) j)
+  alone_along agree v e content number s c (Err (refused.Token told token failed)) (is, j) = (
+    is,
+    tokens_fail content v.encapsulated.content_type t w s token failed (ready t file w agree v e content s c) j,
+  )
   alone_along agree v e content number s c (Err (refused.Device fault)) j = j
 
 signer_along : (t : Terms) (file : List ℕ) (w : Asked → Bool) → Answers t file w → (v : SignedDataValue)

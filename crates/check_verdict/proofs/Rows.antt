@@ -60,27 +60,27 @@ value_rows = record {
   reads_stamped_file = content_takes stamped_file (SignedContent (file_data stamps)) (below_256 stamped_file refl) refl;
 }
 
-pub early_reads : EncodesSignedData early_token early_data
+-- an earlier token, and a file that has both
+both_read : EncodesSignedData early_token early_data × EncodesSignedData twice_stamped_file (file_data both_stamps)
 unfolding len algorithm_in further_at length_at next_at expect_at enter_at end_at element_at none_at opaque_at many_from
     many_in checked_from
     checked_in rank_at tag_at opaque_item opaque_front front_at
     attribute_in signed_attribute_in issuer_and_serial_in sid_at signer_in explicit_octets_in encapsulated_in
     signed_data_in explicit_signed_data_in
     signed_content_in content_info_in content_info_at
-early_reads = content_takes early_token (SignedContent early_data) (below_256 early_token refl) refl
+both_read = (
+  content_takes early_token (SignedContent early_data) (below_256 early_token refl) refl,
+  content_takes twice_stamped_file (SignedContent (file_data both_stamps)) (below_256 twice_stamped_file refl) refl,
+)
+
+pub early_reads : EncodesSignedData early_token early_data
+early_reads = both_read.0
+
+pub twice_reads : EncodesSignedData twice_stamped_file (file_data both_stamps)
+twice_reads = both_read.1
 
 pub early_stamp_reads : EncodesTst early_stamp early_tst
 unfolding len algorithm_in flag_at further_at length_at next_at expect_at enter_at end_at element_at none_at opaque_at
     many_from many_in opaque_item
     imprint_in accuracy_in tst_in tst_at
 early_stamp_reads = tst_takes early_stamp early_tst (below_256 early_stamp refl) refl
-
-pub twice_reads : EncodesSignedData twice_stamped_file (file_data both_stamps)
-unfolding len algorithm_in further_at length_at next_at expect_at enter_at end_at element_at none_at opaque_at many_from
-    many_in checked_from
-    checked_in rank_at tag_at opaque_item opaque_front front_at
-    attribute_in signed_attribute_in issuer_and_serial_in sid_at signer_in explicit_octets_in encapsulated_in
-    signed_data_in explicit_signed_data_in
-    signed_content_in content_info_in content_info_at
-twice_reads =
-    content_takes twice_stamped_file (SignedContent (file_data both_stamps)) (below_256 twice_stamped_file refl) refl

@@ -15,7 +15,7 @@ use Rattle.digests.specs.declared.algorithm.Alg.TheVariants.{Sha256}
 use Rattle.digests.proofs.Rows.{abc_rows}
 use Rattle.cms_types.specs.AttributeValue.{AttributeValue}
 use Rattle.cms_types.specs.SignerValue.{SignerValue}
-use Rattle.cms_types.specs.SignedDataValue.{SignedDataValue}
+use Rattle.cms_types.specs.SignedDataValue.{SignedDataValue, EncodesSignedData}
 use Rattle.cms_types.specs.declared.fault.CmsFault.{CmsFault}
 use Rattle.check_fit.specs.Attributes.{single_value}
 use Rattle.check_fit.specs.Fitting.{Fits}
@@ -32,24 +32,25 @@ use Rattle.check_verdict.specs.Trusted.{Holds, asked}
 use Rattle.check_names.specs.Naming.{id_signing_certificate_v2, Occurs, Matches, NamesIfAny, NamesInV2, MustName}
 use Rattle.check_names.specs.NamingRows.{of_authority, digest_of_certificate}
 use Rattle.check_verdict.specs.Filters.{StopsAt}
-use Rattle.tsp_types.specs.TstValue.{id_tst_info}
+use Rattle.tsp_types.specs.TstValue.{id_tst_info, EncodesTst}
 use Rattle.check_verdict.specs.Passing.{Terms, StampedUnder, Passes}
 use Rattle.check_verdict.specs.TokenRules.{IsTstReading, claimed, token_claim, Reads, LeftForToken, token_filter}
 use Rattle.check_verdict.specs.TokenRules.{TokenFails}
-use Rattle.check_verdict.specs.Verdicts.{IsStamped, SignedUnder, IsMoment, SignerPasses, Yes, IsSigners, LeftForSigner}
-use Rattle.check_verdict.specs.Verdicts.{signer_filter, SignerFails, TokensFail}
+use Rattle.check_verdict.specs.Verdicts.{IsStamped, SignedUnder, IsMoment, IsLeast, SignerPasses, Yes, IsSigners}
+use Rattle.check_verdict.specs.Verdicts.{LeftForSigner, signer_filter, SignerFails, TokensFail}
 use Rattle.check_verdict.specs.Verdicts.{FirstBad, Refuses}
 use Rattle.check_verdict.specs.Rows.{of_signer, of_another_authority, with_another_key, tst, digest_of_stamp}
-use Rattle.check_verdict.specs.Rows.{attributes_over, token_signer, token_data}
+use Rattle.check_verdict.specs.Rows.{stamp_at, signed_data, attributes_over, token_signer, token_data}
 use Rattle.check_verdict.specs.Rows.{file_attributes, file_signer, stamps, file_data, of_file, of_token, trusted, terms}
 use Rattle.check_verdict.specs.Rows.{ten_oclock, a_second_before}
 use Rattle.check_verdict.specs.Rows.{half_a_second_later, signs, attests, both, TokenRows, FileRows}
 use Rattle.check_verdict.proofs.Lists.{any_of_none}
 use Rattle.check_fit.proofs.FitLaw.{fit_from}
+use Rattle.check_fit.proofs.Fitted.{fitted}
+use Rattle.check_names.proofs.HashNames.{names_v2, other_hash}
 use Rattle.check_verdict.proofs.Claims.{claim_from}
 use Rattle.check_verdict.proofs.Tokens as tokens_law
-use Rattle.check_verdict.proofs.NamedCertificates.{all_encoded, spelled_v2, hash_with_another_key, names_v2, other_hash}
-use Rattle.check_verdict.proofs.NamedCertificates.{must_name}
+use Rattle.check_verdict.proofs.NamedCertificates.{all_encoded, spelled_v2, hash_with_another_key, must_name}
 use Rattle.check_verdict.proofs.Rows.{value_rows}
 
 -- ---- lists of one, two and three
@@ -100,18 +101,15 @@ stamped_at = refl
 abbrev pub element : List ℕ → Option (List ℕ)
 element d = Some (el 0x04 d)
 
-pub token_fits : Fits strict time_stamp id_tst_info (token_signer digest_of_stamp)
+-- the signer of a token fits a content with this digest
+fits_over : (stamp digest : List ℕ) → digest_of Sha256 stamp ≡ digest
+    → Fits strict stamp id_tst_info (token_signer digest)
 unfolding len
-token_fits = record {
-  attributes = attributes_over digest_of_stamp;
-  present = refl;
-  content_type = refl;
-  size = lit< tt;
-  alg = Sha256;
-  named = record { contents = refl; plain = tt };
-  allows = refl;
-  digest = ap element (sym stamp_digest);
-}
+fits_over stamp digest is = fitted _ _ _ _ (attributes_over digest) Sha256
+    refl refl (lit< tt) (record { contents = refl; plain = tt }) refl (ap element (sym is))
+
+pub token_fits : Fits strict time_stamp id_tst_info (token_signer digest_of_stamp)
+token_fits = fits_over time_stamp digest_of_stamp stamp_digest
 
 names_it : (digest : List ℕ) → NamesInV2 (attributes_over digest) of_authority
 names_it digest =
@@ -153,22 +151,26 @@ attested : (from until : Option ℕ) (trust : List EntryValue) (ls : List Asked)
     → StampedUnder (terms trust ls) its_signer its_attributes ten_oclock (attests from until)
 attested from until trust ls h answered = attested_at digest_of_stamp ten_oclock from until trust ls h answered
 
-pub passing : (trust : List EntryValue) (ls : List Asked)
-    → Any (StampedUnder (terms trust ls) its_signer its_attributes ten_oclock) trust
-    → Passes (terms trust ls) time_stamp_token (codes "abc") ten_oclock
-passing trust ls any = record {
-  signed = token_data;
-  encodes = value_rows.reads_token;
+-- a token of the authority over abc, whose content has this digest and this time, passes at its moment
+pub passing_over : (token stamp digest time : List ℕ) (m : ℕ)
+    → EncodesSignedData token (signed_data (3 ∷ []) id_tst_info stamp (token_signer digest))
+    → EncodesTst stamp (stamp_at time) → digest_of Sha256 stamp ≡ digest → generalized_moment time ≡ m
+    → (trust : List EntryValue) (ls : List Asked)
+    → Any (StampedUnder (terms trust ls) (token_signer digest) (attributes_over digest) m) trust
+    → Passes (terms trust ls) token (codes "abc") m
+passing_over token stamp digest time m encodes encodes_stamp is moment trust ls any = record {
+  signed = signed_data (3 ∷ []) id_tst_info stamp (token_signer digest);
+  encodes = encodes;
   econtent_type = refl;
-  content = time_stamp;
+  content = stamp;
   present = refl;
-  signer = its_signer;
+  signer = token_signer digest;
   one_signer = refl;
-  attributes = its_attributes;
+  attributes = attributes_over digest;
   has = refl;
-  fits = token_fits;
-  stamp = tst;
-  encodes_stamp = value_rows.reads_time_stamp;
+  fits = fits_over stamp digest is;
+  stamp = stamp_at time;
+  encodes_stamp = encodes_stamp;
   calm = tt;
   imprint = record {
     alg = Sha256;
@@ -176,9 +178,15 @@ passing trust ls any = record {
     allows = refl;
     digest = sym abc_rows.sha256;
   };
-  moment = stamped_at;
+  moment = moment;
   entry = any;
 }
+
+pub passing : (trust : List EntryValue) (ls : List Asked)
+    → Any (StampedUnder (terms trust ls) its_signer its_attributes ten_oclock) trust
+    → Passes (terms trust ls) time_stamp_token (codes "abc") ten_oclock
+passing = passing_over time_stamp_token time_stamp digest_of_stamp tst.time ten_oclock value_rows.reads_token
+    value_rows.reads_time_stamp stamp_digest stamped_at
 
 pub valid : (from until : Option ℕ) → IfSome from (λ first. first ≤ ten_oclock)
     → IfSome until (λ last. ten_oclock ≤ last)
@@ -372,16 +380,8 @@ who = file_signer stamps
 
 pub file_fits : (unsigned : Option (List AttributeValue)) → Fits strict abc id_data (file_signer unsigned)
 unfolding len
-file_fits unsigned = record {
-  attributes = file_attributes;
-  present = refl;
-  content_type = refl;
-  size = lit< tt;
-  alg = Sha256;
-  named = record { contents = refl; plain = tt };
-  allows = refl;
-  digest = ap element (sym abc_rows.sha256);
-}
+file_fits unsigned = fitted _ _ _ _ file_attributes Sha256
+    refl refl (lit< tt) (record { contents = refl; plain = tt }) refl (ap element (sym abc_rows.sha256))
 
 pub file_named : (c : CertificateValue) → NamesIfAny file_attributes c
 file_named c = record { v1 = λ occurs. absurd (occurs refl); v2 = λ occurs. absurd (occurs refl) }
@@ -408,32 +408,37 @@ is_ten : (trust : List EntryValue) (ls : List Asked) (n : ℕ) → Passes (terms
 is_ten trust ls n p k = tokens_law.one_moment (terms trust ls) time_stamp_token abc n ten_oclock
     (in_one (λ token. Passes (terms trust ls) token abc n) time_stamp_token k) p
 
+-- a file of one signer is accepted with the signer's first moment
+pub accepted_at : (trust : List EntryValue) (ls : List Asked) (file : List ℕ) (unsigned : Option (List AttributeValue))
+    → EncodesSignedData file (file_data unsigned)
+    → (m : ℕ) → IsLeast (IsMoment (terms trust ls) (file_signer unsigned)) m → Yes (terms trust ls) file None m
+accepted_at trust ls file unsigned encodes m least =
+    let t : Terms = terms trust ls in
+    let s : SignerValue = file_signer unsigned in
+    let passes : SignerPasses t abc id_data s m = record { fits = file_fits unsigned; earliest = least } in
+    record {
+      signed = file_data unsigned;
+      encodes = encodes;
+      content = abc;
+      is_content = refl;
+      accepts = record {
+        each = all_and (λ x. (n : ℕ) × SignerPasses t abc id_data x n) s [] (m, passes)
+            (none_of (λ x. (n : ℕ) × SignerPasses t abc id_data x n));
+        latest = record {
+          has = one_of (λ x. SignerPasses t abc id_data x m) s passes;
+          greatest = λ n k. (in_one (λ x. SignerPasses t abc id_data x n) s k).earliest.least m least.has;
+        };
+      };
+    }
+
 accepted_with : (trust : List EntryValue) (ls : List Asked) → Passes (terms trust ls) time_stamp_token abc ten_oclock
     → Any (SignedUnder (terms trust ls) who file_attributes ten_oclock) trust
     → Yes (terms trust ls) stamped_file None ten_oclock
 accepted_with trust ls p any =
-    let t : Terms = terms trust ls in
-    let m : IsMoment t who ten_oclock =
-    record { stamped = stamped_ten trust ls p; attributes = file_attributes; has = refl; entry = any } in
-    let passes : SignerPasses t abc id_data who ten_oclock = record {
-      fits = file_fits stamps;
-      earliest = record { has = m; least = λ n k. (let e = is_ten trust ls n p k.stamped in omega (arith, e)) };
-    } in
-    record {
-      signed = file_data stamps;
-      encodes = value_rows.reads_stamped_file;
-      content = abc;
-      is_content = refl;
-      accepts = record {
-        each = all_and (λ s. (n : ℕ) × SignerPasses t abc id_data s n) who [] (ten_oclock, passes)
-            (none_of (λ s. (n : ℕ) × SignerPasses t abc id_data s n));
-        latest = record {
-          has = one_of (λ s. SignerPasses t abc id_data s ten_oclock) who passes;
-          greatest = λ n k. (let e = is_ten trust ls n p
-              (in_one (λ s. SignerPasses t abc id_data s n) who k).earliest.has.stamped in omega (arith, e));
-        };
-      };
-    }
+    accepted_at trust ls stamped_file stamps value_rows.reads_stamped_file ten_oclock (record {
+      has = record { stamped = stamped_ten trust ls p; attributes = file_attributes; has = refl; entry = any };
+      least = λ n k. (let e = is_ten trust ls n p k.stamped in omega (arith, e));
+    })
 
 pub refused_first : (t : Terms) (Bad : SignerValue → Type 0) (s : SignerValue) → Bad s
     → FirstBad t abc id_data (s ∷ []) 1 Bad

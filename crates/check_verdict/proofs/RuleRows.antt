@@ -25,8 +25,8 @@ use Rattle.check_verdict.specs.Rows.{terms}
 use Rattle.check_verdict.specs.RuleRows.{its_signer, ClaimRows, authority_with, ext_key_usage, attests_with}
 use Rattle.check_verdict.specs.RuleRows.{claim_naming, NotForStamping, PurposeRows}
 use Rattle.check_fit.proofs.FitLaw.{fit_from}
-use Rattle.check_verdict.proofs.NamedCertificates.{Encoded, all_encoded, hash_unstated, hash_uncritical, hash_second}
-use Rattle.check_verdict.proofs.NamedCertificates.{names_v2, must_name}
+use Rattle.check_names.proofs.HashNames.{Encoded, names_v2}
+use Rattle.check_verdict.proofs.NamedCertificates.{all_encoded, hash_unstated, hash_uncritical, hash_second, must_name}
 use Rattle.check_verdict.proofs.RowsJudged.{one_of, token_fits, nor, nobody}
 
 -- ---- K1 to K9

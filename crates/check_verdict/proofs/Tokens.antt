@@ -54,7 +54,7 @@ some_attributes : (a b : List AttributeValue) (o : Option (List AttributeValue))
 some_attributes a b o e h = let z = sym e ∙ h in cc
 
 -- what a token says that passes
-passing_claim : (t : Terms) (token stamped : List ℕ) (m : ℕ) (p : Passes t token stamped m)
+pub passing_claim : (t : Terms) (token stamped : List ℕ) (m : ℕ) (p : Passes t token stamped m)
     (signed : Result SignedDataValue CmsFault)
     (stamp : Result TstValue Fault) → Reads token signed stamp
     → token_claim t.policy stamped signed stamp ≡ Ok (claimed p.signer p.stamp)

@@ -1,19 +1,16 @@
 -- Each token passes or fails.
-use Rattle.std.proofs.Common.{◌≡◌, ℕ, zero, suc, Bool, true, false, cond, List, [], ◌∷◌, Option, Some, None, Result, Ok}
+use Rattle.std.proofs.Common.{◌≡◌, ℕ, zero, suc, List, [], ◌∷◌, Option, Some, None, Result, Ok}
 use Rattle.std.proofs.Common.{Err, refl, ap, subst, ◌∙◌, arith, inl}
 use Rattle.std.proofs.Common.{inr, ◌⊎◌}
 use Rattle.std.specs.Prelude.{Any, IfSome}
 use Rattle.std.specs.List.{AllByRecursion}
 use Rattle.der_core.specs.declared.fault.Fault.{Fault}
 use Rattle.der_core.specs.Element.{IsBytes}
-use Rattle.digests.specs.declared.algorithm.Alg.{Alg}
 use Rattle.cms_types.specs.AttributeValue.{AttributeValue}
 use Rattle.cms_types.specs.SignerValue.{SignerValue}
 use Rattle.cms_types.specs.SignedDataValue.{SignedDataValue}
 use Rattle.cms_types.specs.declared.fault.CmsFault.{CmsFault}
-use Rattle.check_fit.specs.declared.policy.Policy.{Policy}
 use Rattle.check_fit.specs.declared.rules.TokenRule.{TokenRule}
-use Rattle.check_fit.specs.Fitting.{is_allowed, allowed}
 use Rattle.check_fit.specs.FileFitting.{IsReading}
 use Rattle.tsp_types.specs.TstValue.{TstValue}
 use Rattle.tsp_types.specs.TstReading.{tst_at}
@@ -32,6 +29,7 @@ use Rattle.check_verdict.proofs.Claims.{Says, claim_says}
 use Rattle.check_fit.proofs.Octets.{ValuesAreOctets, SignerOctets, SignedOctets, signed_octets}
 use Rattle.check_names.proofs.Deciding.{Decided, both, must_name}
 use Rattle.check_verdict.proofs.Deciding.{stamping, matches, stamping_only, holds, vouched, run}
+use Rattle.check_fit.proofs.FitLaw.{allowed_is}
 use Rattle.check_fit.proofs.Readings.{reading_of}
 
 -- ---- readings
@@ -88,17 +86,6 @@ looks_of token fits = let r = reading_of token fits in go r.0 r.1
         (Err f, Err any_fault, record { is_signed = is; is_stamp = λ w content e present. absurd (let z = e in cc) })
 
 -- ---- the filters
-
--- an algorithm that is allowed is the one that was named
-allowed_is : (policy : Policy) (named : Option Alg) (alg : Alg) → allowed policy named ≡ Some alg
-    → (named ≡ Some alg) × (is_allowed policy alg ≡ true)
-allowed_is policy None alg h = absurd cc
-allowed_is policy (Some a) alg h = go (is_allowed policy a) refl h
-  where
-    go : (b : Bool) → is_allowed policy a ≡ b → cond b (Some a) None ≡ Some alg
-        → (Some a ≡ Some alg) × (is_allowed policy alg ≡ true)
-    go true t e = let q : a ≡ alg = cc in (e, subst (λ (x : Alg). is_allowed policy x ≡ true) q t)
-    go false t e = absurd cc
 
 authority : (c : TokenClaim) (e : EntryValue) → Decided (IsAuthority c e)
 authority c e = both (stamping e.role) (matches c.signer.sid e.certificate)

@@ -1,6 +1,6 @@
 -- The worked rows of a file with two tokens hold.
-use Rattle.std.proofs.Common.{◌≡◌, ℕ, zero, suc, ◌≤◌, true, List, [], ◌∷◌, Option, Some, None, refl, sym, ap, subst}
-use Rattle.std.proofs.Common.{arith, lit<, lit≤, inl, inr, ◌⊎◌}
+use Rattle.std.proofs.Common.{◌≡◌, ℕ, zero, suc, ◌≤◌, true, List, [], ◌∷◌, Option, Some, None, refl, sym, subst}
+use Rattle.std.proofs.Common.{arith, lit≤, inl, inr, ◌⊎◌}
 use Rattle.std.specs.Prelude.{Any}
 use Rattle.der_core.specs.Element.{len}
 use Rattle.der_grammar.specs.Vectors.{time_stamp_token}
@@ -9,26 +9,22 @@ use Rattle.der_time.specs.Moments.{utc_moment, in_places, generalized_moment}
 use Rattle.sha2.specs.Sha256 as sha256
 use Rattle.digests.specs.Messages.{digest_of}
 use Rattle.digests.specs.declared.algorithm.Alg.TheVariants.{Sha256}
-use Rattle.digests.proofs.Rows.{abc_rows}
 use Rattle.cms_types.specs.SignerValue.{SignerValue}
-use Rattle.check_fit.specs.Fitting.{Fits}
-use Rattle.check_fit.specs.FittingRows.{strict, id_data}
 use Rattle.trust_lists.specs.Entries.{EntryValue}
 use Rattle.trust_lists.specs.Asking.{Asked}
 use Rattle.check_verdict.specs.Trusted.{Holds}
-use Rattle.tsp_types.specs.TstValue.{id_tst_info}
 use Rattle.check_verdict.specs.Passing.{Terms, StampedUnder, Passes}
-use Rattle.check_verdict.specs.Verdicts.{IsStamped, SignedUnder, IsMoment, IsLeast, SignerPasses, Yes}
-use Rattle.check_verdict.specs.Rows.{of_signer, early_stamp, early_tst, early_token, early_data, digest_of_stamp}
+use Rattle.check_verdict.specs.Verdicts.{IsStamped, SignedUnder, IsMoment, IsLeast}
+use Rattle.check_verdict.specs.Rows.{of_signer, early_stamp, early_tst, early_token, digest_of_stamp}
 use Rattle.check_verdict.specs.Rows.{digest_of_early_stamp, attributes_over}
-use Rattle.check_verdict.specs.Rows.{token_signer, file_attributes, file_signer, file_data, both_stamps}
+use Rattle.check_verdict.specs.Rows.{token_signer, file_attributes, file_signer, both_stamps}
 use Rattle.check_verdict.specs.Rows.{twice_stamped_file, of_file, of_early_token, of_token}
 use Rattle.check_verdict.specs.Rows.{terms, nine_oclock, half_past_nine, ten_oclock, signs, attests, three}
 use Rattle.check_verdict.specs.Rows.{TwoTokenRows}
 use Rattle.check_verdict.proofs.Tokens as tokens_law
 use Rattle.check_verdict.proofs.Rows.{early_reads, early_stamp_reads, twice_reads}
-use Rattle.check_verdict.proofs.RowsJudged.{one_of, first_of, after_first, in_one, none_of, all_and, element}
-use Rattle.check_verdict.proofs.RowsJudged.{attested_at, passing, open_then, abc, file_fits}
+use Rattle.check_verdict.proofs.RowsJudged.{one_of, first_of, after_first, in_one}
+use Rattle.check_verdict.proofs.RowsJudged.{attested_at, passing, passing_over, accepted_at, open_then, abc}
 use Rattle.check_verdict.proofs.RowsJudged.{file_named}
 
 -- ---- the earlier token
@@ -42,45 +38,11 @@ stamped_early : generalized_moment early_tst.time ≡ nine_oclock
 unfolding generalized_moment in_places days_before_month
 stamped_early = refl
 
-early_fits : Fits strict early_stamp id_tst_info (token_signer digest_of_early_stamp)
-unfolding len
-early_fits = record {
-  attributes = attributes_over digest_of_early_stamp;
-  present = refl;
-  content_type = refl;
-  size = lit< tt;
-  alg = Sha256;
-  named = record { contents = refl; plain = tt };
-  allows = refl;
-  digest = ap element (sym early_digest);
-}
-
 pub passing_early : (trust : List EntryValue) (ls : List Asked)
     → Any (StampedUnder (terms trust ls) (token_signer digest_of_early_stamp)
     (attributes_over digest_of_early_stamp) nine_oclock) trust → Passes (terms trust ls) early_token abc nine_oclock
-passing_early trust ls any = record {
-  signed = early_data;
-  encodes = early_reads;
-  econtent_type = refl;
-  content = early_stamp;
-  present = refl;
-  signer = token_signer digest_of_early_stamp;
-  one_signer = refl;
-  attributes = attributes_over digest_of_early_stamp;
-  has = refl;
-  fits = early_fits;
-  stamp = early_tst;
-  encodes_stamp = early_stamp_reads;
-  calm = tt;
-  imprint = record {
-    alg = Sha256;
-    named = record { contents = refl; plain = refl };
-    allows = refl;
-    digest = sym abc_rows.sha256;
-  };
-  moment = stamped_early;
-  entry = any;
-}
+passing_early = passing_over early_token early_stamp digest_of_early_stamp early_tst.time nine_oclock early_reads
+    early_stamp_reads early_digest stamped_early
 
 -- ---- terms with one entry of a signer and one of an authority
 
@@ -209,30 +171,11 @@ least_late = record {
 
 -- ---- the file
 
-accepted_at : (e : EntryValue) (m : ℕ) → IsLeast (IsMoment (with_entry e) who) m
-    → Yes (with_entry e) twice_stamped_file None m
-accepted_at e m least =
-    let t : Terms = with_entry e in
-    let passes : SignerPasses t abc id_data who m = record { fits = file_fits both_stamps; earliest = least } in
-    record {
-      signed = file_data both_stamps;
-      encodes = twice_reads;
-      content = abc;
-      is_content = refl;
-      accepts = record {
-        each = all_and (λ s. (n : ℕ) × SignerPasses t abc id_data s n) who [] (m, passes)
-            (none_of (λ s. (n : ℕ) × SignerPasses t abc id_data s n));
-        latest = record {
-          has = one_of (λ s. SignerPasses t abc id_data s m) who passes;
-          greatest = λ n k. (in_one (λ s. SignerPasses t abc id_data s n) who k).earliest.least m least.has;
-        };
-      };
-    }
-
 pub two_token_rows : TwoTokenRows
 two_token_rows = record {
   reads_early_token = early_reads;
   reads_file = twice_reads;
-  earlier = accepted_at (signs None None) nine_oclock least_early;
-  later = accepted_at later_entry ten_oclock least_late;
+  earlier =
+      accepted_at (trust_in (signs None None)) three twice_stamped_file both_stamps twice_reads nine_oclock least_early;
+  later = accepted_at (trust_in later_entry) three twice_stamped_file both_stamps twice_reads ten_oclock least_late;
 }

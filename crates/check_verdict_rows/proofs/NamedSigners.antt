@@ -8,15 +8,17 @@ use Rattle.digests.specs.declared.algorithm.Alg.TheVariants.{Sha256}
 use Rattle.digests.proofs.Rows.{abc_rows}
 use Rattle.check_fit.specs.Fitting.{Fits}
 use Rattle.check_fit.specs.FittingRows.{strict, id_data}
+use Rattle.check_fit.proofs.Fitted.{fitted}
 use Rattle.trust_lists.specs.Entries.{EntryValue}
 use Rattle.check_names.specs.Naming.{id_signing_certificate_v2, Occurs, NamesIfAny}
 use Rattle.check_names.specs.NamingRows.{digest_of_certificate}
+use Rattle.check_names.proofs.HashNames.{Encoded, encoded, names_v2, other_hash}
 use Rattle.check_verdict.specs.Filters.{StopsAt}
 use Rattle.check_verdict.specs.Verdicts.{IsSigners, LeftForSigner, signer_filter}
 use Rattle.check_verdict.specs.Passing.{Passes}
 use Rattle.check_verdict.specs.Rows.{of_signer, signs, terms}
 use Rattle.check_verdict.proofs.Lists.{any_of_none}
-use Rattle.check_verdict.proofs.NamedCertificates.{Encoded, all_encoded, names_v2, other_hash}
+use Rattle.check_verdict.proofs.NamedCertificates.{all_encoded}
 use Rattle.check_verdict.proofs.RowsJudged.{one_of, nor, nobody, element, abc}
 use Rattle.check_verdict_rows.proofs.OtherEntries.{other_octets, not_empty}
 use Rattle.check_verdict_rows.specs.NamedSigners.{digest_of_signer, attributes_naming, signer_naming, FailsNaming}
@@ -27,30 +29,14 @@ unfolding len digest_of sha256.sha256 sha256.digest_bytes sha256.hash_after sha2
     sha256.schedule sha256.first_words
 signer_digest = refl
 
-encoded : Encoded digest_of_signer
+signer_encoded : Encoded digest_of_signer
 unfolding len
-encoded = (
-  refl,
-  record {
-    ids = (record { algorithm = tt; hash = lit< tt; issuer_serial = tt; size = lit< tt }, tt);
-    list = lit< tt;
-    policies = tt;
-    size = lit< tt;
-  },
-)
+signer_encoded = encoded digest_of_signer refl (lit< tt) (lit< tt) (lit< tt) (lit< tt)
 
 naming_fits : (hash : List ℕ) → Fits strict abc id_data (signer_naming hash)
 unfolding len
-naming_fits hash = record {
-  attributes = attributes_naming hash;
-  present = refl;
-  content_type = refl;
-  size = lit< tt;
-  alg = Sha256;
-  named = record { contents = refl; plain = tt };
-  allows = refl;
-  digest = ap element (sym abc_rows.sha256);
-}
+naming_fits hash = fitted _ _ _ _ (attributes_naming hash) Sha256
+    refl refl (lit< tt) (record { contents = refl; plain = tt }) refl (ap element (sym abc_rows.sha256))
 
 -- ---- what the attribute names
 
@@ -68,7 +54,7 @@ never_named n =
 named : NamesIfAny (attributes_naming digest_of_signer) of_signer
 named = record {
   v1 = λ o. absurd (o refl);
-  v2 = λ o. names_v2 (attributes_naming digest_of_signer) digest_of_signer of_signer refl encoded signer_digest;
+  v2 = λ o. names_v2 (attributes_naming digest_of_signer) digest_of_signer of_signer refl signer_encoded signer_digest;
 }
 
 -- ---- the rules

@@ -11,10 +11,11 @@ use Rattle.cms_types.specs.SignerValue.{KeyId}
 use Rattle.trust_lists.specs.Entries.{EntryValue}
 use Rattle.check_names.specs.Naming.{id_signing_certificate_v2, Occurs, Matches, MustName}
 use Rattle.check_names.specs.NamingRows.{named_by, digest_of_certificate}
+use Rattle.check_names.proofs.HashNames.{other_hash}
 use Rattle.check_verdict.specs.TokenRules.{LeftForToken}
 use Rattle.check_verdict.specs.Rows.{terms}
 use Rattle.check_verdict.specs.RuleRows.{authority_with, attests_with, claim_naming}
-use Rattle.check_verdict.proofs.NamedCertificates.{all_encoded, hash_unstated, other_hash}
+use Rattle.check_verdict.proofs.NamedCertificates.{all_encoded, hash_unstated}
 use Rattle.check_verdict.proofs.RowsJudged.{one_of, nor, nobody}
 use Rattle.check_verdict_rows.specs.OtherEntries.{with_key_id, of_another_serial, OtherEntryRows}
 

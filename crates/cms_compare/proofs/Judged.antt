@@ -74,7 +74,8 @@ pub collision : (a : List ℕ) (i : ℕ) (b : List ℕ) (j : ℕ) (content conte
 collision a i b j content content' s s' h k alike differ =
     (alike, differ, bound a i content s h b j content' s' k alike)
 
-compares : (a : List ℕ) (i : ℕ) (b : List ℕ) (j : ℕ) (content content' : List ℕ) (s s' : SignerValue) (x : Compared)
+-- what is answered about the signers of two files
+pub compares : (a : List ℕ) (i : ℕ) (b : List ℕ) (j : ℕ) (content content' : List ℕ) (s s' : SignerValue) (x : Compared)
     → IsSignedBy a i content s
     → IsSignedBy b j content' s' → IsCompared content s content' s' x → Compares a i b j x
 compares a i b j content content' s s' x h k is =

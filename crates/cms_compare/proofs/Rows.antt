@@ -5,6 +5,7 @@ use Rattle.digests.specs.declared.algorithm.Alg.TheVariants.{Sha256}
 use Rattle.check_fit.specs.Fitting.{Fits, signer_claim}
 use Rattle.check_fit.specs.FittingRows.{id_data, of_data, digest_by}
 use Rattle.check_fit.proofs.FitLaw.{fit_from}
+use Rattle.check_fit.proofs.Fitted.{fitted}
 use Rattle.cms_compare.specs.Comparing.{sha1_too, SignAlike}
 use Rattle.cms_compare.specs.Rows.{plain, another, ComparingRows}
 
@@ -12,28 +13,12 @@ alike : (content : List ℕ) → SignAlike (plain content) (another content)
 alike content = record { alg = refl; octets = refl }
 
 fits : (content : List ℕ) → Fits sha1_too content id_data (plain content)
-fits content = record {
-  attributes = of_data ∷ digest_by Sha256 content ∷ [];
-  present = refl;
-  content_type = refl;
-  size = lit< tt;
-  alg = Sha256;
-  named = record { contents = refl; plain = tt };
-  allows = refl;
-  digest = refl;
-}
+fits content = fitted _ _ _ _ (of_data ∷ digest_by Sha256 content ∷ []) Sha256
+    refl refl (lit< tt) (record { contents = refl; plain = tt }) refl refl
 
 fits' : (content : List ℕ) → Fits sha1_too content id_data (another content)
-fits' content = record {
-  attributes = of_data ∷ digest_by Sha256 content ∷ [];
-  present = refl;
-  content_type = refl;
-  size = lit< tt;
-  alg = Sha256;
-  named = record { contents = refl; plain = refl };
-  allows = refl;
-  digest = refl;
-}
+fits' content = fitted _ _ _ _ (of_data ∷ digest_by Sha256 content ∷ []) Sha256
+    refl refl (lit< tt) (record { contents = refl; plain = refl }) refl refl
 
 -- the length octet of a SET
 abbrev size : Option (List ℕ) → ℕ

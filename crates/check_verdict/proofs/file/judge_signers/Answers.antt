@@ -8,7 +8,7 @@ use Rattle.check_fit.specs.Fitting.{WantedBy}
 use Rattle.check_verdict.proofs.Asks.{among_all}
 use Rattle.check_verdict.proofs.Acceptance.{Passed, passed_none, passed_more, passed_all, judged_bad, wanted_among}
 use Rattle.check_verdict.proofs.Acceptance.{wanted_last, numbered_of}
-use Rattle.check_verdict.proofs.Going.{still_terms, wanted_before, wanted_now}
+use Rattle.check_verdict.proofs.Going.{goes_further, still_terms, wanted_before, wanted_now}
 use Rattle.check_verdict.proofs.file.judge_signers.Goals as goal
 
 never_false : (b : Bool) → (b ≡ false → false ≡ true) → b ≡ true
@@ -26,9 +26,7 @@ loop-signer-init g c = record {
   had = λ alg w. absurd w;
   so_far = λ t is content has. passed_none t content c.args.econtent_type.now;
   only = λ t is content has test asks. g.V.Verifier.asked_nothing test _;
-  same = refl;
-  count = refl;
-  stays = refl;
+  goes = record { same = refl; count = refl; stays = refl };
 }
 
 pub returns-in-Err-clause-judged : goal.returns-in-Err-clause-judged
@@ -40,11 +38,10 @@ returns-in-Err-clause-judged g c = λ some t is content has.
     rw (c.numbered.ensures)
     (judged_bad t content c.args.econtent_type.now h.before c.in-Some.signer c.in-Some.others c.args.signers.now
     c.loop-signer.number c.loop-signer.latest c.in-Err.refused all h.numbered (h.so_far t is content has)
-    (c.in-Err.ensures.judged t
-    (still_terms c.loop-signer.checker c.args.checker.now h.stays _ _ h.same t is) content has.0
+    (c.in-Err.ensures.judged t (still_terms h.goes t is) content has.0
     (λ alg w. has.1 alg (subst (λ (xs : List SignerValue). WantedBy c.args.checker.now.policy xs alg) all
     (wanted_among c.args.checker.now.policy h.before c.in-Some.signer c.in-Some.others alg
-    (wanted_before c.loop-signer.checker c.args.checker.now h.stays c.in-Some.signer alg w))))))
+    (wanted_before h.goes c.in-Some.signer alg w))))))
 
 pub loop-signer-preserved : goal.loop-signer-preserved
 loop-signer-preserved g c =
@@ -64,26 +61,22 @@ loop-signer-preserved g c =
       had = λ alg w. elim (wanted_last c.args.checker.now.policy h.before c.in-Some.signer alg w) [
         | inl b ↦ h.had alg b
         | inr l ↦ never_false (is_in alg (set_given c.args.digests.now)) (c.in-Ok.ensures.lacking alg
-            (wanted_now c.loop-signer.checker c.args.checker.now h.stays c.in-Some.signer alg l))
+            (wanted_now h.goes c.in-Some.signer alg l))
       ];
       so_far = λ t is content has.
           passed_more t content c.args.econtent_type.now h.before c.in-Some.signer c.in-Ok.moment c.later.result
           c.loop-signer.latest (h.so_far t is content has)
-          (c.in-Ok.ensures.judged t
-          (still_terms c.loop-signer.checker c.args.checker.now h.stays _ _ h.same t is) content has.0
+          (c.in-Ok.ensures.judged t (still_terms h.goes t is) content has.0
           (λ alg w. has.1 alg (subst (λ (xs : List SignerValue). WantedBy c.args.checker.now.policy xs alg) all
           (wanted_among c.args.checker.now.policy h.before c.in-Some.signer c.in-Some.others alg
-          (wanted_before c.loop-signer.checker c.args.checker.now h.stays c.in-Some.signer alg w))))) c.later.ensures;
+          (wanted_before h.goes c.in-Some.signer alg w))))) c.later.ensures;
       only = λ t is content has test asks. g.V.Verifier.asked_further test _ _ _ (h.only t is content has test asks)
-          (c.in-Ok.ensures.only t
-          (still_terms c.loop-signer.checker c.args.checker.now h.stays _ _ h.same t is) content has.0
+          (c.in-Ok.ensures.only t (still_terms h.goes t is) content has.0
           (λ alg w. has.1 alg (subst (λ (xs : List SignerValue). WantedBy c.args.checker.now.policy xs alg) all
           (wanted_among c.args.checker.now.policy h.before c.in-Some.signer c.in-Some.others alg
-          (wanted_before c.loop-signer.checker c.args.checker.now h.stays c.in-Some.signer alg w)))) test
+          (wanted_before h.goes c.in-Some.signer alg w)))) test
           (asks c.in-Some.signer (among_all h.before c.in-Some.signer c.in-Some.others c.args.signers.now all)));
-      same = c.in-Ok.ensures.same ∙ h.same;
-      count = c.in-Ok.ensures.count ∙ h.count;
-      stays = c.in-Ok.ensures.stays ∙ h.stays;
+      goes = goes_further h.goes c.in-Ok.ensures.same c.in-Ok.ensures.count c.in-Ok.ensures.stays;
     }
 
 pub returns-in-Some-latest-clause-none : goal.returns-in-Some-latest-clause-none
@@ -115,11 +108,10 @@ returns-in-Err-clause-only g c = λ t is content has test asks.
     ap (λ (xs : List SignerValue). h.before ++ xs)
     (sym c.in-Some.ensures) ∙ h.all in
     g.V.Verifier.asked_further test _ _ _ (h.only t is content has test asks)
-    (c.in-Err.ensures.only t
-    (still_terms c.loop-signer.checker c.args.checker.now h.stays _ _ h.same t is) content has.0
+    (c.in-Err.ensures.only t (still_terms h.goes t is) content has.0
     (λ alg w. has.1 alg (subst (λ (xs : List SignerValue). WantedBy c.args.checker.now.policy xs alg) all
     (wanted_among c.args.checker.now.policy h.before c.in-Some.signer c.in-Some.others alg
-    (wanted_before c.loop-signer.checker c.args.checker.now h.stays c.in-Some.signer alg w)))) test
+    (wanted_before h.goes c.in-Some.signer alg w)))) test
     (asks c.in-Some.signer (among_all h.before c.in-Some.signer c.in-Some.others c.args.signers.now all)))
 
 pub returns-in-Some-latest-clause-lacking : goal.returns-in-Some-latest-clause-lacking

@@ -11,6 +11,7 @@ use Rattle.check_fit.specs.FileFitting.{HasDigests}
 use Rattle.check_verdict.specs.Passing.{Terms}
 use Rattle.check_verdict.specs.Checkers.{terms_for}
 use Rattle.check_verdict.proofs.Acceptance.{Passed}
+use Rattle.check_verdict.proofs.Going.{GoesOn}
 use Rattle.check_verdict.proofs.file.judge_signers.Given as goal
 
 -- the signers before those that are left are good, each of their digests is at hand, this is their latest moment, and
@@ -32,9 +33,7 @@ invariant-loop-signer g l = record {
       → (test : Asked → Bool) → ((s : SignerValue) → Contains l.signers s → (q : Asked)
       → IsAskedOf t content l.econtent_type s q → test q ≡ true)
       → g.V.Verifier.asked_only test l.initial.verifier l.verifier;
-  same : g.V.Verifier.vouches l.verifier ≡ g.V.Verifier.vouches l.initial.verifier;
-  count : g.V.Verifier.failures l.verifier ≡ g.V.Verifier.failures l.initial.verifier;
-  stays : l.checker ≡ l.initial.checker;
+  goes : GoesOn g.V.Verifier.vouches g.V.Verifier.failures l.initial.verifier l.verifier l.initial.checker l.checker;
 }
 
 abbrev pub decreases-loop-signer : goal.decreases-loop-signer

@@ -1,5 +1,8 @@
-use Rattle.std.proofs.Common.{◌≡◌, ◌∙◌, true, List, get_or, sym, ap, subst, arith}
+use Rattle.std.proofs.Common.{◌≡◌, ◌∙◌, Bool, true, List, Some, sym, subst, arith}
+use Rattle.std.specs.Prelude.{Contains}
 use Rattle.cms_types.specs.Fields.{sid_value}
+use Rattle.cms_types.specs.AttributeValue.{AttributeValue}
+use Rattle.trust_lists.specs.Asking.{Asked}
 use Rattle.trust_lists.specs.Entries.{EntryValue}
 use Rattle.trust_lists.specs.declared.role.Role.TheVariants.{Signer}
 use Rattle.check_verdict.specs.Filters.{Best}
@@ -8,47 +11,42 @@ use Rattle.check_names.specs.Naming.{NamesIfAny}
 use Rattle.check_verdict.specs.Trusted.{asked}
 use Rattle.check_verdict.specs.SignerStages.{LeftAt, IsSignersAt}
 use Rattle.check_verdict.proofs.Tallies.{at_falls}
-use Rattle.check_verdict.proofs.Found.{entry_among, asks_of, best_of_found, best_of_rest}
+use Rattle.check_verdict.proofs.Going.{goes_further}
+use Rattle.check_verdict.proofs.Found.{entry_among, best_of_found, best_of_rest}
+use Rattle.check_verdict.proofs.signer_stages.signer_stages.Given.{Over}
+use Rattle.check_verdict.proofs.signer_stages.signer_stages.Goals.{After-signer_stage}
 use Rattle.check_verdict.proofs.signer_stages.signer_stages.Goals as goal
 
+-- what is asked under the entry that was found may be asked
+only : (g : Over) (c : After-signer_stage g) (test : Asked → Bool) (attributes : List AttributeValue)
+    → c.args.signer.now.signed_attributes ≡ Some attributes
+    → ((e : EntryValue) → Contains c.args.checker.now.trust e → IsSignersAt c.args.signer.now c.args.moment.now e
+    → NamesIfAny attributes e.certificate → test (asked e.certificate c.args.signer.now attributes) ≡ true)
+    → g.V.Verifier.asked_only test c.args.verifier.now c.signer_stage.new.verifier
+only g c test attributes has asks =
+    g.V.Verifier.asked_further test _ _ _ (c.loop-at.invariant.only test attributes has asks)
+    (c.signer_stage.ensures.only test attributes has (asks _
+    (entry_among _ _ _ c.entries.ensures c.trust-trust.ensures c.in-Some.at _ c.index-entries-at.is
+    c.in-Some.ensures.1)))
+
 pub returns-in_err-failed-clause-only : goal.returns-in_err-failed-clause-only
-returns-in_err-failed-clause-only g c = λ test attributes has asks.
-    let h = c.loop-at.invariant in
-    let found = c.in-Some.ensures in
-    let among = c.index-entries-at.is
-    ∙ ap (λ (es : List EntryValue). get_or es c.in-Some.at c.index-entries-at.result) c.entries.ensures in
-    g.V.Verifier.asked_further test _ _ _ (h.only test attributes has asks)
-    (c.in_err-failed.ensures.only test attributes has
-    (λ p named. (asks_of c.args.checker.now.trust c.trust-trust.result.now (sym c.trust-trust.ensures)
-    (λ e. IsSignersAt c.args.signer.now c.args.moment.now e
-    → NamesIfAny attributes e.certificate → test (asked e.certificate c.args.signer.now attributes) ≡ true) asks) _
-    (entry_among c.trust-trust.result.now c.in-Some.at _ found.1 among) p named))
+returns-in_err-failed-clause-only g c = only g (goal.at.returns-in_err-failed-clause-only g c).After-signer_stage
 
 pub loop-at-preserved : goal.loop-at-preserved
 loop-at-preserved g c =
     let h = c.loop-at.invariant in
-    let found = c.in-Some.ensures in
-    let among = c.index-entries-at.is
-    ∙ ap (λ (es : List EntryValue). get_or es c.in-Some.at c.index-entries-at.result) c.entries.ensures in
     record {
-      within = omega (arith, found.1);
+      within = omega (arith, c.in-Some.ensures.1);
       so_far = λ t vouches attributes has.
           rw (c.further_for_signer-best.ensures) (best_of_found (LeftAt t c.args.signer.now attributes
           c.args.moment.now) 3 c.trust-trust.result.now Signer
           (sid_value c.sid.result.now) c.args.signer.now.sid c.sid.ensures
           (at_falls t c.args.signer.now attributes c.args.moment.now)
           (λ x p. (p.role, p.matches)) c.loop-at.from c.in-Some.at _ _ _
-          found.0 found.1 found.2 among (h.so_far t vouches attributes has)
-          (c.in_ok-failed.ensures.stage t (vouches ∙ sym h.same) attributes has));
-      only = λ test attributes has asks. g.V.Verifier.asked_further test _ _ _ (h.only test attributes has asks)
-          (c.in_ok-failed.ensures.only test attributes has
-          (λ p named. (asks_of c.args.checker.now.trust c.trust-trust.result.now (sym c.trust-trust.ensures)
-          (λ e. IsSignersAt c.args.signer.now c.args.moment.now e
-          → NamesIfAny attributes e.certificate → test (asked e.certificate c.args.signer.now attributes) ≡ true) asks)
-          _ (entry_among c.trust-trust.result.now c.in-Some.at _ found.1 among) p named));
-      same = c.in_ok-failed.ensures.same ∙ h.same;
-      count = c.in_ok-failed.ensures.count ∙ h.count;
-      stays = c.in_ok-failed.ensures.stays ∙ h.stays;
+          c.in-Some.ensures _ c.entries.ensures c.index-entries-at.is (h.so_far t vouches attributes has)
+          (c.in_ok-failed.ensures.stage t (vouches ∙ sym h.goes.same) attributes has));
+      only = only g (goal.at.loop-at-preserved g c).After-signer_stage;
+      goes = goes_further h.goes c.in_ok-failed.ensures.same c.in_ok-failed.ensures.count c.in_ok-failed.ensures.stays;
     }
 
 pub returns-clause-stage : goal.returns-clause-stage

@@ -9,6 +9,7 @@ use Rattle.check_verdict.specs.Filters.{Best}
 use Rattle.check_verdict.specs.Stages.{passed_for_signer}
 use Rattle.check_verdict.specs.Passing.{Terms}
 use Rattle.check_verdict.specs.SignerStages.{LeftAt, IsSignersAt}
+use Rattle.check_verdict.proofs.Going.{GoesOn}
 use Rattle.check_verdict.proofs.signer_stages.signer_stages.Given as goal
 
 -- the best of the entries so far stops there, and the verifier answered each question
@@ -23,9 +24,7 @@ invariant-loop-at g l = record {
       → NamesIfAny attributes e.certificate
       → test (asked e.certificate l.signer attributes) ≡ true)
       → g.V.Verifier.asked_only test l.initial.verifier l.verifier;
-  same : g.V.Verifier.vouches l.verifier ≡ g.V.Verifier.vouches l.initial.verifier;
-  count : g.V.Verifier.failures l.verifier ≡ g.V.Verifier.failures l.initial.verifier;
-  stays : l.checker ≡ l.initial.checker;
+  goes : GoesOn g.V.Verifier.vouches g.V.Verifier.failures l.initial.verifier l.verifier l.initial.checker l.checker;
 }
 
 abbrev pub decreases-loop-at : goal.decreases-loop-at

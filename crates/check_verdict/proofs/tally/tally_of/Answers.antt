@@ -5,7 +5,7 @@ use Rattle.check_verdict.specs.SignerStages.{Tallied}
 use Rattle.check_verdict.specs.Verdicts.{tokens}
 use Rattle.check_verdict.proofs.Asks.{among_all}
 use Rattle.check_verdict.proofs.Tallies.{tallied_none}
-use Rattle.check_verdict.proofs.Going.{still_terms}
+use Rattle.check_verdict.proofs.Going.{goes_further, still_terms}
 use Rattle.check_verdict.proofs.tally.tally_of.Goals as goal
 
 pub loop-token-init : goal.loop-token-init
@@ -14,17 +14,14 @@ loop-token-init g c = record {
   all = c.tokens-left.ensures;
   so_far = λ t is attributes has. tallied_none t c.args.signer.now attributes;
   only = λ t is content econtent_type fits test asks. g.V.Verifier.asked_nothing test _;
-  same = refl;
-  count = refl;
-  stays = refl;
+  goes = record { same = refl; count = refl; stays = refl };
 }
 
 pub returns-in_err-tally-clause-only : goal.returns-in_err-tally-clause-only
 returns-in_err-tally-clause-only g c = λ t is content econtent_type fits test asks.
     let h = c.loop-token.invariant in
     g.V.Verifier.asked_further test _ _ _ (h.only t is content econtent_type fits test asks)
-    (c.in_err-tally.ensures.only t
-    (still_terms c.loop-token.checker c.args.checker.now h.stays _ _ h.same t is) content econtent_type fits
+    (c.in_err-tally.ensures.only t (still_terms h.goes t is) content econtent_type fits
     (subst (λ (b : List ℕ). Contains (tokens c.args.signer.now) b) (sym c.whole.ensures)
     (among_all h.before c.in-Some.token c.in-Some.others
     (tokens c.args.signer.now) (ap (λ (xs : List (List ℕ)). h.before ++ xs) (sym c.in-Some.ensures) ∙ h.all))) test
@@ -42,20 +39,16 @@ loop-token-preserved g c =
           ∙ ap (λ (xs : List (List ℕ)). h.before ++ xs) (sym c.in-Some.ensures) ∙ h.all;
       so_far = λ t is attributes has. subst (λ (b : List ℕ).
           Tallied t c.args.signer.now attributes (h.before ++ b ∷ []) c.in_ok-tally.tally) c.whole.ensures
-          (c.in_ok-tally.ensures.tallied t
-          (still_terms c.loop-token.checker c.args.checker.now h.stays _ _ h.same t is) attributes has h.before
+          (c.in_ok-tally.ensures.tallied t (still_terms h.goes t is) attributes has h.before
           (h.so_far t is attributes has));
       only = λ t is content econtent_type fits test asks.
           g.V.Verifier.asked_further test _ _ _ (h.only t is content econtent_type fits test asks)
-          (c.in_ok-tally.ensures.only t
-          (still_terms c.loop-token.checker c.args.checker.now h.stays _ _ h.same t is) content econtent_type fits
+          (c.in_ok-tally.ensures.only t (still_terms h.goes t is) content econtent_type fits
           (subst (λ (b : List ℕ). Contains (tokens c.args.signer.now) b) (sym c.whole.ensures)
           (among_all h.before c.in-Some.token c.in-Some.others
           (tokens c.args.signer.now) (ap (λ (xs : List (List ℕ)). h.before ++ xs) (sym c.in-Some.ensures) ∙ h.all)))
           test asks);
-      same = c.in_ok-tally.ensures.same ∙ h.same;
-      count = c.in_ok-tally.ensures.count ∙ h.count;
-      stays = c.in_ok-tally.ensures.stays ∙ h.stays;
+      goes = goes_further h.goes c.in_ok-tally.ensures.same c.in_ok-tally.ensures.count c.in_ok-tally.ensures.stays;
     }
 
 pub returns-clause-tallied : goal.returns-clause-tallied

@@ -6,6 +6,7 @@ use Rattle.check_verdict.specs.Passing.{Terms}
 use Rattle.check_verdict.specs.Verdicts.{tokens}
 use Rattle.check_verdict.specs.SignerStages.{Tallied}
 use Rattle.check_verdict.specs.Checkers.{terms_for}
+use Rattle.check_verdict.proofs.Going.{GoesOn}
 use Rattle.check_verdict.proofs.tally.tally_of.Given as goal
 
 -- the tokens before those that are left say this together, and the verifier answered each question
@@ -21,9 +22,7 @@ invariant-loop-token g l = record {
       → Fits t.policy content econtent_type l.signer
       → AsksOnly (λ test. g.V.Verifier.asked_only test l.initial.verifier l.verifier)
       (IsAskedOf t content econtent_type l.signer);
-  same : g.V.Verifier.vouches l.verifier ≡ g.V.Verifier.vouches l.initial.verifier;
-  count : g.V.Verifier.failures l.verifier ≡ g.V.Verifier.failures l.initial.verifier;
-  stays : l.checker ≡ l.initial.checker;
+  goes : GoesOn g.V.Verifier.vouches g.V.Verifier.failures l.initial.verifier l.verifier l.initial.checker l.checker;
 }
 
 abbrev pub decreases-loop-token : goal.decreases-loop-token

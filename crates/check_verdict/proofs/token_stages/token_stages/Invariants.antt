@@ -7,6 +7,7 @@ use Rattle.check_verdict.specs.Filters.{Best}
 use Rattle.check_verdict.specs.Stages.{passed_for_token}
 use Rattle.check_verdict.specs.Passing.{Terms}
 use Rattle.check_verdict.specs.TokenRules.{LeftForToken, IsInPeriod}
+use Rattle.check_verdict.proofs.Going.{GoesOn}
 use Rattle.check_verdict.proofs.token_stages.token_stages.Given as goal
 
 -- the best of the entries so far stops there, and the verifier answered each question
@@ -18,9 +19,7 @@ invariant-loop-at g l = record {
   only : (test : Asked → Bool) → ((e : EntryValue) → Contains l.initial.checker.trust e → IsInPeriod l.claim e
       → test (asked e.certificate l.claim.signer l.claim.attributes) ≡ true)
       → g.V.Verifier.asked_only test l.initial.verifier l.verifier;
-  same : g.V.Verifier.vouches l.verifier ≡ g.V.Verifier.vouches l.initial.verifier;
-  count : g.V.Verifier.failures l.verifier ≡ g.V.Verifier.failures l.initial.verifier;
-  stays : l.checker ≡ l.initial.checker;
+  goes : GoesOn g.V.Verifier.vouches g.V.Verifier.failures l.initial.verifier l.verifier l.initial.checker l.checker;
 }
 
 abbrev pub decreases-loop-at : goal.decreases-loop-at

@@ -4,6 +4,7 @@ pub mod Passing
 pub mod Filters
 pub mod Stages
 pub mod TokenRules
+pub mod TokenStages
 pub mod TokenVerdicts
 pub mod Checkers
 pub mod KeptCertificates

@@ -1,7 +1,7 @@
 -- How far the trusted entries come through the rules S7 to S9 for a signer, by the moments of the tokens that were
 -- judged.
-use Rattle.std.specs.Prelude.{◌≡◌, ⊤, ℕ, zero, suc, true, false, ◌⊎◌, ◌<◌, List, [], ◌∷◌, Any, Option, Some, None}
-use Rattle.std.specs.Prelude.{IfSome, MatchOption}
+use Rattle.std.specs.Prelude.{◌≡◌, ⊤, ℕ, zero, suc, Bool, true, false, ◌⊎◌, ◌<◌, List, [], ◌∷◌, Any, Option, Some, None}
+use Rattle.std.specs.Prelude.{Result, IfOk, IfSome, MatchOption}
 use Rattle.std.specs.Result.{result_ok, result_err}
 use Rattle.cms_types.specs.AttributeValue.{AttributeValue}
 use Rattle.cms_types.specs.SignerValue.{SignerValue}
@@ -9,12 +9,14 @@ use Rattle.check_fit.specs.declared.rules.TokenRule.{TokenRule}
 use Rattle.trust_lists.specs.Entries.{EntryValue}
 use Rattle.trust_lists.specs.declared.role.Role.TheVariants.{Signer}
 use Rattle.check_names.specs.Naming.{Matches, NamesIfAny}
-use Rattle.check_verdict.specs.Trusted.{Holds}
-use Rattle.check_verdict.specs.Filters.{Best}
+use Rattle.trust_lists.specs.Asking.{Asked}
+use Rattle.check_verdict.specs.Trusted.{Holds, asked}
+use Rattle.check_verdict.specs.Filters.{Comes, Best}
 use Rattle.check_verdict.specs.Stages.{passed_for_signer}
 use Rattle.check_verdict.specs.Passing.{Terms, Vouched, Passes}
 use Rattle.check_verdict.specs.TokenRules.{TokenFails}
 use Rattle.check_verdict.specs.Verdicts.{IsLeast}
+use Rattle.check_verdict.specs.declared.filter.SignerFilter.{SignerFilter}
 use Rattle.check_verdict.specs.declared.tally.Tally.{Tally}
 
 -- the entry is a signer's and matches, and holds at the moment if one is given
@@ -31,6 +33,21 @@ LeftAt t s attributes moment (suc zero) e = IsSignersAt s moment e
 LeftAt t s attributes moment (suc (suc zero)) e = IsSignersAt s moment e × NamesIfAny attributes e.certificate
 LeftAt t s attributes moment (suc (suc (suc n))) e = (IsSignersAt s moment e × NamesIfAny attributes e.certificate)
     × Vouched t e s attributes
+
+-- by these answers the entry comes so far for a signer with signed attributes, at this moment or at any one
+abbrev pub ComesForSigner : {Fault : Type 0} → (vouches : Asked → Bool) → SignerValue → (moment : Option ℕ)
+    → EntryValue → Result (Option SignerFilter) Fault → Type 0
+ComesForSigner vouches s moment e result = (t : Terms) → t.vouches ≡ vouches → (attributes : List AttributeValue)
+    → s.signed_attributes ≡ Some attributes
+    → IfOk result (λ failed. Comes (LeftAt t s attributes moment) 3 e (passed_for_signer failed))
+
+-- nothing was asked but about such a signer under this entry, and only if the entry passes S7 and S8
+abbrev pub AsksForSigner : (OnlyAsked : (Asked → Bool) → Type 0) → SignerValue → (moment : Option ℕ) → EntryValue
+    → Type 0
+AsksForSigner OnlyAsked s moment e = (test : Asked → Bool) → (attributes : List AttributeValue)
+    → s.signed_attributes ≡ Some attributes
+    → (IsSignersAt s moment e → NamesIfAny attributes e.certificate → test (asked e.certificate s attributes) ≡ true)
+    → OnlyAsked test
 
 -- one of these tokens passes with this moment
 abbrev pub StampedBy : Terms → SignerValue → List (List ℕ) → ℕ → Type 0

@@ -10,7 +10,7 @@ ghost use Rattle.check_verdict.specs.Trusted.{Holds, asked};
 ghost use Rattle.trust_lists.specs.Asking.{Asked};
 ghost use Rattle.trust_lists.specs.Entries.{EntryValue};
 ghost use Rattle.check_names.specs.Naming.{NamesIfAny};
-ghost use Rattle.check_verdict.specs.SignerStages.{LeftAt, IsSignersAt};
+ghost use Rattle.check_verdict.specs.SignerStages.{LeftAt, IsSignersAt, ComesForSigner, AsksForSigner};
 
 use crate::asking::{holds_under, question_of};
 use crate::candidates::next_candidate;
@@ -76,15 +76,8 @@ fn stage_under<V: Verifier>(
 ) -> Result<Option<SignerFilter>, AskFault>
     requires place { slice_get hashed.old place ≡ Some entry.now }
     requires certificate { certificate.now ≡ entry.now.certificate }
-    ensures stage { (t : Terms) → t.vouches ≡ V.vouches verifier.old → (attributes : List AttributeValue)
-        → signer.now.signed_attributes ≡ Some attributes
-        → IfOk result (λ failed. Comes (LeftAt t signer.now attributes moment.now) 3 entry.now
-        (passed_for_signer failed)) }
-    ensures only { (test : Asked → Bool) → (attributes : List AttributeValue)
-        → signer.now.signed_attributes ≡ Some attributes
-        → (IsSignersAt signer.now moment.now entry.now → NamesIfAny attributes entry.now.certificate
-        → test (asked entry.now.certificate signer.now attributes) ≡ true)
-        → V.asked_only test verifier.old verifier.new }
+    ensures stage { ComesForSigner (V.vouches verifier.old) signer.now moment.now entry.now result }
+    ensures only { AsksForSigner (λ test. V.asked_only test verifier.old verifier.new) signer.now moment.now entry.now }
     ensures same { V.vouches verifier.new ≡ V.vouches verifier.old }
     ensures count { Counts result (V.failures verifier.old) (V.failures verifier.new) }
     ensures listed { hashed.new ≡ hashed.old }
@@ -114,15 +107,8 @@ fn signer_stage<'l, V: Verifier>(
     verifier: &mut V,
 ) -> Result<Option<SignerFilter>, AskFault>
     requires place { slice_get checker.old.trust place ≡ Some entry.now }
-    ensures stage { (t : Terms) → t.vouches ≡ V.vouches verifier.old → (attributes : List AttributeValue)
-        → signer.now.signed_attributes ≡ Some attributes
-        → IfOk result (λ failed. Comes (LeftAt t signer.now attributes moment.now) 3 entry.now
-        (passed_for_signer failed)) }
-    ensures only { (test : Asked → Bool) → (attributes : List AttributeValue)
-        → signer.now.signed_attributes ≡ Some attributes
-        → (IsSignersAt signer.now moment.now entry.now → NamesIfAny attributes entry.now.certificate
-        → test (asked entry.now.certificate signer.now attributes) ≡ true)
-        → V.asked_only test verifier.old verifier.new }
+    ensures stage { ComesForSigner (V.vouches verifier.old) signer.now moment.now entry.now result }
+    ensures only { AsksForSigner (λ test. V.asked_only test verifier.old verifier.new) signer.now moment.now entry.now }
     ensures same { V.vouches verifier.new ≡ V.vouches verifier.old }
     ensures count { Counts result (V.failures verifier.old) (V.failures verifier.new) }
     ensures stays { checker.new ≡ checker.old }

@@ -10,6 +10,7 @@ ghost use Rattle.trust_lists.specs.Asking.{Asked};
 ghost use Rattle.trust_lists.specs.Entries.{EntryValue};
 ghost use Rattle.check_verdict.specs.Trusted.{asked};
 ghost use Rattle.check_verdict.specs.TokenRules.{LeftForToken, IsInPeriod};
+ghost use Rattle.check_verdict.specs.TokenStages.{ComesForToken, AsksForToken};
 
 use crate::asking::{holds_under, question_of};
 use crate::candidates::next_candidate;
@@ -91,11 +92,8 @@ fn stage_under<V: Verifier>(
     requires place { slice_get hashed.old place ≡ Some entry.now }
     requires certificate { certificate.now ≡ entry.now.certificate }
     requires stamping { IsTrue known → IsStampingOnly certificate.now }
-    ensures stage { (t : Terms) → t.vouches ≡ V.vouches verifier.old
-        → IfOk result (λ failed. Comes (LeftForToken t claim.now) 5 entry.now (passed_for_token failed)) }
-    ensures only { (test : Asked → Bool) → (IsInPeriod claim.now entry.now
-        → test (asked entry.now.certificate claim.now.signer claim.now.attributes) ≡ true)
-        → V.asked_only test verifier.old verifier.new }
+    ensures stage { ComesForToken (V.vouches verifier.old) claim.now entry.now result }
+    ensures only { AsksForToken (λ test. V.asked_only test verifier.old verifier.new) claim.now entry.now }
     ensures same { V.vouches verifier.new ≡ V.vouches verifier.old }
     ensures count { Counts result (V.failures verifier.old) (V.failures verifier.new) }
     ensures listed { hashed.new ≡ hashed.old }
@@ -124,11 +122,8 @@ fn token_stage<'l, V: Verifier>(
     verifier: &mut V,
 ) -> Result<Option<TokenFilter>, AskFault>
     requires place { slice_get checker.old.trust place ≡ Some entry.now }
-    ensures stage { (t : Terms) → t.vouches ≡ V.vouches verifier.old
-        → IfOk result (λ failed. Comes (LeftForToken t claim.now) 5 entry.now (passed_for_token failed)) }
-    ensures only { (test : Asked → Bool) → (IsInPeriod claim.now entry.now
-        → test (asked entry.now.certificate claim.now.signer claim.now.attributes) ≡ true)
-        → V.asked_only test verifier.old verifier.new }
+    ensures stage { ComesForToken (V.vouches verifier.old) claim.now entry.now result }
+    ensures only { AsksForToken (λ test. V.asked_only test verifier.old verifier.new) claim.now entry.now }
     ensures same { V.vouches verifier.new ≡ V.vouches verifier.old }
     ensures count { Counts result (V.failures verifier.old) (V.failures verifier.new) }
     ensures stays { checker.new ≡ checker.old }

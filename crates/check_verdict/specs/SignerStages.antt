@@ -75,6 +75,11 @@ pub record Tallied (t : Terms) (s : SignerValue) (attributes : List AttributeVal
   pub stamped : tally.is_stamped ≡ true → (m : ℕ) × StampedBy t s tokens m
   pub failed : tally.is_stamped ≡ false → FailedBy t s tokens tally.first_failed
 
+-- under these terms these tokens of a signer with signed attributes were tallied
+abbrev pub AreTallied : {Fault : Type 0} → Terms → SignerValue → (tokens : List (List ℕ)) → Result Tally Fault → Type 0
+AreTallied terms s tokens result = (t : Terms) → t ≡ terms → (attributes : List AttributeValue)
+    → s.signed_attributes ≡ Some attributes → IfOk result (Tallied t s attributes tokens)
+
 -- the earlier of a moment, if there is one, and another
 abbrev pub IsEarlier : Option ℕ → ℕ → ℕ → Type 0
 IsEarlier None m k = k ≡ m

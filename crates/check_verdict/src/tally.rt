@@ -8,7 +8,7 @@ ghost use Rattle.check_verdict.specs.Passing.{Terms};
 ghost use Rattle.check_verdict.specs.Verdicts.{tokens};
 ghost use Rattle.check_fit.specs.Fitting.{Fits};
 ghost use Rattle.check_verdict.specs.Asks.{IsAskedOf, AsksOnly};
-ghost use Rattle.check_verdict.specs.SignerStages.{Tallied, IsEarlier};
+ghost use Rattle.check_verdict.specs.SignerStages.{Tallied, IsEarlier, AreTallied};
 ghost use Rattle.check_verdict.specs.Stages.{passed_for_signer};
 ghost use Rattle.check_verdict.specs.Checkers.{terms_for};
 
@@ -118,9 +118,8 @@ pub(crate) fn tally_of<V: Verifier>(
     checker: &mut Checker,
     verifier: &mut V,
 ) -> Result<Tally, AskFault>
-    ensures tallied { (t : Terms) → t ≡ terms_for checker.old (V.vouches verifier.old)
-        → (attributes : List AttributeValue) → signer.now.signed_attributes ≡ Some attributes
-        → IfOk result (Tallied t signer.now attributes (tokens signer.now)) }
+    ensures tallied { AreTallied (terms_for checker.old (V.vouches verifier.old)) signer.now (tokens signer.now)
+        result }
     ensures only { (t : Terms) → t ≡ terms_for checker.old (V.vouches verifier.old)
         → (content econtent_type : List ℕ) → Fits t.policy content econtent_type signer.now
         → AsksOnly (λ test. V.asked_only test verifier.old verifier.new)

@@ -49,8 +49,11 @@ pub struct Told {
 impl Told {
     /// There is no text.
     pub fn without_text(status: u32, said: Answer) -> Told
+        // The status is this one.
         ensures status { result.status ≡ status }
+        // The text has no octet.
         ensures size { result.size ≡ 0 }
+        // The answer is this one.
         ensures said { result.said ≡ said }
     {
         Told {
@@ -140,7 +143,9 @@ fn numbers_of(answer: &Result<Accepted, Refused>) -> Answer
 
 /// Says an answer in numbers and by its status, and puts its line into the room, if there is any.
 pub fn tell_verdict(alloc: Global, answer: &Result<Accepted, Refused>, room: &mut [u8]) -> Told
+    // The answer in numbers.
     ensures said { result.said ≡ numbers_of answer.now }
+    // Its status, and its line if there is room for it.
     ensures line { Tells answer.now result.status room.old result.size room.new }
 {
     let said = numbers_of(answer);

@@ -120,10 +120,7 @@ impl<'l, K: Known> Recent<'l, K> {
         requires known { K.known certificate }
         ensures { self.new ≡ self.old }
     {
-        let kept = Some(Kept {
-            place,
-            certificate,
-        });
+        let kept = Some(Kept { place, certificate });
         let filled = self.filled % 4;
         match filled {
             0 => self.first = kept,

@@ -30,7 +30,7 @@ VERBS = ("read", "write", "make", "ask")  # what the methods are called that rea
 DEVICES = ("telling",)  # the clauses that say of a device what the document says of all
 READS = ("Certificate::read", "SigningCert::read_v1", "SigningCert::read_v2", "cmsproof_check", "cmsproof_check_token")
 # devices, verifiers for tests, parts of other types, calls that judge nothing, and those of cli_commands that cli_files makes
-LEFT_OUT = ("Sink", "Source", "ExpectingVerifier", "FusedVerifier", "Int", "Oid", "Signers", "print")
+LEFT_OUT = ("Sink", "Source", "FusedVerifier", "Int", "Oid", "Signers", "print")
 LEFT_OUT += ("answers_in", "ask_by", "check_by", "text_of", "trust_in")
 TEXTS = ("Display", "Debug")  # the traits that print
 EXACT = "The exact text."

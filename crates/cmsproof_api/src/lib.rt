@@ -34,8 +34,7 @@ pub use devices::{
 pub use digests::{Alg, Algs, Digest, digest};
 pub use lines_report::report;
 pub use list_answers::{
-    Answers, AnswersFault, AnswersRule, AskFault, ExpectingVerifier, FusedVerifier, Question,
-    Verifier,
+    Answers, AnswersFault, AnswersRule, AskFault, FusedVerifier, Question, Verifier,
 };
 pub use trust_lists::{Entry, Role, Trust, TrustFault, TrustRule};
 pub use tsp_requester::{AttachFault, MatchFault, answers, attach};

@@ -21,7 +21,3 @@ is_same_question a b = is_same a.key b.key && is_same a.digest_alg b.digest_alg
 -- the question is one of these
 abbrev pub is_among : List Asked → Asked → Bool
 is_among asked q = list_any (is_same_question q) asked
-
--- all questions for which the test is true are expected
-abbrev pub AreExpected : (test expected : Asked → Bool) → Type 0
-AreExpected test expected = (q : Asked) → test q ≡ true → expected q ≡ true

@@ -7,7 +7,6 @@ mod answer_lines;
 mod answers;
 mod answers_fault;
 mod digit_lanes;
-mod expecting;
 mod fused;
 mod hexadecimal;
 mod laws;
@@ -18,7 +17,6 @@ mod written;
 
 pub use answers::Answers;
 pub use answers_fault::{AnswersFault, AnswersRule};
-pub use expecting::ExpectingVerifier;
 pub use fused::FusedVerifier;
 pub use hexadecimal::{Digits, are_pairs, decode};
 pub use laws::rows_hold;

@@ -1,10 +1,11 @@
 //! Digests of messages in one piece, in many and from sources, by all algorithms and by some.
 use crate::names::named;
 use crate::told::found;
-use devices::{Failing, FromRead, Pieces, Slice, Source};
+use devices::{FromRead, Pieces, Slice, Source};
 use digests::Alg::{self, Sha1, Sha224, Sha256, Sha384, Sha512, Sha512_224, Sha512_256};
 use digests::{Algs, All, Digest, Wanted, digest};
 use vectors::{Bad, Done, Row, Said};
+use vectors_doubles::Failing;
 
 /// All algorithms, in the order of each table of digests.
 const ALGS: [Alg; 7] = [Sha1, Sha224, Sha256, Sha384, Sha512, Sha512_224, Sha512_256];

@@ -3,13 +3,14 @@ use crate::found::pass;
 use crate::terms::Terms;
 use cms_stream::listed_algorithms;
 use cmsproof_api::{
-    Alg, Algs, Checker, ExpectingVerifier, FusedVerifier, Pass, Source, Verifier, check,
-    check_signer, check_stream, check_stream_by, fits, questions, questions_stream,
+    Alg, Algs, Checker, FusedVerifier, Pass, Source, Verifier, check, check_signer, check_stream,
+    check_stream_by, fits, questions, questions_stream,
 };
 use der_time::generalized_text;
 use devices::{FromWrite, Fused, Pieces};
 use lines_shown::show_signed;
 use vectors::{Bad, number_of};
+use vectors_doubles::ExpectingVerifier;
 
 /// The sources of a file, and of a content if one is handed in.
 #[derive(Drop)]

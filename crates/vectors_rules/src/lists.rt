@@ -1,9 +1,10 @@
 //! What trust lists and answers lists are read as, and what verifiers answer by them.
 use der_time::{Moment, generalized_text};
 use devices::FromWrite;
-use list_answers::{Answers, ExpectingVerifier, FusedVerifier, Question, Verifier};
+use list_answers::{Answers, FusedVerifier, Question, Verifier};
 use trust_lists::{Role, Trust};
 use vectors::{Bad, Row, needed};
+use vectors_doubles::ExpectingVerifier;
 
 /// The text of a value, in which `;` ends a line.
 pub fn lines(row: &Row<'_>, name: &str) -> Result<String, Bad> {

@@ -1,9 +1,10 @@
 //! Sources hand out all in order, or fail and count it.
 use crate::tests::OCTETS;
-use devices::{Failing, FromRead, Fused, Pieces, Slice, Source, SourceFault};
+use devices::{FromRead, Fused, Pieces, Slice, Source, SourceFault};
 use std::alloc::Global;
 use std::io::{self, Read};
 use std::test::Fail;
+use vectors_doubles::Failing;
 
 /// Hands out at most this many octets at each call, and counts its calls; one of them and all later ones fail.
 #[derive(Drop)]

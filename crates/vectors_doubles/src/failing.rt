@@ -1,7 +1,7 @@
 ghost use Rattle.std.specs.Prelude.{◌≡◌, ◌↔◌, ◌⊎◌, ◌<◌, ◌≤◌, [], length, take, IfOk, IsErr};
 ghost use Rattle.devices.specs.Device.{Counts, Hands, raised};
 
-use crate::source::{Source, SourceFault};
+use devices::{Source, SourceFault};
 
 /// A source that hands out what another source gives, but fails at the end of the other one. Tests use it as a device
 /// that breaks in the middle. It is known what is still to come (`tells`) if that is known of the other source.

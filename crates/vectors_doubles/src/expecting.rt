@@ -1,11 +1,10 @@
 ghost use Rattle.std.specs.Prelude.{◌≡◌, ◌||◌, refl, Bool, true, false, not, IfOk};
 ghost use Rattle.std.proofs.Common.{◌∙◌};
 ghost use Rattle.devices.specs.Device.{Counts};
-ghost use Rattle.list_answers.specs.Asking.{Asked, is_among, AreExpected};
+ghost use Rattle.list_answers.specs.Asking.{Asked, is_among};
+ghost use Rattle.vectors_doubles.specs.Expecting.{AreExpected};
 
-use crate::answers::Answers;
-use crate::question::Question;
-use crate::verifier::{AskFault, Verifier};
+use list_answers::{Answers, AskFault, Question, Verifier};
 
 /// A verifier that passes each question on to another one, and records whether a question was asked that isn't
 /// expected. This shows which questions a caller asks at most.

@@ -5,7 +5,8 @@
 
 Comments, white space and proofs don't count, nor whether a line goes on in the next one, further in by four, or a list of
 names in a second `use`: of code (.rt) and definitions (.antt) what is left without comments is compared, of an edit the lines
-that are read. What can't be told apart for sure counts as a change. `soak.py` uses this.
+that are read. Nor does it count that a module, or a definition that its file names no more, went as a whole: what is left is as it
+was, and no proof can cite what is gone. What can't be told apart for sure counts as a change. `soak.py` uses this.
 """
 
 import argparse
@@ -34,6 +35,9 @@ CODE = re.compile(
 )
 BLOCK_MARK = re.compile(r"/\*|\*/")
 USE = re.compile(r"^((?:pub |unfoldable |ghost )*use [\w.]+\{)([^{}]*)(\};?)$", re.M)
+ROOTS = ("lib.rt", "main.rt", "Lib.antt")
+MODULE = re.compile(r"(?:pub )?mod \w+ ?;|pub use [\w:]+ ?;")  # what a root of code says of a module
+DEFINED = re.compile(r"(?:pub use .*\{|pub mod |(?:abbrev )?(?:pub )?)(\w+)")  # the name that a line of definitions is of
 FURTHER = 4  # how much further in rt fmt sets a line that goes on; what stands in a block is further in by two
 DEFINITION = re.compile(r'"(?:[^"\\]|\\.)*"|(?P<comment>(?<!\S)--(?!\S).*)|(?P<space>\s+)|.')
 
@@ -244,12 +248,45 @@ def is_change(history, commit, top, path):
     return meaning(path, place.read_bytes()) != meaning(path, history.octets(commit, path))
 
 
+def less_code(before, after):
+    """Whether code differs in nothing but that it says less of modules."""
+    gone = set(MODULE.findall(before)) - set(MODULE.findall(after))
+
+    def left(text):
+        return " ".join(MODULE.sub(lambda found: "" if found.group() in gone else found.group(), text).split())
+
+    return bool(gone) and left(before) == left(after)
+
+
+def less_definitions(before, after):
+    """Whether definitions differ in nothing but that some are gone, whose names are nowhere in what is left."""
+    lines, left, names = before.split("\n"), after.split("\n"), set(re.findall(r"\w+", after))
+    gone = [line for line in lines if line not in left]
+    found = [DEFINED.match(line) for line in gone]
+    return [line for line in lines if line in left] == left and all(it and it.group(1) not in names for it in found)
+
+
+def is_only_less(history, commit, top, path):
+    """Whether all that changed in a file is that it went as a whole and is no root, or that what it said of modules did, or
+    definitions that it names no more."""
+    place, name = top / path, pathlib.PurePath(path).name
+    if place.is_symlink() or path not in history.listed(commit):
+        return False
+    if not place.exists():
+        return name not in ROOTS
+    before, after = meaning(path, history.octets(commit, path)), meaning(path, place.read_bytes())
+    if path.endswith(".antt"):
+        return "{-" not in before and less_definitions(before, after)
+    return name in ROOTS and less_code(before, after)
+
+
 def changed_text(history, commit, top, crate):
     """The files of code and definitions of a crate whose meaning changed since a commit, and crates.txt if its line there says
     something else."""
     if (commit, crate) not in history.changed:
         files = differing(history, commit, top, crate, MEANT)
         changed = [path for path in files if is_change(history, commit, top, path)]
+        changed = [path for path in changed if not is_only_less(history, commit, top, path)]
         earlier = history.octets(commit, LISTING).decode() if LISTING in history.listed(commit) else ""
         if lines_of(earlier).get(crate) != lines_of((top / LISTING).read_text()).get(crate):
             changed.append(LISTING)

@@ -11,7 +11,7 @@ from pathlib import Path
 
 TOOLS = Path(__file__).resolve().parent.parent
 sys.path.insert(0, str(TOOLS))
-from changes import meaning  # noqa: E402
+from changes import less_code, less_definitions, meaning  # noqa: E402
 
 # It refuses each edit, but for those that say otherwise, and notes what it was asked.
 STAND_IN = f"""#!{sys.executable}
@@ -42,6 +42,7 @@ FILES = {
     "crates.txt": "# crates\nhigh: low kit\nlow: kit\nbeside: low\n",
     "HANDLES": "Handles allowed: none.\n",
     "crates/low/src/lib.rt": CODE,
+    "crates/low/src/beside.rt": "fn beside() {}\n",
     "crates/low/specs/Low.antt": "-- what low is\nlow : N\nlow = f 1\n  where f = id\n",
     "crates/low/proofs/Low.antt": "proof = refl\n",
     "crates/low/must-fail/two.edit": "file: src/lib.rt\nold: 1\nnew: 2\n",
@@ -179,6 +180,32 @@ class Meanings(unittest.TestCase):
         (".bin", "// a", "// b"),
     ]
 
+    # whether the second says what the first does, but for modules or definitions that are gone
+    LESS_CODE = [
+        ("#![a] mod b; mod c; pub use b::d; pub use c::e;", "#![a] mod c; pub use c::e;", True),
+        ("mod b; mod c;", "mod c; mod b;", False),
+        ("mod b; mod c;", "mod c; mod d;", False),
+        ("mod b; mod c; fn a() {}", "mod c;", False),
+        ("mod b; mod c; const A: u8 = 1;", "mod c; const A: u8 = 2;", False),
+        ("pub use a::{b, c};", "pub use a::{b};", False),
+        ("mod b;", "mod b;", False),
+    ]
+    LESS_DEFINITIONS = [
+        ("abbrev pub a : T\na x = y\nb = c", "b = c", True),
+        ("abbrev pub a : T\na x = y\nb = a", "b = a", False),
+        ("a = b\nc = d", "c = e", False),
+        ("record a where\n  pub b : T\n  pub c : T", "record a where\n  pub b : T", False),
+        ("pub use d.{a}\npub use d.{b}", "pub use d.{b}", True),
+        ("pub mod A\npub mod B", "pub mod B", True),
+        ("a = b\nc = d", "c = d\na = b", False),
+    ]
+
+    def test_what_went_as_a_whole(self):
+        for is_less, rows in ((less_code, self.LESS_CODE), (less_definitions, self.LESS_DEFINITIONS)):
+            for before, after, wanted in rows:
+                with self.subTest(before=before, after=after):
+                    self.assertEqual(is_less(before, after), wanted)
+
     def test_comments_and_layout(self):
         for is_same, rows in ((True, self.SAME), (False, self.OTHER)):
             for suffix, one, other in rows:
@@ -200,6 +227,8 @@ class Changed(Repository):
         ({"crates/low/src/lib.rt": CODE.replace("// b", "// c")}, ["low", "high"]),
         ({"crates/low/src/lib.rt": None}, ["low", "high"]),
         ({"crates/low/src/other.rt": ""}, ["low", "high"]),
+        ({"crates/low/src/beside.rt": None}, []),
+        ({"crates/low/src/beside.rt": None, "crates/low/src/lib.rt": CODE.replace("1", "3")}, ["low", "high"]),
         ({"crates/low/specs/Low.antt": FILES["crates/low/specs/Low.antt"].replace("what low is", "low")}, []),
         ({"crates/low/specs/Low.antt": FILES["crates/low/specs/Low.antt"].replace("1", "2")}, ["low", "high"]),
         ({"crates/low/proofs/Low.antt": "proof = sym refl\n"}, []),

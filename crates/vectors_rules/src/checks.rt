@@ -8,11 +8,12 @@ use check_verdict::check_token;
 use cms_compare::compare;
 use cms_types::SignedData;
 use der_time::generalized_text;
-use devices::{Failing, FromRead, Pieces, Slice, Source};
+use devices::{FromRead, Pieces, Slice, Source};
 use list_answers::FusedVerifier;
 use tsp_requester::answers;
 use tsp_types::{Request, Response};
 use vectors::{Bad, Row, needed};
+use vectors_doubles::Failing;
 
 /// The file of a row; or one with the content `abc` and one signer (RFC 5652 5.1, 5.3) with the row's identifier, or
 /// the issuer `CN=A` and the serial number 5; its digest algorithm, or SHA-256; and its signed attributes, or none if

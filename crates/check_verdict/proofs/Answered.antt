@@ -17,10 +17,10 @@ use Rattle.check_fit.specs.declared.rules.Refused.{Refused}
 use Rattle.check_fit.specs.declared.rules.Refused.TheVariants as refused
 use Rattle.check_verdict.specs.Trusted.{asked}
 use Rattle.check_verdict.specs.Filters.{StopsAt}
-use Rattle.check_verdict.specs.Passing.{Terms, StampedUnder, Passes}
+use Rattle.check_verdict.specs.Passing.{Terms, Due, of_octets, StampedUnder, PassesFor, Passes}
 use Rattle.check_verdict.specs.TokenRules.{Reads, TokenClaim, IsClaim, claimed, token_claim, LeftForToken, RunsOut}
-use Rattle.check_verdict.specs.TokenRules.{TokenFails}
-use Rattle.check_verdict.specs.Asks.{IsAskedOfToken, IsAskedOfSigner, IsAskedIn}
+use Rattle.check_verdict.specs.TokenRules.{TokenFailsFor}
+use Rattle.check_verdict.specs.Asks.{IsAskedFor, IsAskedOfToken, IsAskedOfSigner, IsAskedIn}
 use Rattle.check_verdict.specs.Questions.{with_answers}
 use Rattle.check_verdict.specs.Verdicts.{tokens, IsStamped, SignedUnder, Signs, IsMoment, SignerPasses, Accepts}
 use Rattle.check_verdict.specs.Verdicts.{IsSigners}
@@ -56,17 +56,17 @@ attributes_there o a e = rw e refl
 abbrev made : SignerValue → List AttributeValue → ℕ → TokenClaim
 made s attributes moment = record { signer = s; attributes = attributes; moment = moment }
 
-abbrev claim_of : (t : Terms) (token stamped : List ℕ) (m : ℕ) → Passes t token stamped m → TokenClaim
-claim_of t token stamped m p = made p.signer p.attributes m
+abbrev claim_of : (t : Terms) (token : List ℕ) (due : Due) (m : ℕ) → PassesFor t token due m → TokenClaim
+claim_of t token due m p = made p.signer p.attributes m
 
-claim_is : (t : Terms) (token stamped : List ℕ) (m : ℕ) (p : Passes t token stamped m)
-    → claimed p.signer p.stamp ≡ claim_of t token stamped m p
-claim_is t token stamped m p = ap₂ (λ (a : List AttributeValue) (n : ℕ). made p.signer a n)
+claim_is : (t : Terms) (token : List ℕ) (due : Due) (m : ℕ) (p : PassesFor t token due m)
+    → claimed p.signer p.stamp ≡ claim_of t token due m p
+claim_is t token due m p = ap₂ (λ (a : List AttributeValue) (n : ℕ). made p.signer a n)
     (attributes_there p.signer.signed_attributes p.attributes p.has) p.moment
 
-reads_of : (t : Terms) (token stamped : List ℕ) (m : ℕ) (p : Passes t token stamped m)
+reads_of : (t : Terms) (token : List ℕ) (due : Due) (m : ℕ) (p : PassesFor t token due m)
     → Reads token (Ok p.signed) (Ok p.stamp)
-reads_of t token stamped m p = record {
+reads_of t token due m p = record {
   is_signed = p.encodes;
   is_stamp = λ v content e present. subst (λ (c : List ℕ). EncodesTst c p.stamp)
       (same_content p.content content v.encapsulated.content
@@ -74,16 +74,16 @@ reads_of t token stamped m p = record {
       present) p.encodes_stamp;
 }
 
-states : (t : Terms) (token stamped : List ℕ) (m : ℕ) (p : Passes t token stamped m)
-    → token_claim t.policy stamped (Ok p.signed) (Ok p.stamp) ≡ Ok (claim_of t token stamped m p)
-states t token stamped m p =
-    passing_claim t token stamped m p (Ok p.signed) (Ok p.stamp) (reads_of t token stamped m p)
-    ∙ ap (λ (c : TokenClaim). claim_ok c) (claim_is t token stamped m p)
+states : (t : Terms) (token : List ℕ) (due : Due) (m : ℕ) (p : PassesFor t token due m)
+    → token_claim t.policy due (Ok p.signed) (Ok p.stamp) ≡ Ok (claim_of t token due m p)
+states t token due m p =
+    passing_claim t token due m p (Ok p.signed) (Ok p.stamp) (reads_of t token due m p)
+    ∙ ap (λ (c : TokenClaim). claim_ok c) (claim_is t token due m p)
 
-passes : (t : Terms) (w : Asked → Bool) (token stamped : List ℕ) (m : ℕ)
-    → Agree (IsAskedOfToken t.policy t.trust stamped token) t.vouches w
-    → Passes t token stamped m → Passes (with_answers t w) token stamped m
-passes t w token stamped m same p = record {
+pub passes : (t : Terms) (w : Asked → Bool) (token : List ℕ) (due : Due) (m : ℕ)
+    → Agree (IsAskedFor t.policy t.trust due token) t.vouches w
+    → PassesFor t token due m → PassesFor (with_answers t w) token due m
+passes t w token due m same p = record {
   signed = p.signed;
   encodes = p.encodes;
   econtent_type = p.econtent_type;
@@ -107,8 +107,8 @@ passes t w token stamped m same p = record {
         purpose = s.purpose;
         period = s.period;
         vouched = sym (same (asked e.certificate p.signer p.attributes) (record {
-          claim = claim_of t token stamped m p;
-          is_claim = (Ok p.signed, Ok p.stamp, reads_of t token stamped m p, sym (states t token stamped m p));
+          claim = claim_of t token due m p;
+          is_claim = (Ok p.signed, Ok p.stamp, reads_of t token due m p, sym (states t token due m p));
           entry = e;
           trusted = c;
           passed = ((((s.role, s.matches), s.named), s.purpose), s.period);
@@ -126,32 +126,32 @@ stops-along Left Left' total es n f b h = record {
   none = all-along (λ e. Left (n + 1) e → ⊥) (λ e. Left' (n + 1) e → ⊥) es (λ e c no p. no (b (n + 1) e c p)) h.none;
 }
 
-token_left : (t : Terms) (w : Asked → Bool) (token stamped : List ℕ) (c : TokenClaim)
-    → IsClaim t.policy stamped token (Ok c)
-    → Agree (IsAskedOfToken t.policy t.trust stamped token) t.vouches w → (k : ℕ) (e : EntryValue) → Contains t.trust e
+token_left : (t : Terms) (w : Asked → Bool) (token : List ℕ) (due : Due) (c : TokenClaim)
+    → IsClaim t.policy due token (Ok c)
+    → Agree (IsAskedFor t.policy t.trust due token) t.vouches w → (k : ℕ) (e : EntryValue) → Contains t.trust e
     → LeftForToken t c k e
     → LeftForToken (with_answers t w) c k e
-token_left t w token stamped c claim same zero e k p = tt
-token_left t w token stamped c claim same (suc zero) e k p = p
-token_left t w token stamped c claim same (suc (suc zero)) e k p = p
-token_left t w token stamped c claim same (suc (suc (suc zero))) e k p = p
-token_left t w token stamped c claim same (suc (suc (suc (suc zero)))) e k p = p
-token_left t w token stamped c claim same (suc (suc (suc (suc (suc n))))) e k p = (
+token_left t w token due c claim same zero e k p = tt
+token_left t w token due c claim same (suc zero) e k p = p
+token_left t w token due c claim same (suc (suc zero)) e k p = p
+token_left t w token due c claim same (suc (suc (suc zero))) e k p = p
+token_left t w token due c claim same (suc (suc (suc (suc zero)))) e k p = p
+token_left t w token due c claim same (suc (suc (suc (suc (suc n))))) e k p = (
   p.0,
   sym (same (asked e.certificate c.signer c.attributes)
       (record { claim = c; is_claim = claim; entry = e; trusted = k; passed = p.0; is = refl })) ∙ p.1,
 )
 
-token_fails : (t : Terms) (w : Asked → Bool) (token stamped : List ℕ) (failed : TokenRule)
-    → Agree (IsAskedOfToken t.policy t.trust stamped token) t.vouches w → TokenFails t token stamped failed
-    → TokenFails (with_answers t w) token stamped failed
-token_fails t w token stamped failed same f =
+pub token_fails : (t : Terms) (w : Asked → Bool) (token : List ℕ) (due : Due) (failed : TokenRule)
+    → Agree (IsAskedFor t.policy t.trust due token) t.vouches w → TokenFailsFor t token due failed
+    → TokenFailsFor (with_answers t w) token due failed
+token_fails t w token due failed same f =
     record { signed = f.signed; stamp = f.stamp; reads = f.reads; first = by_rule f.first }
   where
-    by_rule : ((token_claim t.policy stamped f.signed f.stamp ≡ Err failed)
-        ⊎ ((c : TokenClaim) × (token_claim t.policy stamped f.signed f.stamp ≡ Ok c) × RunsOut t c failed))
-        → (token_claim t.policy stamped f.signed f.stamp ≡ Err failed)
-        ⊎ ((c : TokenClaim) × (token_claim t.policy stamped f.signed f.stamp ≡ Ok c)
+    by_rule : ((token_claim t.policy due f.signed f.stamp ≡ Err failed)
+        ⊎ ((c : TokenClaim) × (token_claim t.policy due f.signed f.stamp ≡ Ok c) × RunsOut t c failed))
+        → (token_claim t.policy due f.signed f.stamp ≡ Err failed)
+        ⊎ ((c : TokenClaim) × (token_claim t.policy due f.signed f.stamp ≡ Ok c)
         × RunsOut (with_answers t w) c failed)
     by_rule (inl e) = inl e
     by_rule (inr (c, e, out)) = inr (
@@ -160,8 +160,8 @@ token_fails t w token stamped failed same f =
       record {
         filter = out.filter;
         stops = stops-along (LeftForToken t c) (LeftForToken (with_answers t w) c) 5 t.trust out.filter
-            (token_left t w token stamped c (f.signed, f.stamp, f.reads, sym e) same)
-            (token_left (with_answers t w) t.vouches token stamped c (f.signed, f.stamp, f.reads, sym e)
+            (token_left t w token due c (f.signed, f.stamp, f.reads, sym e) same)
+            (token_left (with_answers t w) t.vouches token due c (f.signed, f.stamp, f.reads, sym e)
             (λ q k. sym (same q k))) out.stops;
         is = out.is;
       },
@@ -189,7 +189,7 @@ stamped_along : (t : Terms) (w : Asked → Bool) (s : SignerValue) (m : ℕ) →
     → IsStamped (with_answers t w) s m
 stamped_along t w s m h =
     along (λ x. Passes t x s.signature m) (λ x. Passes (with_answers t w) x s.signature m) (tokens s)
-    (λ x c p. passes t w x s.signature m (h x c) p)
+    (λ x c p. passes t w x (of_octets s.signature) m (h x c) p)
 
 stamped_back : (t : Terms) (w : Asked → Bool) (s : SignerValue) (m : ℕ) → AgreeOnTokens t s w
     → IsStamped (with_answers t w) s m → IsStamped t s m
@@ -310,7 +310,7 @@ module _ (content econtent_type : List ℕ) where
         others = f.others;
         are = f.are;
         is_first = f.is_first;
-        fails = token_fails t w f.first s.signature failed (h.token f.first among) f.fails;
+        fails = token_fails t w f.first (of_octets s.signature) failed (h.token f.first among) f.fails;
       }
 
   first_bad : (t : Terms) (w : Asked → Bool) (signers : List SignerValue) (number : ℕ) (P Q : SignerValue → Type 0)

@@ -11,29 +11,30 @@ use Rattle.trust_lists.specs.Entries.{EntryValue}
 use Rattle.trust_lists.specs.Asking.{Asked}
 use Rattle.check_names.specs.Naming.{NamesIfAny}
 use Rattle.check_verdict.specs.Trusted.{asked}
-use Rattle.check_verdict.specs.Passing.{Terms, Passes}
+use Rattle.check_verdict.specs.Passing.{Terms, Due, of_octets, Passes}
 use Rattle.check_verdict.specs.Verdicts.{tokens, IsStamped}
 use Rattle.check_verdict.specs.SignerStages.{IsSignersAt}
-use Rattle.check_verdict.specs.Asks.{IsAskedOfToken, IsAskedOf, IsAskedIn, AsksOnly}
+use Rattle.check_verdict.specs.Asks.{IsAskedFor, IsAskedOfToken, IsAskedOf, IsAskedIn, AsksOnly}
 use Rattle.check_verdict.specs.Questions.{IsAboutToken, IsQuestion}
-use Rattle.check_verdict.proofs.Claims.{claim_says}
+use Rattle.check_verdict.proofs.Claims.{claim_says, signer_says}
 
 -- of a token
-about_token : (policy : Policy) (trust : List EntryValue) (stamped token : List ℕ) (q : Asked)
-    → IsAskedOfToken policy trust stamped token q
+pub about_token : (policy : Policy) (trust : List EntryValue) (due : Due) (token : List ℕ) (q : Asked)
+    → IsAskedFor policy trust due token q
     → IsAboutToken trust token q
-about_token policy trust stamped token q a =
+about_token policy trust due token q a =
     let k = a.is_claim in
-    let says = claim_says policy stamped k.0 k.1 a.claim (sym k.3) in
+    let says = claim_says policy due k.0 k.1 a.claim (sym k.3) in
+    let signed = signer_says policy due k.0 k.1 a.claim says in
     let ((((role, same), _), _), _) = a.passed in
     record {
-      signed = says.value;
-      encodes = subst (IsReading token) says.reads k.2.is_signed;
+      signed = says.states.value;
+      encodes = subst (IsReading token) says.states.reads k.2.is_signed;
       signer = a.claim.signer;
-      one_signer = says.one_signer;
+      one_signer = signed.0;
       about = record {
         attributes = a.claim.attributes;
-        has = says.has;
+        has = signed.1;
         entry = a.entry;
         trusted = a.trusted;
         has_role = role;
@@ -64,7 +65,7 @@ question_of_file t file content econtent_type v s q encodes among a = record {
       matches = o.passed.0.matches;
       is = o.is;
     })
-    | inr o ↦ inr (o.0, o.1, about_token t.policy t.trust s.signature o.0 q o.2)
+    | inr o ↦ inr (o.0, o.1, about_token t.policy t.trust (of_octets s.signature) o.0 q o.2)
   ];
 }
 

@@ -1,4 +1,4 @@
--- What a token says where K1 to K9 hold.
+-- What a token says where K1 to K9 hold, and what it states where K1 to K8 do.
 use Rattle.std.proofs.Common.{◌≡◌, ◌≢◌, ℕ, Bool, true, false, ◌||◌, cond, List, [], ◌∷◌, Option, Some, None, Result, Ok}
 use Rattle.std.proofs.Common.{Err, refl, sym, ap, subst, ◌∙◌}
 use Rattle.std.specs.List.{AllByRecursion}
@@ -11,7 +11,6 @@ use Rattle.der_core.specs.Lists.{some, is_same, only}
 use Rattle.der_core.specs.Results.{◌>>=◌, or_as}
 use Rattle.der_core.proofs.Encoded.{same}
 use Rattle.der_core.proofs.Results.{bind_ok}
-use Rattle.digests.specs.Messages.{digest_of}
 use Rattle.digests.specs.declared.algorithm.Alg.{Alg}
 use Rattle.cert_types.specs.ExtensionValue.{ExtensionValue}
 use Rattle.cms_types.specs.AttributeValue.{AttributeValue}
@@ -26,9 +25,9 @@ use Rattle.der_time.specs.Moments.{generalized_moment}
 use Rattle.tsp_types.specs.TstValue.{TstValue}
 use Rattle.digests.specs.Named.{alg_named}
 use Rattle.tsp_types.specs.TstValue.{id_tst_info}
-use Rattle.check_verdict.specs.Passing.{IsCalm}
-use Rattle.check_verdict.specs.TokenRules.{is_critical, TokenClaim, held, signed_by, stamp_verdict, claimed}
-use Rattle.check_verdict.specs.TokenRules.{token_claim}
+use Rattle.check_verdict.specs.Passing.{IsCalm, Due, IsDue}
+use Rattle.check_verdict.specs.TokenRules.{is_critical, TokenClaim, Statement, held, signed_by, imprint_alg, claimed}
+use Rattle.check_verdict.specs.TokenRules.{stated, token_statement, due_claim, token_claim}
 use Rattle.der_core.proofs.OnlyMember.{only_is}
 use Rattle.der_core.proofs.SameOctets.{is_then_same}
 use Rattle.check_fit.proofs.FitLaw.{fit_is, fit_from}
@@ -82,25 +81,31 @@ pub not_calm : (es : List ExtensionValue) → Calm es → some is_critical es �
 not_calm [] h = refl
 not_calm (e ∷ es) h = rw (not_critical e h.0) (not_calm es h.1)
 
--- ---- what K1 to K9 found
+-- ---- what K1 to K8 found, and what K1 to K9 did
 
-pub record Says (policy : Policy) (stamped : List ℕ) (signed : Result SignedDataValue CmsFault)
-    (stamp : Result TstValue Fault) (c : TokenClaim) : Type 0 where
+pub record States (policy : Policy) (signed : Result SignedDataValue CmsFault) (stamp : Result TstValue Fault)
+    (s : Statement) : Type 0 where
   pub value : SignedDataValue
   pub reads : signed ≡ Ok value
   pub econtent_type : value.encapsulated.content_type ≡ id_tst_info
   pub content : List ℕ
   pub present : value.encapsulated.content ≡ Some content
-  pub one_signer : value.signers ≡ c.signer ∷ []
-  pub has : c.signer.signed_attributes ≡ Some c.attributes
-  pub fits : Fits policy content id_tst_info c.signer
+  pub one_signer : value.signers ≡ s.claim.signer ∷ []
+  pub has : s.claim.signer.signed_attributes ≡ Some s.claim.attributes
+  pub fits : Fits policy content id_tst_info s.claim.signer
   pub tst : TstValue
   pub reads_tst : stamp ≡ Ok tst
   pub calm : IsCalm tst
-  pub alg : Alg
-  pub allows : allowed policy (alg_named tst.imprint.algorithm) ≡ Some alg
-  pub digest : tst.imprint.digest ≡ digest_of alg stamped
-  pub moment : generalized_moment tst.time ≡ c.moment
+  pub allows : allowed policy (alg_named tst.imprint.algorithm) ≡ Some s.alg
+  pub imprint : tst.imprint.digest ≡ s.imprint
+  pub moment : generalized_moment tst.time ≡ s.claim.moment
+
+pub record Says (policy : Policy) (due : Due) (signed : Result SignedDataValue CmsFault)
+    (stamp : Result TstValue Fault) (c : TokenClaim) : Type 0 where
+  pub statement : Statement
+  pub states : States policy signed stamp statement
+  pub claims : statement.claim ≡ c
+  pub digest : due statement.alg ≡ Some statement.imprint
 
 filled : (s : SignerValue) (attributes : List AttributeValue) → s.signed_attributes ≡ Some attributes
     → s.signed_attributes ≡ Some (unwrap_or s.signed_attributes [])
@@ -111,6 +116,12 @@ claim_ok c = Ok c
 
 same_claim : (a b : TokenClaim) → claim_ok a ≡ claim_ok b → a ≡ b
 same_claim a b e = cc
+
+abbrev statement_ok : Statement → Result Statement TokenRule
+statement_ok s = Ok s
+
+same_statement : (a b : Statement) → statement_ok a ≡ statement_ok b → a ≡ b
+same_statement a b e = cc
 
 -- K2 and K3
 pub held_says : (v : SignedDataValue) (content : List ℕ) → held v ≡ Ok content
@@ -141,49 +152,36 @@ signed_says policy v content s e =
     same_signer : (a b : SignerValue) → signer_ok a ≡ Ok b → a ≡ b
     same_signer a b e = cc
 
--- K7 to K9
-record IsGenuine (policy : Policy) (stamped : List ℕ) (x : TstValue) : Type 0 where
-  pub calm : IsCalm x
-  pub alg : Alg
-  pub allows : allowed policy (alg_named x.imprint.algorithm) ≡ Some alg
-  pub digest : x.imprint.digest ≡ digest_of alg stamped
-
-stamp_says : (policy : Policy) (stamped : List ℕ) (x : TstValue) (u : Unit {0}) → stamp_verdict policy stamped x ≡ Ok u
-    → IsGenuine policy stamped x
-stamp_says policy stamped x u e =
-    let imprint : Alg → Result (Unit {0}) TokenRule =
-    λ alg. cond (is_same x.imprint.digest (digest_of alg stamped)) (Ok tt) (Err rule.ImprintDiffers) in
+-- K7 and K8
+imprint_says : (policy : Policy) (x : TstValue) (alg : Alg) → imprint_alg policy x ≡ Ok alg
+    → IsCalm x × (allowed policy (alg_named x.imprint.algorithm) ≡ Some alg)
+imprint_says policy x alg e =
     let i = passed (some is_critical (unwrap_or x.extensions []))
-    (ok_or (allowed policy (alg_named x.imprint.algorithm)) rule.ImprintAlgorithm >>= imprint) rule.CriticalExtension u
-    e in
-    let j = bind_ok (ok_or (allowed policy (alg_named x.imprint.algorithm)) rule.ImprintAlgorithm) imprint u i.1 in
-    let k = chose (is_same x.imprint.digest (digest_of j.0 stamped)) (Ok tt) rule.ImprintDiffers u j.2 in
-    record {
-      calm = calm_is (unwrap_or x.extensions []) i.0;
-      alg = j.0;
-      allows = given (allowed policy (alg_named x.imprint.algorithm)) rule.ImprintAlgorithm j.0 j.1;
-      digest = same x.imprint.digest (digest_of j.0 stamped) k.0;
-    }
+    (ok_or (allowed policy (alg_named x.imprint.algorithm)) rule.ImprintAlgorithm) rule.CriticalExtension alg e in (
+      calm_is (unwrap_or x.extensions []) i.0,
+      given (allowed policy (alg_named x.imprint.algorithm)) rule.ImprintAlgorithm alg i.1,
+    )
 
-pub claim_says : (policy : Policy) (stamped : List ℕ) (signed : Result SignedDataValue CmsFault)
-    (stamp : Result TstValue Fault) (c : TokenClaim)
-    → token_claim policy stamped signed stamp ≡ Ok c → Says policy stamped signed stamp c
-claim_says policy stamped signed stamp c e =
+-- K1 to K8
+pub statement_says : (policy : Policy) (signed : Result SignedDataValue CmsFault)
+    (stamp : Result TstValue Fault) (s : Statement)
+    → token_statement policy signed stamp ≡ Ok s → States policy signed stamp s
+statement_says policy signed stamp s e =
     let at_stamp : SignerValue → TstValue
-    → Result TokenClaim TokenRule = λ s x. (stamp_verdict policy stamped x >>= λ u. claim_ok (claimed s x)) in
-    let at_signer : SignerValue → Result TokenClaim TokenRule = λ s. (or_as rule.TstMalformed stamp >>= at_stamp s) in
+    → Result Statement TokenRule = λ y x. (imprint_alg policy x >>= λ alg. statement_ok (stated y x alg)) in
+    let at_signer : SignerValue → Result Statement TokenRule = λ y. (or_as rule.TstMalformed stamp >>= at_stamp y) in
     let at_content : SignedDataValue → List ℕ
-    → Result TokenClaim TokenRule = λ v content. (signed_by policy v content >>= at_signer) in
-    let a = bind_ok (or_as rule.Malformed signed) (λ v. held v >>= at_content v) c e in
-    let b = bind_ok (held a.0) (at_content a.0) c a.2 in
-    let d = bind_ok (signed_by policy a.0 b.0) at_signer c b.2 in
-    let h = bind_ok (or_as rule.TstMalformed stamp) (at_stamp d.0) c d.2 in
-    let k = bind_ok (stamp_verdict policy stamped h.0) (λ u. claim_ok (claimed d.0 h.0)) c h.2 in
-    let is : claimed d.0 h.0 ≡ c = same_claim (claimed d.0 h.0) c k.2 in
+    → Result Statement TokenRule = λ v content. (signed_by policy v content >>= at_signer) in
+    let a = bind_ok (or_as rule.Malformed signed) (λ v. held v >>= at_content v) s e in
+    let b = bind_ok (held a.0) (at_content a.0) s a.2 in
+    let d = bind_ok (signed_by policy a.0 b.0) at_signer s b.2 in
+    let h = bind_ok (or_as rule.TstMalformed stamp) (at_stamp d.0) s d.2 in
+    let k = bind_ok (imprint_alg policy h.0) (λ alg. statement_ok (stated d.0 h.0 alg)) s h.2 in
+    let is : stated d.0 h.0 k.0 ≡ s = same_statement (stated d.0 h.0 k.0) s k.2 in
     let content = held_says a.0 b.0 b.1 in
     let signer = signed_says policy a.0 b.0 d.0 d.1 in
-    let genuine = stamp_says policy stamped h.0 k.0 k.1 in
-    subst (Says policy stamped signed stamp) {x = claimed d.0 h.0} is (record {
+    let imprint = imprint_says policy h.0 k.0 k.1 in
+    subst (States policy signed stamp) {x = stated d.0 h.0 k.0} is (record {
       value = a.0;
       reads = unchanged rule.Malformed signed a.0 a.1;
       econtent_type = content.0;
@@ -194,23 +192,66 @@ claim_says policy stamped signed stamp c e =
       fits = signer.1;
       tst = h.0;
       reads_tst = unchanged rule.TstMalformed stamp h.0 h.1;
-      calm = genuine.calm;
-      alg = genuine.alg;
-      allows = genuine.allows;
-      digest = genuine.digest;
+      calm = imprint.0;
+      allows = imprint.1;
+      imprint = refl {a = h.0.imprint.digest};
       moment = refl {a = generalized_moment h.0.time};
     })
 
--- what all that holds of is what the token says
-module _ (policy : Policy) (stamped : List ℕ) (signed : Result SignedDataValue CmsFault) (stamp : Result TstValue Fault)
+-- K8 and K9
+due_says : (due : Due) (s : Statement) (c : TokenClaim) → due_claim due s ≡ Ok c
+    → (s.claim ≡ c) × (due s.alg ≡ Some s.imprint)
+due_says due s c e =
+    let compared : List ℕ → Result TokenClaim TokenRule =
+    λ digest. cond (is_same s.imprint digest) (claim_ok s.claim) (Err rule.ImprintDiffers) in
+    let a = bind_ok (ok_or (due s.alg) rule.ImprintAlgorithm) compared c e in
+    let b = chose (is_same s.imprint a.0) (claim_ok s.claim) rule.ImprintDiffers c a.2 in (
+      same_claim s.claim c b.1,
+      given (due s.alg) rule.ImprintAlgorithm a.0 a.1 ∙ ap (λ (d : List ℕ). Some d) (sym (same s.imprint a.0 b.0)),
+    )
+
+pub claim_says : (policy : Policy) (due : Due) (signed : Result SignedDataValue CmsFault)
+    (stamp : Result TstValue Fault) (c : TokenClaim)
+    → token_claim policy due signed stamp ≡ Ok c → Says policy due signed stamp c
+claim_says policy due signed stamp c e =
+    let a = bind_ok (token_statement policy signed stamp) (due_claim due) c e in
+    let d = due_says due a.0 c a.2 in record {
+      statement = a.0;
+      states = statement_says policy signed stamp a.0 a.1;
+      claims = d.0;
+      digest = d.1;
+    }
+
+-- its signer, who is the only one and has these signed attributes
+pub signer_says : (policy : Policy) (due : Due) (signed : Result SignedDataValue CmsFault)
+    (stamp : Result TstValue Fault) (c : TokenClaim) (says : Says policy due signed stamp c)
+    → (says.states.value.signers ≡ c.signer ∷ []) × (c.signer.signed_attributes ≡ Some c.attributes)
+signer_says policy due signed stamp c says = subst (λ (d : TokenClaim).
+    (says.states.value.signers ≡ d.signer ∷ []) × (d.signer.signed_attributes ≡ Some d.attributes)) says.claims
+    (says.states.one_signer, says.states.has)
+
+-- a statement's imprint that is due makes it a claim
+pub due_from : (due : Due) (s : Statement) → due s.alg ≡ Some s.imprint → due_claim due s ≡ Ok s.claim
+due_from due s e = rw (e, is_then_same s.imprint s.imprint refl) refl
+
+-- what is due, as a fact and as a value
+pub due_is : (o : Option (List ℕ)) (octets : List ℕ) → IsDue o octets → o ≡ Some octets
+due_is (Some digest) octets e = ap (λ (d : List ℕ). Some d) (sym e)
+due_is None octets e = absurd e
+
+pub is_due : (o : Option (List ℕ)) (octets : List ℕ) → o ≡ Some octets → IsDue o octets
+is_due o octets e = subst (λ (d : Option (List ℕ)). IsDue d octets) (sym e) (refl {a = octets})
+
+-- what all that holds of is what the token states, and says
+module _ (policy : Policy) (signed : Result SignedDataValue CmsFault) (stamp : Result TstValue Fault)
     (v : SignedDataValue)
     (content : List ℕ) (s : SignerValue) (x : TstValue) (alg : Alg) where
-  pub claim_from : signed ≡ Ok v → v.encapsulated.content_type ≡ id_tst_info → v.encapsulated.content ≡ Some content
-      → v.signers ≡ s ∷ []
+  pub statement_from : signed ≡ Ok v → v.encapsulated.content_type ≡ id_tst_info
+      → v.encapsulated.content ≡ Some content → v.signers ≡ s ∷ []
       → Fits policy content id_tst_info s → stamp ≡ Ok x → IsCalm x
       → allowed policy (alg_named x.imprint.algorithm) ≡ Some alg
-      → x.imprint.digest ≡ digest_of alg stamped → token_claim policy stamped signed stamp ≡ Ok (claimed s x)
-  claim_from is econtent_type present one fits is_stamp calm allows digest =
+      → token_statement policy signed stamp ≡ Ok (stated s x alg)
+  statement_from is econtent_type present one fits is_stamp calm allows =
       rw (
         is,
         is_then_same v.encapsulated.content_type id_tst_info econtent_type,
@@ -220,5 +261,14 @@ module _ (policy : Policy) (stamped : List ℕ) (signed : Result SignedDataValue
         is_stamp,
         not_calm (unwrap_or x.extensions []) calm,
         allows,
-        is_then_same x.imprint.digest (digest_of alg stamped) digest,
       ) refl
+
+  pub claim_from : (due : Due) → signed ≡ Ok v → v.encapsulated.content_type ≡ id_tst_info
+      → v.encapsulated.content ≡ Some content → v.signers ≡ s ∷ []
+      → Fits policy content id_tst_info s → stamp ≡ Ok x → IsCalm x
+      → allowed policy (alg_named x.imprint.algorithm) ≡ Some alg → due alg ≡ Some x.imprint.digest
+      → token_claim policy due signed stamp ≡ Ok (claimed s x)
+  claim_from due is econtent_type present one fits is_stamp calm allows digest =
+      ap (λ (r : Result Statement TokenRule). r >>= due_claim due)
+      (statement_from is econtent_type present one fits is_stamp calm allows)
+      ∙ due_from due (stated s x alg) digest

@@ -20,7 +20,7 @@ use Rattle.check_fit.specs.Fitting.{Fits, signer_answer}
 use Rattle.check_fit.specs.FileFitting.{IsReading, placed, file_rules}
 use Rattle.trust_lists.specs.Entries.{EntryValue}
 use Rattle.check_verdict.specs.Trusted.{Holds}
-use Rattle.check_verdict.specs.Passing.{Terms, Passes}
+use Rattle.check_verdict.specs.Passing.{Terms, of_octets, Passes}
 use Rattle.check_verdict.specs.Verdicts.{tokens, IsStamped, SignedUnder, IsMoment, IsLeast, SignerPasses, IsContent}
 use Rattle.check_verdict.specs.Verdicts.{Accepts, Yes, IsSigners, IsNamedSigners}
 use Rattle.check_verdict.specs.Verdicts.{LeftForSigner, signer_filter, Signs, SignerFails, TokensFail, FirstBad}
@@ -49,10 +49,10 @@ PassesSo t stamped Q token = (m : ℕ) × Passes t token stamped m × Q m
 
 passes_so : (t : Terms) (token stamped : List ℕ) (Q : ℕ → Type 0) → IsBytes token → ((m : ℕ) → Decided (Q m))
     → Decided (PassesSo t stamped Q token)
-passes_so t token stamped Q fits decide = elim (pass_or_fail t token stamped fits) [
-  | inr fails ↦ inr (λ h. tokens_law.never_both t token stamped h.0 fails.0 h.1 fails.1)
+passes_so t token stamped Q fits decide = elim (pass_or_fail t token (of_octets stamped) fits) [
+  | inr fails ↦ inr (λ h. tokens_law.never_both t token (of_octets stamped) h.0 fails.0 h.1 fails.1)
   | inl passes ↦ in_words (λ q. (passes.0, passes.1, q))
-      (λ h. subst Q (tokens_law.one_moment t token stamped h.0 passes.0 h.1 passes.1) h.2) (decide passes.0)
+      (λ h. subst Q (tokens_law.one_moment t token (of_octets stamped) h.0 passes.0 h.1 passes.1) h.2) (decide passes.0)
 ]
 
 -- a token of the signer passes with such a moment
@@ -188,7 +188,7 @@ tokens_fail t content econtent_type s octets signs never [] e = inl (rule.NoToke
 tokens_fail t content econtent_type s octets signs never (first ∷ others) e =
     let among : Contains (tokens s) first =
     subst (λ (xs : List (List ℕ)). Contains xs first) (sym e) (0, omega arith, refl) in
-    elim (pass_or_fail t first s.signature (member IsBytes (tokens s) first octets.each_token among)) [
+    elim (pass_or_fail t first (of_octets s.signature) (member IsBytes (tokens s) first octets.each_token among)) [
       | inl passes ↦ absurd (never (passes.0, (among.0, first, among.1, among.2, passes.1), tt))
       | inr fails ↦ inr (
         fails.0,

@@ -33,7 +33,7 @@ use Rattle.check_names.specs.Naming.{id_signing_certificate_v2, Occurs, Matches,
 use Rattle.check_names.specs.NamingRows.{of_authority, digest_of_certificate}
 use Rattle.check_verdict.specs.Filters.{StopsAt}
 use Rattle.tsp_types.specs.TstValue.{id_tst_info, EncodesTst}
-use Rattle.check_verdict.specs.Passing.{Terms, StampedUnder, Passes}
+use Rattle.check_verdict.specs.Passing.{Terms, of_octets, StampedUnder, Passes}
 use Rattle.check_verdict.specs.TokenRules.{IsTstReading, claimed, token_claim, Reads, LeftForToken, token_filter}
 use Rattle.check_verdict.specs.TokenRules.{TokenFails}
 use Rattle.check_verdict.specs.Verdicts.{IsStamped, SignedUnder, IsMoment, IsLeast, SignerPasses, Yes, IsSigners}
@@ -216,12 +216,12 @@ reads = record {
     is v content e present = some time_stamp content
         (ap (λ (x : SignedDataValue). x.encapsulated.content) (same_value token_data v e) ∙ present)
 
-claim : token_claim strict (codes "abc") (Ok token_data) (Ok tst) ≡ Ok (claimed its_signer tst)
-claim = claim_from strict (codes "abc") (Ok token_data)
-    (Ok tst) token_data time_stamp its_signer tst Sha256 refl refl refl refl token_fits refl tt
-    refl (sym abc_rows.sha256)
+claim : token_claim strict (of_octets (codes "abc")) (Ok token_data) (Ok tst) ≡ Ok (claimed its_signer tst)
+claim = claim_from strict (Ok token_data) (Ok tst) token_data time_stamp its_signer tst Sha256
+    (of_octets (codes "abc")) refl refl refl refl token_fits refl tt refl
+    (ap (λ (digest : List ℕ). Some digest) abc_rows.sha256)
 
-other_claim : token_claim strict (codes "abd") (Ok token_data) (Ok tst) ≡ Err token.ImprintDiffers
+other_claim : token_claim strict (of_octets (codes "abd")) (Ok token_data) (Ok tst) ≡ Err token.ImprintDiffers
 other_claim = rw (fit_from strict time_stamp id_tst_info its_signer token_fits, abd_digest) refl
 
 -- the filter of this number leaves nothing
@@ -405,7 +405,7 @@ stamped_ten trust ls p = one_of (λ token. Passes (terms trust ls) token abc ten
 
 is_ten : (trust : List EntryValue) (ls : List Asked) (n : ℕ) → Passes (terms trust ls) time_stamp_token abc ten_oclock
     → IsStamped (terms trust ls) who n → n ≡ ten_oclock
-is_ten trust ls n p k = tokens_law.one_moment (terms trust ls) time_stamp_token abc n ten_oclock
+is_ten trust ls n p k = tokens_law.one_moment (terms trust ls) time_stamp_token (of_octets abc) n ten_oclock
     (in_one (λ token. Passes (terms trust ls) token abc n) time_stamp_token k) p
 
 -- a file of one signer is accepted with the signer's first moment
@@ -519,7 +519,7 @@ refused_token : (from until : Option ℕ) (rest : List EntryValue) (ls : List As
 refused_token from until rest ls failed answered f =
     let trust : List EntryValue = signs from until ∷ rest in
     let t : Terms = terms trust ls in
-    let none : (m : ℕ) → IsStamped t who m → ⊥ = λ m k. tokens_law.never_both t time_stamp_token abc m failed
+    let none : (m : ℕ) → IsStamped t who m → ⊥ = λ m k. tokens_law.never_both t time_stamp_token (of_octets abc) m failed
     (in_one (λ token. Passes t token abc m) time_stamp_token k) f in
     let fails : TokensFail t abc id_data who 1 failed = record {
       signs = record {

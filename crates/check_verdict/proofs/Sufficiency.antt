@@ -1,4 +1,4 @@
--- A verdict rests on the questions of the file alone.
+-- A verdict rests on the questions of the file alone, or of the token.
 use Rattle.std.proofs.Common.{ℕ, Bool, List, Option, Result, Ok, Err, sym}
 use Rattle.std.specs.Prelude.{Contains}
 use Rattle.cms_types.specs.SignerValue.{SignerValue}
@@ -6,11 +6,15 @@ use Rattle.cms_types.specs.SignedDataValue.{SignedDataValue, EncodesSignedData}
 use Rattle.trust_lists.specs.Asking.{Asked}
 use Rattle.check_fit.specs.declared.rules.Refused.{Refused}
 use Rattle.check_fit.specs.declared.rules.Refused.TheVariants as refused
-use Rattle.check_verdict.specs.Passing.{Terms}
+use Rattle.check_fit.specs.declared.rules.TokenRule.{TokenRule}
+use Rattle.check_verdict.specs.Passing.{Terms, Due, PassesFor}
+use Rattle.check_verdict.specs.TokenRules.{TokenFailsFor}
+use Rattle.check_verdict.specs.Asks.{IsAskedFor}
 use Rattle.check_verdict.specs.Verdicts.{Yes, Judges, Refuses}
 use Rattle.check_verdict.specs.Questions.{Answers, with_answers, YesSuffices, RefusalsSuffice}
-use Rattle.check_verdict.proofs.Answered.{Ready, ready_of, judges}
-use Rattle.check_verdict.proofs.Asks.{question_of_file}
+use Rattle.check_verdict.specs.Questions.{AnswersOfToken, PassingSuffices, FailuresSuffice}
+use Rattle.check_verdict.proofs.Answered.{Agree, Ready, ready_of, judges, passes, token_fails}
+use Rattle.check_verdict.proofs.Asks.{about_token, question_of_file}
 
 module _ (t : Terms) (file : List ℕ) (w : Asked → Bool) (agree : Answers t file w) (v : SignedDataValue)
     (encodes : EncodesSignedData file v) (content : List ℕ) where
@@ -51,3 +55,29 @@ refuses_along t file handed w h (refused.Token number token failed) (v, e, conte
 pub refusals_suffice : RefusalsSuffice
 refusals_suffice t file handed w h r =
     (refuses_along t file handed w h r, refuses_along (with_answers t w) file handed t.vouches (λ q k. sym (h q k)) r)
+
+-- ---- a token
+
+asked_alike : (t : Terms) (token : List ℕ) (due : Due) (w : Asked → Bool) → AnswersOfToken t token w
+    → Agree (IsAskedFor t.policy t.trust due token) t.vouches w
+asked_alike t token due w h q a = sym (h q (about_token t.policy t.trust due token q a))
+
+passes_along : (t : Terms) (token : List ℕ) (due : Due) (w : Asked → Bool) → AnswersOfToken t token w → (m : ℕ)
+    → PassesFor t token due m → PassesFor (with_answers t w) token due m
+passes_along t token due w h m p = passes t w token due m (asked_alike t token due w h) p
+
+pub passing_suffices : PassingSuffices
+passing_suffices t token due w h m = (
+  passes_along t token due w h m,
+  passes_along (with_answers t w) token due t.vouches (λ q k. sym (h q k)) m,
+)
+
+fails_along : (t : Terms) (token : List ℕ) (due : Due) (w : Asked → Bool) → AnswersOfToken t token w
+    → (failed : TokenRule) → TokenFailsFor t token due failed → TokenFailsFor (with_answers t w) token due failed
+fails_along t token due w h failed f = token_fails t w token due failed (asked_alike t token due w h) f
+
+pub failures_suffice : FailuresSuffice
+failures_suffice t token due w h failed = (
+  fails_along t token due w h failed,
+  fails_along (with_answers t w) token due t.vouches (λ q k. sym (h q k)) failed,
+)

@@ -14,7 +14,7 @@ use Rattle.trust_lists.specs.Entries.{EntryValue}
 use Rattle.check_verdict.specs.Filters.{Best}
 use Rattle.check_verdict.specs.Stages.{passed_for_signer}
 use Rattle.check_verdict.specs.declared.filter.SignerFilter.TheVariants.{UnknownSigner}
-use Rattle.check_verdict.specs.Passing.{Terms, Passes}
+use Rattle.check_verdict.specs.Passing.{Terms, of_octets, Passes}
 use Rattle.check_verdict.specs.TokenRules.{TokenFails}
 use Rattle.check_verdict.specs.Verdicts.{IsLeast}
 use Rattle.check_verdict.specs.SignerStages.{LeftAt, StampedBy, LeftBy, MomentBy, FailedBy, Tallied, IsEarlier}
@@ -108,7 +108,7 @@ module _ (t : Terms) (s : SignerValue) (attributes : List AttributeValue) where
     stamped_still : (m : ℕ) → StampedBy t s (with_one before token) m → StampedBy t s before m
     stamped_still m h = elim (stamped_cases before token m h) [
       | inl k ↦ k
-      | inr p ↦ absurd (tokens_law.never_both t token s.signature m rule p fails)
+      | inr p ↦ absurd (tokens_law.never_both t token (of_octets s.signature) m rule p fails)
     ]
 
     still_earliest : (earliest : Option ℕ) → MatchOption earliest ((m : ℕ) → MomentBy t s attributes before m → ⊥)
@@ -165,7 +165,7 @@ module _ (t : Terms) (s : SignerValue) (attributes : List AttributeValue) where
     by_cases k e (m, stamped, p) = elim (stamped_cases before token m stamped) [
       | inl h ↦ inl (m, h, p)
       | inr q ↦ inr (subst (λ (n : ℕ). LeftAt t s attributes (Some n) k e)
-          (tokens_law.one_moment t token s.signature m moment q passes) p)
+          (tokens_law.one_moment t token (of_octets s.signature) m moment q passes) p)
     ]
 
     passed_best : (n : ℕ) → Best (LeftBy t s attributes before) 3 t.trust n
@@ -179,7 +179,7 @@ module _ (t : Terms) (s : SignerValue) (attributes : List AttributeValue) where
         → MomentBy t s attributes before m ⊎ ((m ≡ moment) × Any (LeftAt t s attributes (Some moment) 3) t.trust)
     moment_cases m (stamped, any) = elim (stamped_cases before token m stamped) [
       | inl h ↦ inl (h, any)
-      | inr q ↦ (let is = tokens_law.one_moment t token s.signature m moment q passes in
+      | inr q ↦ (let is = tokens_law.one_moment t token (of_octets s.signature) m moment q passes in
           inr (is, subst (λ (n : ℕ). Any (LeftAt t s attributes (Some n) 3) t.trust) is any))
     ]
 

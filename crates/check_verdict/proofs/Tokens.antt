@@ -19,15 +19,15 @@ use Rattle.trust_lists.specs.Entries.{EntryValue}
 use Rattle.check_verdict.specs.Trusted.{Holds}
 use Rattle.check_verdict.specs.Filters.{Comes}
 use Rattle.digests.specs.Named.{alg_named}
-use Rattle.check_verdict.specs.Passing.{Terms, Vouched, StampedUnder, Passes}
+use Rattle.check_verdict.specs.Passing.{Terms, Vouched, Due, StampedUnder, PassesFor}
 use Rattle.check_names.specs.Naming.{MustName}
-use Rattle.check_verdict.specs.TokenRules.{Reads, TokenClaim, held, signed_by, stamp_verdict, claimed, token_claim}
-use Rattle.check_verdict.specs.TokenRules.{LeftForToken, token_filter, RunsOut}
+use Rattle.check_verdict.specs.TokenRules.{Reads, TokenClaim, Statement, held, signed_by, imprint_alg, claimed, stated}
+use Rattle.check_verdict.specs.TokenRules.{token_statement, due_claim, token_claim, LeftForToken, token_filter, RunsOut}
 use Rattle.check_verdict.specs.Alone.{cms_alone, token_alone}
 use Rattle.check_verdict.specs.Laws.{TokensNeverBoth, TokensHaveOneMoment, TokensFailOneRule}
 use Rattle.check_verdict.proofs.Lists.{along, never_stops, stops_once, lowered}
 use Rattle.digests.proofs.Named.{named_is}
-use Rattle.check_verdict.proofs.Claims.{held_says, claim_from}
+use Rattle.check_verdict.proofs.Claims.{held_says, claim_from, due_is}
 use Rattle.check_fit.proofs.Readings.{one_value, reads_it}
 use Rattle.check_verdict.proofs.Readings.{reading_alone, one_reading, one_tst, reads_tst, tst_alone, one_tst_reading}
 
@@ -54,24 +54,24 @@ some_attributes : (a b : List AttributeValue) (o : Option (List AttributeValue))
 some_attributes a b o e h = let z = sym e ∙ h in cc
 
 -- what a token says that passes
-pub passing_claim : (t : Terms) (token stamped : List ℕ) (m : ℕ) (p : Passes t token stamped m)
+pub passing_claim : (t : Terms) (token : List ℕ) (due : Due) (m : ℕ) (p : PassesFor t token due m)
     (signed : Result SignedDataValue CmsFault)
     (stamp : Result TstValue Fault) → Reads token signed stamp
-    → token_claim t.policy stamped signed stamp ≡ Ok (claimed p.signer p.stamp)
-passing_claim t token stamped m p signed stamp r =
+    → token_claim t.policy due signed stamp ≡ Ok (claimed p.signer p.stamp)
+passing_claim t token due m p signed stamp r =
     let is : signed ≡ Ok p.signed = reads_it token signed p.signed r.is_signed p.encodes in
     let is_stamp : stamp ≡ Ok p.stamp =
     reads_tst p.content stamp p.stamp (r.is_stamp p.signed p.content is p.present) p.encodes_stamp in
     let named : alg_named p.stamp.imprint.algorithm ≡ Some p.imprint.alg =
     named_is p.stamp.imprint.algorithm p.imprint.alg p.imprint.named in
-    claim_from t.policy stamped signed stamp p.signed p.content p.signer p.stamp p.imprint.alg is p.econtent_type
+    claim_from t.policy signed stamp p.signed p.content p.signer p.stamp p.imprint.alg due is p.econtent_type
     p.present p.one_signer p.fits is_stamp p.calm
-    (rw (named, p.imprint.allows) refl) p.imprint.digest
+    (rw (named, p.imprint.allows) refl) (due_is (due p.imprint.alg) p.stamp.imprint.digest p.imprint.digest)
 
 -- an entry that it passes under is left after each filter
-passing_left : (t : Terms) (token stamped : List ℕ) (m : ℕ) (p : Passes t token stamped m)
+passing_left : (t : Terms) (token : List ℕ) (due : Due) (m : ℕ) (p : PassesFor t token due m)
     → Any (LeftForToken t (claimed p.signer p.stamp) 5) t.trust
-passing_left t token stamped m p =
+passing_left t token due m p =
     along (StampedUnder t p.signer p.attributes m) (LeftForToken t (claimed p.signer p.stamp) 5) t.trust
     (λ e c u. left e u) p.entry
   where
@@ -91,19 +91,19 @@ not_failing : (c : TokenClaim) (failed : TokenRule) (r : Result TokenClaim Token
 not_failing c failed r e h = let z = sym e ∙ h in cc
 
 pub never_both : TokensNeverBoth
-never_both t token stamped m failed p f = by_rule f.first
+never_both t token due m failed p f = by_rule f.first
   where
-    claim : token_claim t.policy stamped f.signed f.stamp ≡ Ok (claimed p.signer p.stamp)
-    claim = passing_claim t token stamped m p f.signed f.stamp f.reads
+    claim : token_claim t.policy due f.signed f.stamp ≡ Ok (claimed p.signer p.stamp)
+    claim = passing_claim t token due m p f.signed f.stamp f.reads
 
-    by_rule : ((token_claim t.policy stamped f.signed f.stamp ≡ Err failed)
-        ⊎ ((c : TokenClaim) × (token_claim t.policy stamped f.signed f.stamp ≡ Ok c) × RunsOut t c failed)) → ⊥
+    by_rule : ((token_claim t.policy due f.signed f.stamp ≡ Err failed)
+        ⊎ ((c : TokenClaim) × (token_claim t.policy due f.signed f.stamp ≡ Ok c) × RunsOut t c failed)) → ⊥
     by_rule (inl e) =
-        not_failing (claimed p.signer p.stamp) failed (token_claim t.policy stamped f.signed f.stamp) claim e
+        not_failing (claimed p.signer p.stamp) failed (token_claim t.policy due f.signed f.stamp) claim e
     by_rule (inr (c, e, out)) =
         let is : claimed p.signer p.stamp ≡ c = same_claim (claimed p.signer p.stamp) c (sym claim ∙ e) in
         let any : Any (LeftForToken t c 5) t.trust =
-        subst (λ (x : TokenClaim). Any (LeftForToken t x 5) t.trust) is (passing_left t token stamped m p) in
+        subst (λ (x : TokenClaim). Any (LeftForToken t x 5) t.trust) is (passing_left t token due m p) in
         never_stops (LeftForToken t c) 5 t.trust out.filter (falls t c) any out.stops
 
 -- ---- one moment
@@ -112,7 +112,7 @@ some_content : (a b : List ℕ) (o : Option (List ℕ)) → o ≡ Some a → o �
 some_content a b o e h = let z = sym e ∙ h in cc
 
 pub one_moment : TokensHaveOneMoment
-one_moment t token stamped m n p q =
+one_moment t token due m n p q =
     let v : p.signed ≡ q.signed = one_value token p.signed q.signed p.encodes q.encodes in
     let content : p.content ≡ q.content = some_content p.content q.content q.signed.encapsulated.content
     (subst (λ (x : SignedDataValue). x.encapsulated.content ≡ Some p.content) v p.present) q.present in
@@ -122,6 +122,13 @@ one_moment t token stamped m n p q =
 
 -- ---- one rule
 
+abbrev statement_alone : Result Statement TokenRule → Result Statement TokenRule
+statement_alone (Ok s) = Ok s
+statement_alone (Err e) = Err (token_alone e)
+
+abbrev SameStatement : Result Statement TokenRule → Result Statement TokenRule → Type 0
+SameStatement a b = statement_alone a ≡ statement_alone b
+
 abbrev claim_alone : Result TokenClaim TokenRule → Result TokenClaim TokenRule
 claim_alone (Ok c) = Ok c
 claim_alone (Err e) = Err (token_alone e)
@@ -129,69 +136,86 @@ claim_alone (Err e) = Err (token_alone e)
 abbrev Alike : Result TokenClaim TokenRule → Result TokenClaim TokenRule → Type 0
 Alike a b = claim_alone a ≡ claim_alone b
 
--- what a token says whose signer is this one and whose content reads so
-abbrev pub claims : Policy → (stamped : List ℕ) → SignerValue → TstValue → Result TokenClaim TokenRule
-claims policy stamped s x = stamp_verdict policy stamped x >>= λ u. claim_ok (claimed s x)
+-- what a token states whose signer is this one and whose content reads so
+abbrev pub states : Policy → SignerValue → TstValue → Result Statement TokenRule
+states policy s x = imprint_alg policy x >>= λ alg. Ok (stated s x alg)
 
-bind_alike : {A : Type 0} (r : Result A TokenRule) (f g : A → Result TokenClaim TokenRule)
-    → ((x : A) → r ≡ Ok x → Alike (f x) (g x))
-    → Alike (r >>= f) (r >>= g)
+bind_alike : {A : Type 0} (r : Result A TokenRule) (f g : A → Result Statement TokenRule)
+    → ((x : A) → r ≡ Ok x → SameStatement (f x) (g x))
+    → SameStatement (r >>= f) (r >>= g)
 bind_alike (Ok x) f g h = h x refl
 bind_alike (Err e) f g h = refl
 
-by_stamp : (policy : Policy) (stamped : List ℕ) (stamp stamp' : Result TstValue Fault) (s : SignerValue)
+by_stamp : (policy : Policy) (stamp stamp' : Result TstValue Fault) (s : SignerValue)
     → tst_alone stamp ≡ tst_alone stamp'
-    → Alike (or_as rule.TstMalformed stamp >>= claims policy stamped s)
-    (or_as rule.TstMalformed stamp' >>= claims policy stamped s)
-by_stamp policy stamped (Ok x) (Ok y) s e =
-    let z : x ≡ y = ok_is x y e in ap (λ (w : TstValue). claim_alone (claims policy stamped s w)) z
-by_stamp policy stamped (Ok x) (Err g) s e = absurd cc
-by_stamp policy stamped (Err f) (Ok y) s e = absurd cc
-by_stamp policy stamped (Err f) (Err g) s e = refl
+    → SameStatement (or_as rule.TstMalformed stamp >>= states policy s)
+    (or_as rule.TstMalformed stamp' >>= states policy s)
+by_stamp policy (Ok x) (Ok y) s e =
+    let z : x ≡ y = ok_is x y e in ap (λ (w : TstValue). statement_alone (states policy s w)) z
+by_stamp policy (Ok x) (Err g) s e = absurd cc
+by_stamp policy (Err f) (Ok y) s e = absurd cc
+by_stamp policy (Err f) (Err g) s e = refl
 
--- what a token says whose octets read so, and its content so
-abbrev by_value : Policy → (stamped : List ℕ) → Result TstValue Fault → SignedDataValue → Result TokenClaim TokenRule
-by_value policy stamped stamp v =
-    held v >>= λ content. signed_by policy v content >>= λ s. or_as rule.TstMalformed stamp >>= claims policy stamped s
+-- what a token states whose octets read so, and its content so
+abbrev by_value : Policy → Result TstValue Fault → SignedDataValue → Result Statement TokenRule
+by_value policy stamp v =
+    held v >>= λ content. signed_by policy v content >>= λ s. or_as rule.TstMalformed stamp >>= states policy s
 
-by_content : (policy : Policy) (stamped : List ℕ) (stamp stamp' : Result TstValue Fault) (v : SignedDataValue)
+by_content : (policy : Policy) (stamp stamp' : Result TstValue Fault) (v : SignedDataValue)
     → ((content : List ℕ) → v.encapsulated.content ≡ Some content → tst_alone stamp ≡ tst_alone stamp')
-    → Alike (by_value policy stamped stamp v) (by_value policy stamped stamp' v)
-by_content policy stamped stamp stamp' v h =
+    → SameStatement (by_value policy stamp v) (by_value policy stamp' v)
+by_content policy stamp stamp' v h =
     bind_alike (held v)
-    (λ content. signed_by policy v content >>= λ s. or_as rule.TstMalformed stamp >>= claims policy stamped s)
-    (λ content. signed_by policy v content >>= λ s. or_as rule.TstMalformed stamp' >>= claims policy stamped s)
+    (λ content. signed_by policy v content >>= λ s. or_as rule.TstMalformed stamp >>= states policy s)
+    (λ content. signed_by policy v content >>= λ s. or_as rule.TstMalformed stamp' >>= states policy s)
     (λ content is.
-    bind_alike (signed_by policy v content) (λ s. or_as rule.TstMalformed stamp >>= claims policy stamped s)
-    (λ s. or_as rule.TstMalformed stamp' >>= claims policy stamped s) (λ s k.
-    by_stamp policy stamped stamp stamp' s (h content (held_says v content is).1)))
+    bind_alike (signed_by policy v content) (λ s. or_as rule.TstMalformed stamp >>= states policy s)
+    (λ s. or_as rule.TstMalformed stamp' >>= states policy s) (λ s k.
+    by_stamp policy stamp stamp' s (h content (held_says v content is).1)))
 
 same_fault : (f g : CmsFault) → reading_alone (Err f) ≡ reading_alone (Err g) → cms_alone f ≡ cms_alone g
 same_fault f g e = cc
 
-by_reading : (policy : Policy) (stamped : List ℕ) (signed signed' : Result SignedDataValue CmsFault)
+by_reading : (policy : Policy) (signed signed' : Result SignedDataValue CmsFault)
     (stamp stamp' : Result TstValue Fault)
     → reading_alone signed ≡ reading_alone signed'
     → ((v : SignedDataValue) (content : List ℕ) → signed ≡ Ok v → signed' ≡ Ok v → v.encapsulated.content ≡ Some content
     → tst_alone stamp ≡ tst_alone stamp')
-    → Alike (token_claim policy stamped signed stamp) (token_claim policy stamped signed' stamp')
-by_reading policy stamped (Ok v) (Ok w) stamp stamp' e h =
+    → SameStatement (token_statement policy signed stamp) (token_statement policy signed' stamp')
+by_reading policy (Ok v) (Ok w) stamp stamp' e h =
     let is : v ≡ w = same_value v w e in
-    subst (λ (x : SignedDataValue). Alike (by_value policy stamped stamp v) (by_value policy stamped stamp' x)) is
-    (by_content policy stamped stamp stamp' v (λ content k. h v content refl (ap okay (sym is)) k))
+    subst (λ (x : SignedDataValue). SameStatement (by_value policy stamp v) (by_value policy stamp' x)) is
+    (by_content policy stamp stamp' v (λ content k. h v content refl (ap okay (sym is)) k))
   where
     okay : SignedDataValue → Result SignedDataValue CmsFault
     okay x = Ok x
 
     same_value : (v w : SignedDataValue) → reading_alone (Ok v) ≡ reading_alone (Ok w) → v ≡ w
     same_value v w e = cc
-by_reading policy stamped (Ok v) (Err g) stamp stamp' e h = absurd cc
-by_reading policy stamped (Err f) (Ok w) stamp stamp' e h = absurd cc
-by_reading policy stamped (Err f) (Err g) stamp stamp' e h =
+by_reading policy (Ok v) (Err g) stamp stamp' e h = absurd cc
+by_reading policy (Err f) (Ok w) stamp stamp' e h = absurd cc
+by_reading policy (Err f) (Err g) stamp stamp' e h =
     ap (λ (x : CmsFault). failing (rule.Malformed x)) (same_fault f g e)
+  where
+    failing : TokenRule → Result Statement TokenRule
+    failing x = Err x
+
+-- of one statement there is one claim
+by_statement : (due : Due) (a b : Result Statement TokenRule) → SameStatement a b
+    → Alike (a >>= due_claim due) (b >>= due_claim due)
+by_statement due (Ok s) (Ok z) e = ap (λ (x : Statement). claim_alone (due_claim due x)) (same s z e)
+  where
+    same : (s z : Statement) → statement_alone (Ok s) ≡ statement_alone (Ok z) → s ≡ z
+    same s z e = cc
+by_statement due (Ok s) (Err g) e = absurd cc
+by_statement due (Err f) (Ok z) e = absurd cc
+by_statement due (Err f) (Err g) e = ap failing (same f g e)
   where
     failing : TokenRule → Result TokenClaim TokenRule
     failing x = Err x
+
+    same : (f g : TokenRule) → statement_alone (Err f) ≡ statement_alone (Err g) → token_alone f ≡ token_alone g
+    same f g e = cc
 
 same_failure : (a b : TokenRule) → Alike (Err a) (Err b) → token_alone a ≡ token_alone b
 same_failure a b e = cc
@@ -215,9 +239,10 @@ firsts t x y a b alike (inr (c, e, out)) (inr (d, h, out')) =
     ap token_alone (one_out t d a b (subst (λ (z : TokenClaim). RunsOut t z a) is out) out')
 
 pub one_rule : TokensFailOneRule
-one_rule t token stamped a b f g =
-    firsts t (token_claim t.policy stamped f.signed f.stamp) (token_claim t.policy stamped g.signed g.stamp) a b
-    (by_reading t.policy stamped f.signed g.signed f.stamp g.stamp
+one_rule t token due a b f g =
+    firsts t (token_claim t.policy due f.signed f.stamp) (token_claim t.policy due g.signed g.stamp) a b
+    (by_statement due (token_statement t.policy f.signed f.stamp) (token_statement t.policy g.signed g.stamp)
+    (by_reading t.policy f.signed g.signed f.stamp g.stamp
     (one_reading token f.signed g.signed f.reads.is_signed g.reads.is_signed)
     (λ v content is is' present. one_tst_reading content f.stamp g.stamp (f.reads.is_stamp v content is present)
-    (g.reads.is_stamp v content is' present))) f.first g.first
+    (g.reads.is_stamp v content is' present)))) f.first g.first

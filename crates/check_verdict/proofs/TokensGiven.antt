@@ -1,6 +1,6 @@
 -- Each token passes or fails.
 use Rattle.std.proofs.Common.{◌≡◌, ℕ, zero, suc, List, [], ◌∷◌, Option, Some, None, Result, Ok}
-use Rattle.std.proofs.Common.{Err, refl, ap, subst, ◌∙◌, arith, inl}
+use Rattle.std.proofs.Common.{Err, refl, sym, ap, subst, ◌∙◌, arith, inl}
 use Rattle.std.proofs.Common.{inr, ◌⊎◌}
 use Rattle.std.specs.Prelude.{Any, IfSome}
 use Rattle.std.specs.List.{AllByRecursion}
@@ -17,15 +17,15 @@ use Rattle.tsp_types.specs.TstReading.{tst_at}
 use Rattle.tsp_types.proofs.TstReaders.{tst_takes, tst_fault}
 use Rattle.trust_lists.specs.Entries.{EntryValue}
 use Rattle.digests.specs.Named.{alg_named}
-use Rattle.check_verdict.specs.Passing.{Terms, StampedUnder, Passes}
+use Rattle.check_verdict.specs.Passing.{Terms, Due, IsDue, StampedUnder, PassesFor}
 use Rattle.check_verdict.specs.TokenRules.{IsTstReading, Reads, TokenClaim, token_claim, IsAuthority, IsNamedOne}
 use Rattle.check_verdict.specs.TokenRules.{IsForStamping, IsInPeriod, LeftForToken}
-use Rattle.check_verdict.specs.TokenRules.{token_filter, TokenFails}
+use Rattle.check_verdict.specs.TokenRules.{token_filter, TokenFailsFor}
 use Rattle.check_verdict.specs.Alone.{any_fault}
 use Rattle.check_verdict.specs.Laws.{TokensPassOrFail}
 use Rattle.check_verdict.proofs.Lists.{along}
 use Rattle.digests.proofs.Named.{named_says}
-use Rattle.check_verdict.proofs.Claims.{Says, claim_says}
+use Rattle.check_verdict.proofs.Claims.{Says, claim_says, signer_says, is_due}
 use Rattle.check_fit.proofs.Octets.{ValuesAreOctets, SignerOctets, SignedOctets, signed_octets}
 use Rattle.check_names.proofs.Deciding.{Decided, both, must_name}
 use Rattle.check_verdict.proofs.Deciding.{stamping, matches, stamping_only, holds, vouched, run}
@@ -124,55 +124,60 @@ under : (t : Terms) (c : TokenClaim) (e : EntryValue) → LeftForToken t c 5 e
 under t c e (((((role, same), named), purpose), period), vouched) =
     record { role = role; matches = same; named = named; purpose = purpose; period = period; vouched = vouched }
 
-pub passing : (t : Terms) (token stamped : List ℕ) (signed : Result SignedDataValue CmsFault)
+pub passing : (t : Terms) (token : List ℕ) (due : Due) (signed : Result SignedDataValue CmsFault)
     (stamp : Result TstValue Fault) (c : TokenClaim)
-    → Reads token signed stamp → Says t.policy stamped signed stamp c → Any (LeftForToken t c 5) t.trust
-    → Passes t token stamped c.moment
-passing t token stamped signed stamp c reads says any =
-    let named = allowed_is t.policy (alg_named says.tst.imprint.algorithm) says.alg says.allows in
-    record {
-      signed = says.value;
-      encodes = subst (IsReading token) says.reads reads.is_signed;
-      econtent_type = says.econtent_type;
-      content = says.content;
-      present = says.present;
-      signer = c.signer;
-      one_signer = says.one_signer;
-      attributes = c.attributes;
-      has = says.has;
-      fits = says.fits;
-      stamp = says.tst;
-      encodes_stamp = subst (IsTstReading says.content) says.reads_tst
-          (reads.is_stamp says.value says.content says.reads says.present);
-      calm = says.calm;
+    → Reads token signed stamp → Says t.policy due signed stamp c → Any (LeftForToken t c 5) t.trust
+    → PassesFor t token due c.moment
+passing t token due signed stamp c reads says any =
+    let s = says.states in
+    let named = allowed_is t.policy (alg_named s.tst.imprint.algorithm) says.statement.alg s.allows in
+    let left = subst (λ (d : TokenClaim). Any (LeftForToken t d 5) t.trust) (sym says.claims) any in
+    subst (λ (d : TokenClaim). PassesFor t token due d.moment) says.claims (record {
+      signed = s.value;
+      encodes = subst (IsReading token) s.reads reads.is_signed;
+      econtent_type = s.econtent_type;
+      content = s.content;
+      present = s.present;
+      signer = says.statement.claim.signer;
+      one_signer = s.one_signer;
+      attributes = says.statement.claim.attributes;
+      has = s.has;
+      fits = s.fits;
+      stamp = s.tst;
+      encodes_stamp = subst (IsTstReading s.content) s.reads_tst
+          (reads.is_stamp s.value s.content s.reads s.present);
+      calm = s.calm;
       imprint = record {
-        alg = says.alg;
-        named = named_says says.tst.imprint.algorithm says.alg named.0;
+        alg = says.statement.alg;
+        named = named_says s.tst.imprint.algorithm says.statement.alg named.0;
         allows = named.1;
-        digest = says.digest;
+        digest = subst (IsDue (due says.statement.alg)) (sym s.imprint)
+            (is_due (due says.statement.alg) says.statement.imprint says.digest);
       };
-      moment = says.moment;
-      entry = along (LeftForToken t c 5) (StampedUnder t c.signer c.attributes c.moment) t.trust
-          (λ e k p. under t c e p) any;
-    }
+      moment = s.moment;
+      entry = along (LeftForToken t says.statement.claim 5)
+          (StampedUnder t says.statement.claim.signer says.statement.claim.attributes says.statement.claim.moment)
+          t.trust (λ e k p. under t says.statement.claim e p) left;
+    })
 
-abbrev PassesOrFails : Terms → (token stamped : List ℕ) → Type 0
-PassesOrFails t token stamped =
-    ((m : ℕ) × Passes t token stamped m) ⊎ ((failed : TokenRule) × TokenFails t token stamped failed)
+abbrev PassesOrFails : Terms → (token : List ℕ) → Due → Type 0
+PassesOrFails t token due =
+    ((m : ℕ) × PassesFor t token due m) ⊎ ((failed : TokenRule) × TokenFailsFor t token due failed)
 
-by_claim : (t : Terms) (token stamped : List ℕ) → IsBytes token
+by_claim : (t : Terms) (token : List ℕ) (due : Due) → IsBytes token
     → (signed : Result SignedDataValue CmsFault) (stamp : Result TstValue Fault)
-    → Reads token signed stamp → (r : Result TokenClaim TokenRule) → token_claim t.policy stamped signed stamp ≡ r
-    → PassesOrFails t token stamped
-by_claim t token stamped fits signed stamp reads (Err failed) e =
+    → Reads token signed stamp → (r : Result TokenClaim TokenRule) → token_claim t.policy due signed stamp ≡ r
+    → PassesOrFails t token due
+by_claim t token due fits signed stamp reads (Err failed) e =
     inr (failed, record { signed = signed; stamp = stamp; reads = reads; first = inl e })
-by_claim t token stamped fits signed stamp reads (Ok c) e =
-    let says = claim_says t.policy stamped signed stamp c e in
-    let octets = attributes_of c.signer c.attributes says.has
-    (signer_of says.value c.signer says.one_signer
-    (signed_octets token says.value (subst (IsReading token) says.reads reads.is_signed) fits)) in
+by_claim t token due fits signed stamp reads (Ok c) e =
+    let says = claim_says t.policy due signed stamp c e in
+    let its = signer_says t.policy due signed stamp c says in
+    let octets = attributes_of c.signer c.attributes its.1
+    (signer_of says.states.value c.signer its.0
+    (signed_octets token says.states.value (subst (IsReading token) says.states.reads reads.is_signed) fits)) in
     elim (run (LeftForToken t c) 5 t.trust (omega arith) (left t c octets)) [
-      | inl any ↦ inl (c.moment, passing t token stamped signed stamp c reads says any)
+      | inl any ↦ inl (c.moment, passing t token due signed stamp c reads says any)
       | inr stops ↦ inr (
         token_filter stops.0,
         record {
@@ -185,5 +190,5 @@ by_claim t token stamped fits signed stamp reads (Ok c) e =
     ]
 
 pub pass_or_fail : TokensPassOrFail
-pass_or_fail t token stamped fits =
-    let l = looks_of token fits in by_claim t token stamped fits l.0 l.1 l.2 (token_claim t.policy stamped l.0 l.1) refl
+pass_or_fail t token due fits =
+    let l = looks_of token fits in by_claim t token due fits l.0 l.1 l.2 (token_claim t.policy due l.0 l.1) refl

@@ -13,7 +13,7 @@ use Rattle.cms_types.specs.SignerValue.{SignerValue}
 use Rattle.trust_lists.specs.Entries.{EntryValue}
 use Rattle.trust_lists.specs.Asking.{Asked}
 use Rattle.check_verdict.specs.Trusted.{Holds}
-use Rattle.check_verdict.specs.Passing.{Terms, StampedUnder, Passes}
+use Rattle.check_verdict.specs.Passing.{Terms, of_octets, StampedUnder, Passes}
 use Rattle.check_verdict.specs.Verdicts.{IsStamped, SignedUnder, IsMoment, IsLeast}
 use Rattle.check_verdict.specs.Rows.{of_signer, early_stamp, early_tst, early_token, digest_of_stamp}
 use Rattle.check_verdict.specs.Rows.{digest_of_early_stamp, attributes_over}
@@ -102,8 +102,8 @@ split P x xs (suc i, y, within, is, p) = inr (i, y, omega (arith, within), is, p
 
 at_one : (e : EntryValue) (n : ℕ) → IsStamped (with_entry e) who n → (n ≡ nine_oclock) ⊎ (n ≡ ten_oclock)
 at_one e n k = elim (split (PassesAt e n) early_token (time_stamp_token ∷ []) k) [
-  | inl p ↦ inl (tokens_law.one_moment (with_entry e) early_token abc n nine_oclock p (early_passes e))
-  | inr q ↦ inr (tokens_law.one_moment (with_entry e) time_stamp_token abc n ten_oclock
+  | inl p ↦ inl (tokens_law.one_moment (with_entry e) early_token (of_octets abc) n nine_oclock p (early_passes e))
+  | inr q ↦ inr (tokens_law.one_moment (with_entry e) time_stamp_token (of_octets abc) n ten_oclock
       (in_one (PassesAt e n) time_stamp_token q) (late_passes e))
 ]
 

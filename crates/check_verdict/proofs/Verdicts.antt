@@ -19,7 +19,7 @@ use Rattle.check_fit.specs.declared.rules.Refused.TheVariants as refused
 use Rattle.check_fit.specs.Fitting.{signer_answer}
 use Rattle.check_fit.specs.FileFitting.{IsReading, placed, file_rules}
 use Rattle.trust_lists.specs.Entries.{EntryValue}
-use Rattle.check_verdict.specs.Passing.{Terms, Passes}
+use Rattle.check_verdict.specs.Passing.{Terms, of_octets, Passes}
 use Rattle.check_verdict.specs.Filters.{StopsAt}
 use Rattle.check_verdict.specs.TokenRules.{TokenFails}
 use Rattle.check_verdict.specs.Verdicts.{tokens, SignedUnder, IsMoment, IsGreatest, SignerPasses, IsContent, Accepts}
@@ -138,7 +138,7 @@ pub one_token_rule : (t : Terms) (content econtent_type : List ℕ) (s : SignerV
 one_token_rule t content econtent_type s n k a b f g =
     let first = same_first f.first g.first f.others g.others (tokens s) f.are g.are in (
       f.is_first ∙ sym g.is_first,
-      tokens_law.one_rule t g.first s.signature a b
+      tokens_law.one_rule t g.first (of_octets s.signature) a b
           (subst (λ (x : List ℕ). TokenFails t x s.signature a) first f.fails) g.fails,
     )
 

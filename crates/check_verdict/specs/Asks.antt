@@ -9,19 +9,23 @@ use Rattle.check_fit.specs.Fitting.{Fits}
 use Rattle.trust_lists.specs.Entries.{EntryValue}
 use Rattle.trust_lists.specs.Asking.{Asked}
 use Rattle.check_verdict.specs.Trusted.{asked}
-use Rattle.check_verdict.specs.Passing.{Terms}
+use Rattle.check_verdict.specs.Passing.{Terms, Due, of_octets}
 use Rattle.check_verdict.specs.TokenRules.{TokenClaim, IsClaim, IsInPeriod}
 use Rattle.check_verdict.specs.Verdicts.{tokens, IsNamedSigners}
 
 -- asked about a token: K1 to K9 hold for it, and the entry passed K10 to K13
-pub record IsAskedOfToken (policy : Policy) (trust : List EntryValue) (stamped token : List ℕ)
+pub record IsAskedFor (policy : Policy) (trust : List EntryValue) (due : Due) (token : List ℕ)
     (q : Asked) : Type 0 where
   pub claim : TokenClaim
-  pub is_claim : IsClaim policy stamped token (Ok claim)
+  pub is_claim : IsClaim policy due token (Ok claim)
   pub entry : EntryValue
   pub trusted : Contains trust entry
   pub passed : IsInPeriod claim entry
   pub is : q ≡ asked entry.certificate claim.signer claim.attributes
+
+-- the same of a token for octets that were stamped
+abbrev pub IsAskedOfToken : Policy → (trust : List EntryValue) → (stamped token : List ℕ) → Asked → Type 0
+IsAskedOfToken policy trust stamped token q = IsAskedFor policy trust (of_octets stamped) token q
 
 -- asked about a signer: the entry passed S7 and S8
 pub record IsAskedOfSigner (t : Terms) (s : SignerValue) (attributes : List AttributeValue) (q : Asked) : Type 0 where

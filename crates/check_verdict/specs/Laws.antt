@@ -6,33 +6,33 @@ use Rattle.check_fit.specs.declared.rules.TokenRule.{TokenRule}
 use Rattle.check_fit.specs.declared.rules.Refused.{Refused}
 use Rattle.trust_lists.specs.Asking.{Asked}
 use Rattle.trust_lists.specs.Entries.{EntryValue}
-use Rattle.check_verdict.specs.Passing.{Terms, Passes}
-use Rattle.check_verdict.specs.TokenRules.{TokenFails}
+use Rattle.check_verdict.specs.Passing.{Terms, Due, PassesFor}
+use Rattle.check_verdict.specs.TokenRules.{TokenFailsFor}
 use Rattle.check_verdict.specs.Verdicts.{Yes, Refuses}
 use Rattle.check_verdict.specs.TokenVerdicts.{terms_of}
 use Rattle.check_verdict.specs.Questions.{IsQuestion}
 use Rattle.check_verdict.specs.Checking.{IsVerdict}
 use Rattle.check_verdict.specs.Alone.{token_alone, alone, verdict_alone}
 
--- a token never both passes and fails
+-- a token never both passes and fails, whatever is due as its imprint
 abbrev pub TokensNeverBoth : Type 0
-TokensNeverBoth = (t : Terms) (token stamped : List ℕ) (m : ℕ) (failed : TokenRule) → Passes t token stamped m
-    → TokenFails t token stamped failed → ⊥
+TokensNeverBoth = (t : Terms) (token : List ℕ) (due : Due) (m : ℕ) (failed : TokenRule) → PassesFor t token due m
+    → TokenFailsFor t token due failed → ⊥
 
 -- a token passes with at most one moment
 abbrev pub TokensHaveOneMoment : Type 0
-TokensHaveOneMoment = (t : Terms) (token stamped : List ℕ) (m n : ℕ) → Passes t token stamped m
-    → Passes t token stamped n → m ≡ n
+TokensHaveOneMoment = (t : Terms) (token : List ℕ) (due : Due) (m n : ℕ) → PassesFor t token due m
+    → PassesFor t token due n → m ≡ n
 
 -- and fails exactly one rule first
 abbrev pub TokensFailOneRule : Type 0
-TokensFailOneRule = (t : Terms) (token stamped : List ℕ) (a b : TokenRule) → TokenFails t token stamped a
-    → TokenFails t token stamped b → token_alone a ≡ token_alone b
+TokensFailOneRule = (t : Terms) (token : List ℕ) (due : Due) (a b : TokenRule) → TokenFailsFor t token due a
+    → TokenFailsFor t token due b → token_alone a ≡ token_alone b
 
 -- each token, of octets, passes or fails
 abbrev pub TokensPassOrFail : Type 0
-TokensPassOrFail = (t : Terms) (token stamped : List ℕ) → IsBytes token → ((m : ℕ) × Passes t token stamped m)
-    ⊎ ((failed : TokenRule) × TokenFails t token stamped failed)
+TokensPassOrFail = (t : Terms) (token : List ℕ) (due : Due) → IsBytes token → ((m : ℕ) × PassesFor t token due m)
+    ⊎ ((failed : TokenRule) × TokenFailsFor t token due failed)
 
 -- a file is never both accepted and refused
 abbrev pub FilesNeverBoth : Type 0

@@ -3,6 +3,7 @@ pub mod Trusted
 pub mod Passing
 pub mod Filters
 pub mod Stages
+pub mod StampsOfSources
 pub mod TokenRules
 pub mod TokenStages
 pub mod TokenVerdicts

@@ -1,13 +1,17 @@
 -- When a token passes (RFC 3161, 2.4.2 and 4; RFC 5652, 5.6): facts in no order.
-use Rattle.std.specs.Prelude.{◌≡◌, ◌≢◌, ℕ, Bool, true, List, [], ◌∷◌, Some, Any, unwrap_or}
+use Rattle.std.specs.Prelude.{◌≡◌, ◌≢◌, ℕ, Bool, true, List, [], ◌∷◌, Option, Some, None, Any, unwrap_or}
+use Rattle.std.specs.Prelude.{if◌then◌else◌}
 use Rattle.std.specs.List.{AllByRecursion}
 use Rattle.der_core.specs.declared.flag.Flag.TheVariants.{True}
 use Rattle.der_time.specs.Moments.{generalized_moment}
 use Rattle.cert_types.specs.ExtensionValue.{ExtensionValue}
 use Rattle.cert_types.specs.Purposes.{IsStampingOnly}
 use Rattle.digests.specs.Algorithms.{Names}
+use Rattle.digests.specs.Digests.{alg_of, octets_of}
 use Rattle.digests.specs.Messages.{digest_of}
+use Rattle.digests.specs.Named.{is_alg}
 use Rattle.digests.specs.declared.algorithm.Alg.{Alg}
+use Rattle.digests.specs.declared.value.Digest.{Digest}
 use Rattle.cms_types.specs.AttributeValue.{AttributeValue}
 use Rattle.cms_types.specs.SignerValue.{SignerValue}
 use Rattle.cms_types.specs.SignedDataValue.{SignedDataValue, EncodesSignedData}
@@ -27,12 +31,29 @@ pub record Terms : Type 0 where
   pub trust : List EntryValue
   pub vouches : Asked → Bool
 
--- the imprint is the digest of these octets, by an algorithm that is allowed
-pub record IsImprintOf (policy : Policy) (imprint : ImprintValue) (stamped : List ℕ) : Type 0 where
+-- what the imprint of a token must be, by each algorithm; by one that has nothing here no imprint will do
+abbrev pub Due : Type 0
+Due = Alg → Option (List ℕ)
+
+-- the digest of these octets, if they were stamped
+abbrev pub of_octets : (stamped : List ℕ) → Due
+of_octets stamped alg = Some (digest_of alg stamped)
+
+-- this digest, by its algorithm alone
+abbrev pub of_digest : Digest → Due
+of_digest digest alg = if is_alg alg (alg_of digest) then Some (octets_of digest) else None
+
+-- the octets are those that are due, if any are
+abbrev pub IsDue : (due : Option (List ℕ)) → List ℕ → Type 0
+IsDue (Some digest) octets = octets ≡ digest
+IsDue None octets = ⊥
+
+-- the imprint is what is due by its algorithm, which is allowed
+pub record IsImprint (policy : Policy) (imprint : ImprintValue) (due : Due) : Type 0 where
   pub alg : Alg
   pub named : Names imprint.algorithm.oid imprint.algorithm.parameters alg
   pub allows : is_allowed policy alg ≡ true
-  pub digest : imprint.digest ≡ digest_of alg stamped
+  pub digest : IsDue (due alg) imprint.digest
 
 -- the verifier vouches for the signature of a signer with these signed attributes under the key of an entry
 abbrev pub Vouched : Terms → EntryValue → SignerValue → List AttributeValue → Type 0
@@ -52,8 +73,8 @@ pub record StampedUnder (t : Terms) (s : SignerValue) (attributes : List Attribu
 abbrev pub IsCalm : TstValue → Type 0
 IsCalm x = AllByRecursion (λ (e : ExtensionValue). e.critical ≢ True) (unwrap_or x.extensions [])
 
--- The token, octets of an attribute's value, passes for what was stamped, with this moment.
-pub record Passes (t : Terms) (token stamped : List ℕ) (m : ℕ) : Type 0 where
+-- The token, a ContentInfo's octets, passes with this moment, where this is due as its imprint.
+pub record PassesFor (t : Terms) (token : List ℕ) (due : Due) (m : ℕ) : Type 0 where
   pub signed : SignedDataValue
   pub encodes : EncodesSignedData token signed
   pub econtent_type : signed.encapsulated.content_type ≡ id_tst_info
@@ -67,6 +88,10 @@ pub record Passes (t : Terms) (token stamped : List ℕ) (m : ℕ) : Type 0 wher
   pub stamp : TstValue
   pub encodes_stamp : EncodesTst content stamp
   pub calm : IsCalm stamp
-  pub imprint : IsImprintOf t.policy stamp.imprint stamped
+  pub imprint : IsImprint t.policy stamp.imprint due
   pub moment : generalized_moment stamp.time ≡ m
   pub entry : Any (StampedUnder t signer attributes m) t.trust
+
+-- It passes with this moment for octets that were stamped.
+abbrev pub Passes : Terms → (token stamped : List ℕ) → (m : ℕ) → Type 0
+Passes t token stamped m = PassesFor t token (of_octets stamped) m

@@ -4,13 +4,15 @@ use Rattle.cms_types.specs.AttributeValue.{AttributeValue}
 use Rattle.cms_types.specs.SignerValue.{SignerValue}
 use Rattle.cms_types.specs.SignedDataValue.{SignedDataValue, EncodesSignedData}
 use Rattle.check_fit.specs.declared.rules.Refused.{Refused}
+use Rattle.check_fit.specs.declared.rules.TokenRule.{TokenRule}
 use Rattle.trust_lists.specs.declared.role.Role.{Role}
 use Rattle.trust_lists.specs.Entries.{EntryValue}
 use Rattle.trust_lists.specs.Asking.{Asked}
 use Rattle.trust_lists.specs.declared.role.Role.TheVariants.{Signer, Tsa}
 use Rattle.check_verdict.specs.Trusted.{asked}
 use Rattle.check_names.specs.Naming.{Matches}
-use Rattle.check_verdict.specs.Passing.{Terms}
+use Rattle.check_verdict.specs.Passing.{Terms, Due, PassesFor}
+use Rattle.check_verdict.specs.TokenRules.{TokenFailsFor}
 use Rattle.check_verdict.specs.Verdicts.{tokens, Yes, Refuses}
 
 -- a question about a signer with signed attributes, under an entry of this role that matches
@@ -57,3 +59,16 @@ YesSuffices = (t : Terms) (file : List ℕ) (handed : Option (List ℕ)) (answer
 abbrev pub RefusalsSuffice : Type 0
 RefusalsSuffice = (t : Terms) (file : List ℕ) (handed : Option (List ℕ)) (answers : Asked → Bool)
     → Answers t file answers → (r : Refused) → Refuses t file handed r ↔ Refuses (with_answers t answers) file handed r
+
+-- these answers to the questions about the token are those of the verifier
+abbrev pub AnswersOfToken : Terms → (token : List ℕ) → (Asked → Bool) → Type 0
+AnswersOfToken t token answers = (q : Asked) → IsAboutToken t.trust token q → answers q ≡ t.vouches q
+
+-- a token passes with such answers exactly if it does with the verifier's, and so it fails
+abbrev pub PassingSuffices : Type 0
+PassingSuffices = (t : Terms) (token : List ℕ) (due : Due) (answers : Asked → Bool) → AnswersOfToken t token answers
+    → (m : ℕ) → PassesFor t token due m ↔ PassesFor (with_answers t answers) token due m
+
+abbrev pub FailuresSuffice : Type 0
+FailuresSuffice = (t : Terms) (token : List ℕ) (due : Due) (answers : Asked → Bool) → AnswersOfToken t token answers
+    → (failed : TokenRule) → TokenFailsFor t token due failed ↔ TokenFailsFor (with_answers t answers) token due failed

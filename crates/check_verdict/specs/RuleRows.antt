@@ -27,6 +27,7 @@ use Rattle.trust_lists.specs.Entries.{EntryValue}
 use Rattle.trust_lists.specs.declared.role.Role.TheVariants.{Tsa}
 use Rattle.check_names.specs.NamingRows.{named_by, digest_of_certificate}
 use Rattle.tsp_types.specs.TstValue.{id_tst_info}
+use Rattle.check_verdict.specs.Passing.{of_octets}
 use Rattle.check_verdict.specs.TokenRules.{TokenClaim, token_claim, RunsOut}
 use Rattle.check_verdict.specs.Rows.{certificate, tst, digest_of_stamp, token_signer, token_data, trusted, terms}
 
@@ -48,7 +49,7 @@ an_extension critical = Some (record { id = hex "883701"; critical = critical; v
 
 -- a token over abc that is read as this, with a content that is read as that, fails this rule first
 abbrev pub Breaks : Result SignedDataValue CmsFault → Result TstValue Fault → TokenRule → Type 0
-Breaks signed stamp failed = token_claim strict (codes "abc") signed stamp ≡ Err failed
+Breaks signed stamp failed = token_claim strict (of_octets (codes "abc")) signed stamp ≡ Err failed
 
 -- each rule, with all later rules failing too as far as possible
 pub record ClaimRows : Type 0 where

@@ -13,7 +13,7 @@ use Rattle.der_grammar.specs.Table.{tst_info}
 use Rattle.der_time.specs.Moments.{generalized_moment}
 use Rattle.cert_types.specs.ExtensionValue.{ExtensionValue}
 use Rattle.cert_types.specs.Purposes.{IsStampingOnly}
-use Rattle.digests.specs.Messages.{digest_of}
+use Rattle.digests.specs.declared.algorithm.Alg.{Alg}
 use Rattle.cms_types.specs.AttributeValue.{AttributeValue}
 use Rattle.cms_types.specs.SignerValue.{SignerValue}
 use Rattle.cms_types.specs.SignedDataValue.{SignedDataValue}
@@ -31,7 +31,7 @@ use Rattle.digests.specs.Named.{alg_named}
 use Rattle.check_names.specs.Naming.{Matches, MustName}
 use Rattle.check_verdict.specs.Filters.{StopsAt}
 use Rattle.tsp_types.specs.TstValue.{id_tst_info}
-use Rattle.check_verdict.specs.Passing.{Terms, Vouched}
+use Rattle.check_verdict.specs.Passing.{Terms, Due, of_octets, Vouched}
 
 abbrev pub is_critical : ExtensionValue → Bool
 is_critical e = spelled e.critical
@@ -53,11 +53,17 @@ pub record Reads (token : List ℕ) (signed : Result SignedDataValue CmsFault)
   pub is_stamp : (v : SignedDataValue) (content : List ℕ) → signed ≡ Ok v → v.encapsulated.content ≡ Some content
       → IsTstReading content stamp
 
--- what a token states if K1 to K9 hold
+-- what a token states: who signed it, and at which moment what was stamped existed
 pub record TokenClaim : Type 0 where
   pub signer : SignerValue
   pub attributes : List AttributeValue
   pub moment : ℕ
+
+-- the same, and by which algorithm which imprint, if K1 to K8 hold
+pub record Statement : Type 0 where
+  pub claim : TokenClaim
+  pub alg : Alg
+  pub imprint : List ℕ
 
 -- K2 and K3: the content, which is a TSTInfo by its type
 abbrev pub held : SignedDataValue → Result (List ℕ) TokenRule
@@ -69,29 +75,46 @@ abbrev pub signed_by : Policy → SignedDataValue → (content : List ℕ) → R
 signed_by policy v content = ok_or (only v.signers) rule.OneSigner >>= λ s.
     or_as rule.Attributes (signer_answer policy content id_tst_info s) >>= λ u. Ok s
 
--- K7, K8 and K9
-abbrev pub stamp_verdict : Policy → (stamped : List ℕ) → TstValue → Result (Unit {0}) TokenRule
-stamp_verdict policy stamped x = if some is_critical (unwrap_or x.extensions []) then Err rule.CriticalExtension
-    else (ok_or (allowed policy (alg_named x.imprint.algorithm)) rule.ImprintAlgorithm
-    >>= λ alg. if is_same x.imprint.digest (digest_of alg stamped) then Ok tt else Err rule.ImprintDiffers)
+-- K7 and K8: the algorithm of the imprint, which is allowed
+abbrev pub imprint_alg : Policy → TstValue → Result Alg TokenRule
+imprint_alg policy x = if some is_critical (unwrap_or x.extensions []) then Err rule.CriticalExtension
+    else ok_or (allowed policy (alg_named x.imprint.algorithm)) rule.ImprintAlgorithm
 
 -- what a signer states, and the time that its content states
 abbrev pub claimed : SignerValue → TstValue → TokenClaim
 claimed s x = record { signer = s; attributes = unwrap_or s.signed_attributes []; moment = generalized_moment x.time }
 
--- what it states, or the first of K1 to K9 that fails
-abbrev pub token_claim : Policy → (stamped : List ℕ) → Result SignedDataValue CmsFault → Result TstValue Fault
-    → Result TokenClaim TokenRule
-token_claim policy stamped signed stamp = or_as rule.Malformed signed >>= λ v.
+-- the same with its imprint
+abbrev pub stated : SignerValue → TstValue → Alg → Statement
+stated s x alg = record { claim = claimed s x; alg = alg; imprint = x.imprint.digest }
+
+-- what it states, or the first of K1 to K8 that fails
+abbrev pub token_statement : Policy → Result SignedDataValue CmsFault → Result TstValue Fault
+    → Result Statement TokenRule
+token_statement policy signed stamp = or_as rule.Malformed signed >>= λ v.
     held v >>= λ content.
     signed_by policy v content >>= λ s.
     or_as rule.TstMalformed stamp >>= λ x.
-    stamp_verdict policy stamped x >>= λ u. Ok (claimed s x)
+    imprint_alg policy x >>= λ alg. Ok (stated s x alg)
+
+-- K8 and K9: the imprint is what is due by its algorithm
+abbrev pub due_claim : Due → Statement → Result TokenClaim TokenRule
+due_claim due s = ok_or (due s.alg) rule.ImprintAlgorithm >>= λ digest.
+    if is_same s.imprint digest then Ok s.claim else Err rule.ImprintDiffers
+
+-- what it states, or the first of K1 to K9 that fails
+abbrev pub token_claim : Policy → Due → Result SignedDataValue CmsFault → Result TstValue Fault
+    → Result TokenClaim TokenRule
+token_claim policy due signed stamp = token_statement policy signed stamp >>= due_claim due
 
 -- the same for octets, by what they and their content are read as
-abbrev pub IsClaim : Policy → (stamped token : List ℕ) → Result TokenClaim TokenRule → Type 0
-IsClaim policy stamped token result = (signed : Result SignedDataValue CmsFault) × (stamp : Result TstValue Fault)
-    × Reads token signed stamp × (result ≡ token_claim policy stamped signed stamp)
+abbrev pub IsStatement : Policy → (token : List ℕ) → Result Statement TokenRule → Type 0
+IsStatement policy token result = (signed : Result SignedDataValue CmsFault) × (stamp : Result TstValue Fault)
+    × Reads token signed stamp × (result ≡ token_statement policy signed stamp)
+
+abbrev pub IsClaim : Policy → Due → (token : List ℕ) → Result TokenClaim TokenRule → Type 0
+IsClaim policy due token result = (signed : Result SignedDataValue CmsFault) × (stamp : Result TstValue Fault)
+    × Reads token signed stamp × (result ≡ token_claim policy due signed stamp)
 
 -- what an entry passes that is left after each of the filters K10 to K14
 abbrev pub IsAuthority : TokenClaim → EntryValue → Type 0
@@ -128,10 +151,14 @@ pub record RunsOut (t : Terms) (c : TokenClaim) (failed : TokenRule) : Type 0 wh
   pub stops : StopsAt (LeftForToken t c) 5 t.trust filter
   pub is : failed ≡ token_filter filter
 
--- the first of K1 to K14 that the token fails
-pub record TokenFails (t : Terms) (token stamped : List ℕ) (failed : TokenRule) : Type 0 where
+-- the first of K1 to K14 that the token fails, where this is due as its imprint
+pub record TokenFailsFor (t : Terms) (token : List ℕ) (due : Due) (failed : TokenRule) : Type 0 where
   pub signed : Result SignedDataValue CmsFault
   pub stamp : Result TstValue Fault
   pub reads : Reads token signed stamp
-  pub first : (token_claim t.policy stamped signed stamp ≡ Err failed)
-      ⊎ ((c : TokenClaim) × (token_claim t.policy stamped signed stamp ≡ Ok c) × RunsOut t c failed)
+  pub first : (token_claim t.policy due signed stamp ≡ Err failed)
+      ⊎ ((c : TokenClaim) × (token_claim t.policy due signed stamp ≡ Ok c) × RunsOut t c failed)
+
+-- the first that it fails for octets that were stamped
+abbrev pub TokenFails : Terms → (token stamped : List ℕ) → (failed : TokenRule) → Type 0
+TokenFails t token stamped failed = TokenFailsFor t token (of_octets stamped) failed

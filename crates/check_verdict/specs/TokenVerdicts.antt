@@ -7,17 +7,22 @@ use Rattle.check_fit.specs.declared.rules.TokenRefused.{TokenRefused}
 use Rattle.check_fit.specs.declared.rules.TokenRefused.TheVariants as refused
 use Rattle.trust_lists.specs.Asking.{Asked}
 use Rattle.trust_lists.specs.Entries.{EntryValue}
-use Rattle.check_verdict.specs.Passing.{Terms, Passes}
-use Rattle.check_verdict.specs.TokenRules.{TokenFails}
+use Rattle.check_verdict.specs.Passing.{Terms, Due, of_octets, PassesFor}
+use Rattle.check_verdict.specs.TokenRules.{TokenFailsFor}
 
 abbrev pub terms_of : Policy → List EntryValue → (Asked → Bool) → Terms
 terms_of policy trust vouches = record { policy = policy; trust = trust; vouches = vouches }
 
--- the token passes with this moment; or this is the first rule that it fails; or the verifier failed
+-- where this is due as its imprint, the token passes with this moment; or this is the first rule that it fails; or the
+-- verifier failed
+abbrev pub IsVerdictFor : Terms → (token : List ℕ) → Due → Result ℕ TokenRefused → Type 0
+IsVerdictFor t token due (Ok m) = PassesFor t token due m
+IsVerdictFor t token due (Err (refused.Rule failed)) = TokenFailsFor t token due failed
+IsVerdictFor t token due (Err (refused.Device fault)) = fault ≡ device.AskFailed
+
+-- the same of a token for octets that were stamped
 abbrev pub IsTokenVerdict : Terms → (token stamped : List ℕ) → Result ℕ TokenRefused → Type 0
-IsTokenVerdict t token stamped (Ok m) = Passes t token stamped m
-IsTokenVerdict t token stamped (Err (refused.Rule failed)) = TokenFails t token stamped failed
-IsTokenVerdict t token stamped (Err (refused.Device fault)) = fault ≡ device.AskFailed
+IsTokenVerdict t token stamped result = IsVerdictFor t token (of_octets stamped) result
 
 -- the verifier failed
 abbrev pub IsDevice : Result ℕ TokenRefused → Type 0

@@ -1,8 +1,8 @@
-//! What a time-stamp token states, before it matters who is trusted: K1 to K9.
+//! What a time-stamp token states, before it matters what was stamped and who is trusted: K1 to K8.
 ghost use Rattle.std.specs.Prelude.{◌≡◌, [], Ok, Err, MatchResult, unwrap_or};
 ghost use Rattle.der_core.specs.Lists.{some};
 ghost use Rattle.check_fit.specs.FileFitting.{IsReading};
-ghost use Rattle.check_verdict.specs.TokenRules.{IsTstReading, IsClaim, is_critical, held, signed_by, stamp_verdict};
+ghost use Rattle.check_verdict.specs.TokenRules.{IsTstReading, IsStatement, is_critical, held, signed_by, imprint_alg};
 
 use cert_types::Extensions;
 use check_fit::{Policy, TokenRule, signer_fits};
@@ -10,12 +10,12 @@ use cms_types::{CmsFault, SignedData, Signer};
 use der_core::octets::is_same;
 use der_core::{Fault, Flag, ReadFault};
 use der_time::Moment;
-use digests::{Alg, digest};
+use digests::Alg;
 use std::marker::Model;
 use tsp_types::TstInfo;
 use tsp_types::oids::TST_INFO;
 
-/// What a token states if K1 to K9 hold.
+/// Who signed a token, and when what was stamped existed.
 ///
 /// Contracts see a `TokenClaim` (`specs/TokenRules.antt`).
 #[derive(Debug, Drop)]
@@ -37,6 +37,26 @@ impl<'a> Model for Claim<'a> {
       attributes = unwrap_or c.signer.signed_attributes [];
       moment = c.moment;
     } };
+}
+
+/// What a token states (RFC 3161 2.4.2): who signed it, a moment, and the imprint of what was stamped.
+///
+/// Contracts see a `Statement` (`specs/TokenRules.antt`).
+#[derive(Debug, Drop)]
+pub struct Stamp<'a> {
+    /// Who states it, and when what was stamped existed.
+    pub(crate) claim: Claim<'a>,
+    alg: Alg,
+    /// The octets of the imprint.
+    pub(crate) imprint: &'a [u8],
+}
+
+impl<'a> Model for Stamp<'a> {
+    ghost use Rattle.check_verdict.specs.TokenRules.{Statement};
+
+    ghost Value = { Statement };
+
+    ghost view = { λ s. record { claim = s.claim; alg = s.alg; imprint = s.imprint.now } };
 }
 
 // K2 and K3: the content, which is a TSTInfo by its type.
@@ -93,21 +113,17 @@ fn has_critical(stamp: &TstInfo) -> bool
     }
 }
 
-// K7, K8 and K9: no extension is critical, and the imprint is the digest of what was stamped.
-fn stamp_verdict(policy: Policy, stamped: &[u8], stamp: &TstInfo) -> Result<(), TokenRule>
-    ensures { result ≡ stamp_verdict policy stamped.now stamp.now }
+// K7 and K8: no extension is critical, and the imprint's algorithm is allowed.
+fn imprint_alg(policy: Policy, stamp: &TstInfo) -> Result<Alg, TokenRule>
+    ensures { result ≡ imprint_alg policy stamp.now }
 {
     if has_critical(stamp) {
         return Err(TokenRule::CriticalExtension);
     }
     let algorithm = stamp.algorithm();
-    let Some(alg) = policy.allowed(Alg::of(algorithm.oid(), algorithm.parameters())) else {
-        return Err(TokenRule::ImprintAlgorithm);
-    };
-    if is_same(stamp.imprint(), digest(alg, stamped).bytes()) {
-        Ok(())
-    } else {
-        Err(TokenRule::ImprintDiffers)
+    match policy.allowed(Alg::of(algorithm.oid(), algorithm.parameters())) {
+        Some(alg) => Ok(alg),
+        None => Err(TokenRule::ImprintAlgorithm),
     }
 }
 
@@ -129,27 +145,37 @@ fn stamp_of<'a>(content: &'a [u8]) -> Result<TstInfo<'a>, Fault>
     }
 }
 
-/// What the token, the octets of a ContentInfo, states about octets that were stamped (RFC 3161 2.4.2).
-///
-/// Errors: the first of K1 to K9 that fails.
-pub(crate) fn claim_of<'a>(
-    policy: Policy,
-    stamped: &[u8],
-    token: &'a [u8],
-) -> Result<Claim<'a>, TokenRule>
-    ensures { IsClaim policy stamped.now token.now result }
-{
-    let signed = match opened(token) {
-        Ok(signed) => signed,
-        Err(fault) => return Err(TokenRule::Malformed(fault)),
-    };
-    let content = held(&signed)?;
-    let signer = signed_by(policy, &signed, content)?;
-    let stamp = match stamp_of(content) {
-        Ok(stamp) => stamp,
-        Err(fault) => return Err(TokenRule::TstMalformed(fault)),
-    };
-    stamp_verdict(policy, stamped, &stamp)?;
-    let moment = stamp.time();
-    Ok(Claim { signer, moment })
+impl<'a> Stamp<'a> {
+    /// What a token, the octets of a ContentInfo, states (RFC 3161 2.4.2).
+    ///
+    /// Errors: the first of K1 to K8 that fails.
+    pub fn read(policy: Policy, token: &'a [u8]) -> Result<Stamp<'a>, TokenRule>
+        // What the token states, or the first of K1 to K8 that fails.
+        ensures { IsStatement policy token.now result }
+    {
+        let signed = match opened(token) {
+            Ok(signed) => signed,
+            Err(fault) => return Err(TokenRule::Malformed(fault)),
+        };
+        let content = held(&signed)?;
+        let signer = signed_by(policy, &signed, content)?;
+        let stamp = match stamp_of(content) {
+            Ok(stamp) => stamp,
+            Err(fault) => return Err(TokenRule::TstMalformed(fault)),
+        };
+        let alg = imprint_alg(policy, &stamp)?;
+        let moment = stamp.time();
+        Ok(Stamp {
+            claim: Claim { signer, moment },
+            alg,
+            imprint: stamp.imprint(),
+        })
+    }
+
+    /// The algorithm of the imprint: by this one what was stamped must be digested.
+    pub fn alg(&self) -> Alg
+        ensures { result ≡ self.now.alg }
+    {
+        self.alg
+    }
 }

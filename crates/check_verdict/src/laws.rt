@@ -7,7 +7,7 @@ ghost use Rattle.check_verdict.specs.OneSigner.{SignersAreJudged, SignersNeverBo
 ghost use Rattle.check_verdict.specs.OneSigner.{SignersHaveOneRefusal, SignersOfAFile};
 ghost use Rattle.check_verdict.specs.Rows.{ValueRows, TokenRows, FileRows, TwoTokenRows};
 ghost use Rattle.check_verdict.specs.RuleRows.{ClaimRows, PurposeRows};
-ghost use Rattle.check_verdict.specs.Questions.{YesSuffices, RefusalsSuffice};
+ghost use Rattle.check_verdict.specs.Questions.{YesSuffices, RefusalsSuffice, PassingSuffices, FailuresSuffice};
 
 /// Each token passes or fails, and never both; it passes with at most one moment, and fails exactly one rule first.
 pub fn tokens_are_judged()
@@ -59,6 +59,10 @@ pub fn questions_suffice()
     ensures refusals { RefusalsSuffice }
     // Answers that agree on a file's questions give one verdict, up to the fault of form that it names.
     ensures verdicts { AnswersDecide }
+    // A token passes exactly if it does under other answers that agree on its questions, at the same moment.
+    ensures passing { PassingSuffices }
+    // It fails a rule first exactly if it does under those answers.
+    ensures failures { FailuresSuffice }
 {}
 
 /// The worked rows of a token and of a file, over octets that are written out.

@@ -16,6 +16,7 @@ mod laws;
 mod one_signer;
 mod signer;
 mod signer_stages;
+mod stamp;
 mod tally;
 mod token;
 mod token_stages;
@@ -24,6 +25,7 @@ pub use accepted::Accepted;
 pub use asking::{holds, question_of};
 pub use candidates::next_candidate;
 pub use checker::Checker;
+pub use claim::Stamp;
 pub use file::{check, judge_file, judge_signers};
 pub use hashed::KeptDigests;
 pub use laws::{
@@ -31,4 +33,5 @@ pub use laws::{
     tokens_are_judged,
 };
 pub use one_signer::check_signer;
+pub use stamp::{check_stamp, judge_stamp, judge_stamp_of};
 pub use token::{check_token, judge_token};

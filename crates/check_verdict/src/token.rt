@@ -1,17 +1,52 @@
-ghost use Rattle.std.specs.Prelude.{◌≡◌, ℕ, Bool, true};
+ghost use Rattle.std.specs.Prelude.{◌≡◌, ℕ, Bool, true, List, Some, Ok};
 ghost use Rattle.trust_lists.specs.Asking.{Asked};
-ghost use Rattle.check_verdict.specs.Passing.{Passes};
-ghost use Rattle.check_verdict.specs.Asks.{IsAskedOfToken};
+ghost use Rattle.check_verdict.specs.Passing.{Due, Passes};
+ghost use Rattle.check_verdict.specs.Asks.{IsAskedFor, IsAskedOfToken};
 ghost use Rattle.check_verdict.specs.Checkers.{terms_for};
-ghost use Rattle.check_verdict.specs.TokenVerdicts.{terms_of, IsTokenVerdict, PassesOrDevice, CountsAsks};
+ghost use Rattle.check_verdict.specs.TokenRules.{IsStatement};
+ghost use Rattle.check_verdict.specs.TokenVerdicts.{terms_of, IsTokenVerdict, IsVerdictFor, PassesOrDevice, CountsAsks};
 
 use crate::accepted::Accepted;
 use crate::checker::Checker;
-use crate::claim::claim_of;
+use crate::claim::Stamp;
 use crate::token_stages::token_stages;
-use check_fit::{DeviceFault, Policy, TokenRefused};
+use check_fit::{DeviceFault, Policy, TokenRefused, TokenRule};
+use der_core::octets::is_same;
+use digests::digest;
 use list_answers::Verifier;
 use trust_lists::Trust;
+
+/// The verdict of a token that states this, whose imprint must have these octets: K9 to K14.
+pub(crate) fn judge_imprint<V: Verifier>(
+    stamp: &Stamp,
+    imprint: &[u8],
+    checker: &mut Checker,
+    verifier: &mut V,
+) -> Result<Accepted, TokenRefused>
+    ensures judged { let terms = terms_for checker.old (V.vouches verifier.old) in
+        (token : List ℕ) (due : Due) → IsStatement checker.old.policy token (Ok stamp.now)
+        → due stamp.now.alg ≡ Some imprint.now → IsVerdictFor terms token due result }
+    ensures only { (token : List ℕ) (due : Due) → IsStatement checker.old.policy token (Ok stamp.now)
+        → due stamp.now.alg ≡ Some imprint.now → (test : Asked → Bool)
+        → ((q : Asked) → IsAskedFor checker.old.policy checker.old.trust due token q → test q ≡ true)
+        → V.asked_only test verifier.old verifier.new }
+    ensures same { V.vouches verifier.new ≡ V.vouches verifier.old }
+    ensures count { CountsAsks result (V.failures verifier.old) (V.failures verifier.new) }
+    ensures stays { checker.new ≡ checker.old }
+{
+    if !is_same(stamp.imprint, imprint) {
+        return Err(TokenRefused::Rule(TokenRule::ImprintDiffers));
+    }
+    let Ok(best) = token_stages(&stamp.claim, checker, verifier) else {
+        return Err(TokenRefused::Device(DeviceFault::AskFailed));
+    };
+    match best {
+        Some(failed) => Err(TokenRefused::Rule(failed.rule())),
+        None => Ok(Accepted {
+            moment: stamp.claim.moment,
+        }),
+    }
+}
 
 /// The verdict of `check_token`, by a `Checker`, which serves for many tokens.
 ///
@@ -38,19 +73,12 @@ pub fn judge_token<V: Verifier>(
     // What the check goes by stays the same.
     ensures stays { checker.new ≡ checker.old }
 {
-    let claim = match claim_of(checker.policy(), stamped, token) {
-        Ok(claim) => claim,
+    let stamp = match Stamp::read(checker.policy(), token) {
+        Ok(stamp) => stamp,
         Err(rule) => return Err(TokenRefused::Rule(rule)),
     };
-    let Ok(best) = token_stages(&claim, checker, verifier) else {
-        return Err(TokenRefused::Device(DeviceFault::AskFailed));
-    };
-    match best {
-        Some(failed) => Err(TokenRefused::Rule(failed.rule())),
-        None => Ok(Accepted {
-            moment: claim.moment,
-        }),
-    }
+    let digest = digest(stamp.alg(), stamped);
+    judge_imprint(&stamp, digest.bytes(), checker, verifier)
 }
 
 /// Whether a time-stamp token, the octets of a ContentInfo, is valid for octets that were stamped, and when these

@@ -100,6 +100,16 @@ TokenFails request token failed =
     (Asks (HasNonce request token.stamp) rule.Nonce (Asks (HasPolicy request token.stamp) rule.Policy
     (Asks (HasWhatIsAsked request token) rule.CertMissing (λ other. ⊥)))) failed
 
+-- these are the octets of the token of a response that was granted
+pub record IsGrantedToken (response : ResponseValue) (octets : List ℕ) : Type 0 where
+  pub granted : IsGranted response
+  pub holds : response.token ≡ Some octets
+
+-- there are none, and this is the first of P1 and P2 that fails
+abbrev pub LacksToken : ResponseValue → MatchFault → Type 0
+LacksToken response failed = Asks (IsGranted response) rule.Status
+    (AsksFor (λ octets. response.token ≡ Some octets) rule.NoToken (λ octets other. ⊥)) failed
+
 -- the response doesn't answer the request, and this is the first of P1 to P7 that fails
 abbrev pub MatchFails : RequestValue → ResponseValue → MatchFault → Type 0
 MatchFails request response failed =

@@ -1,6 +1,6 @@
-ghost use Rattle.std.specs.Prelude.{◌↔◌, IsTrue, IsOk, IfErr, Any};
+ghost use Rattle.std.specs.Prelude.{◌≡◌, ◌↔◌, IsTrue, IsOk, IfErr, IfOk, Any, Some};
 ghost use Rattle.tsp_requester.specs.Answering.{IsGranted, SameImprint, HasNonce, HasPolicy, IsNamed, HasCertificate};
-ghost use Rattle.tsp_requester.specs.Answering.{HasWhatIsAsked, Answering, MatchFails};
+ghost use Rattle.tsp_requester.specs.Answering.{HasWhatIsAsked, Answering, IsGrantedToken, LacksToken, MatchFails};
 ghost use Rattle.tsp_requester.specs.TokenParts.{token_value};
 
 use crate::rules::MatchFault;
@@ -100,6 +100,24 @@ fn has_what_is_asked(request: &Request, token: &TimeStamp) -> bool
     }
 }
 
+/// The octets of the token of a response that was granted (RFC 3161 2.4.2). Whether they are a token isn't asked.
+///
+/// Errors: `P1` if the status is neither granted nor grantedWithMods; `P2` if there is no token.
+pub fn granted_token<'a>(response: &Response<'a>) -> Result<&'a [u8], MatchFault>
+    // Returns the token of the response, which was granted.
+    ensures token { IfOk result (λ octets. IsGrantedToken response.now octets.now) }
+    // Returns P1 or P2, the first that fails.
+    ensures rule { IfErr result (LacksToken response.now) }
+{
+    if !is_granted(response) {
+        return Err(MatchFault::Status);
+    }
+    match response.token() {
+        Some(octets) => Ok(octets),
+        None => Err(MatchFault::NoToken),
+    }
+}
+
 /// Whether the response answers the request (RFC 3161 2.2, 2.4.2). No signature is checked, and no certificate.
 ///
 /// Errors: the first that applies. `P1` if the status is neither granted nor grantedWithMods; `P2` if there is no
@@ -114,12 +132,7 @@ pub fn answers(request: &Request, response: &Response) -> Result<(), MatchFault>
     // Returns the first of P1 to P7 that fails.
     ensures rule { IfErr result (MatchFails request.now response.now) }
 {
-    if !is_granted(response) {
-        return Err(MatchFault::Status);
-    }
-    let Some(octets) = response.token() else {
-        return Err(MatchFault::NoToken);
-    };
+    let octets = granted_token(response)?;
     let Some(token) = time_stamp(octets) else {
         return Err(MatchFault::TokenMalformed);
     };

@@ -16,7 +16,7 @@ mod rules;
 mod stamp;
 mod time_stamp;
 
-pub use answering::answers;
+pub use answering::{answers, granted_token};
 pub use answering_laws::{answering_rows_hold, responses_are_judged};
 pub use attaching::attach;
 pub use attaching_laws::{attaching_rows_hold, attachments_are_judged};

@@ -5,21 +5,21 @@ use Rattle.tsp_requester.specs.Answering.{SameImprint, HasNonce, HasPolicy, HasW
 use Rattle.tsp_requester.proofs.AnsweringLaw.{refused, fails_token, denied}
 use Rattle.tsp_requester.proofs.answering.answers.Goals as goal
 
-pub returns-in_default-time_stamp : goal.returns-in_default-time_stamp
-returns-in_default-time_stamp c =
+pub returns-in_default : goal.returns-in_default
+returns-in_default c =
     let h : MatchFails c.args.request.now c.args.response.now rule.TokenMalformed =
     inr (
-      c.is_granted.ensures.0 c.if-not-is_granted.false,
-      inr (c.in-Some.octets.now, sym c.in-Some.ensures, inl (c.in_default-time_stamp.ensures.only refl, refl)),
+      c.in_ok-octets.ensures.token.granted,
+      inr (c.in_ok-octets.octets.now, c.in_ok-octets.ensures.token.holds, inl (c.in_default.ensures.only refl, refl)),
     ) in
     record { answers = refused c.args.request.now c.args.response.now rule.TokenMalformed h; rule = h }
 
 pub returns-then-not-has_imprint : goal.returns-then-not-has_imprint
 returns-then-not-has_imprint c =
-    let t = token_value c.in-Some-time_stamp.token in
+    let t = token_value c.in-Some.token in
     let h : MatchFails c.args.request.now c.args.response.now rule.Imprint =
-    fails_token c.args.request.now c.args.response.now c.in-Some.octets.now t rule.Imprint
-    (c.is_granted.ensures.0 c.if-not-is_granted.false) c.in-Some.ensures c.in-Some-time_stamp.ensures.found
+    fails_token c.args.request.now c.args.response.now c.in_ok-octets.octets.now t rule.Imprint
+    (c.in_ok-octets.ensures.token.granted) (sym c.in_ok-octets.ensures.token.holds) c.in-Some.ensures.found
     (inl (
       denied (SameImprint c.args.request.now.imprint t.stamp.imprint) c.has_imprint.result c.has_imprint.ensures
           c.if-not-has_imprint.true,
@@ -29,10 +29,10 @@ returns-then-not-has_imprint c =
 
 pub returns-then-not-has_nonce : goal.returns-then-not-has_nonce
 returns-then-not-has_nonce c =
-    let t = token_value c.in-Some-time_stamp.token in
+    let t = token_value c.in-Some.token in
     let h : MatchFails c.args.request.now c.args.response.now rule.Nonce =
-    fails_token c.args.request.now c.args.response.now c.in-Some.octets.now t rule.Nonce
-    (c.is_granted.ensures.0 c.if-not-is_granted.false) c.in-Some.ensures c.in-Some-time_stamp.ensures.found
+    fails_token c.args.request.now c.args.response.now c.in_ok-octets.octets.now t rule.Nonce
+    (c.in_ok-octets.ensures.token.granted) (sym c.in_ok-octets.ensures.token.holds) c.in-Some.ensures.found
     (inr (
       c.has_imprint.ensures.0 c.if-not-has_imprint.false,
       inl (
@@ -44,10 +44,10 @@ returns-then-not-has_nonce c =
 
 pub returns-then-not-has_policy : goal.returns-then-not-has_policy
 returns-then-not-has_policy c =
-    let t = token_value c.in-Some-time_stamp.token in
+    let t = token_value c.in-Some.token in
     let h : MatchFails c.args.request.now c.args.response.now rule.Policy =
-    fails_token c.args.request.now c.args.response.now c.in-Some.octets.now t rule.Policy
-    (c.is_granted.ensures.0 c.if-not-is_granted.false) c.in-Some.ensures c.in-Some-time_stamp.ensures.found
+    fails_token c.args.request.now c.args.response.now c.in_ok-octets.octets.now t rule.Policy
+    (c.in_ok-octets.ensures.token.granted) (sym c.in_ok-octets.ensures.token.holds) c.in-Some.ensures.found
     (inr (
       c.has_imprint.ensures.0 c.if-not-has_imprint.false,
       inr (
@@ -63,10 +63,10 @@ returns-then-not-has_policy c =
 
 pub returns-then-not-has_what_is_asked : goal.returns-then-not-has_what_is_asked
 returns-then-not-has_what_is_asked c =
-    let t = token_value c.in-Some-time_stamp.token in
+    let t = token_value c.in-Some.token in
     let h : MatchFails c.args.request.now c.args.response.now rule.CertMissing =
-    fails_token c.args.request.now c.args.response.now c.in-Some.octets.now t rule.CertMissing
-    (c.is_granted.ensures.0 c.if-not-is_granted.false) c.in-Some.ensures c.in-Some-time_stamp.ensures.found
+    fails_token c.args.request.now c.args.response.now c.in_ok-octets.octets.now t rule.CertMissing
+    (c.in_ok-octets.ensures.token.granted) (sym c.in_ok-octets.ensures.token.holds) c.in-Some.ensures.found
     (inr (
       c.has_imprint.ensures.0 c.if-not-has_imprint.false,
       inr (

@@ -1,0 +1,21 @@
+use Rattle.std.proofs.Common.{◌≡◌, ℕ, List, Ok, refl, sym, ap, subst, ◌∙◌}
+use Rattle.digests.specs.Messages.{digest_of}
+use Rattle.digests.specs.declared.algorithm.Alg.{Alg}
+use Rattle.check_verdict.specs.Passing.{Terms, of_octets, of_digest}
+use Rattle.check_verdict.specs.Checkers.{terms_for}
+use Rattle.check_verdict.proofs.TokenVerdicts.{given_of, judged_over}
+use Rattle.check_verdict.proofs.stamp.judge_stamp_of.Goals as goal
+
+pub returns-in-Ok-clause-judged : goal.returns-in-Ok-clause-judged
+returns-in-Ok-clause-judged g c = λ token is.
+    let t : Terms = terms_for c.args.checker.now (g.V.Verifier.vouches c.args.verifier.now) in
+    let (same, by, stamped, given, digested) = c.in-Ok.ensures in
+    let wanted : of_octets stamped c.args.stamp.now.alg ≡ of_digest c.in-Ok.digest c.args.stamp.now.alg =
+    given_of stamped c.in-Ok.digest c.args.stamp.now.alg (by ∙ c.alg.ensures)
+    (digested ∙ ap (λ (a : Alg). digest_of a stamped) c.alg.ensures) in
+    judged_over t token _ _ _ _ _ c.judge_stamp.result same (record {
+      stamped = stamped;
+      given = given;
+      verdict = c.judge_stamp.ensures.judged token (of_octets stamped) is wanted;
+      asks = c.judge_stamp.ensures.only token (of_octets stamped) is wanted;
+    })

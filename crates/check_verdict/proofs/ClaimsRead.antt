@@ -15,7 +15,7 @@ use Rattle.check_fit.specs.declared.rules.TokenRule.TheVariants as rule
 use Rattle.check_fit.specs.FileFitting.{IsReading}
 use Rattle.tsp_types.specs.TstValue.{TstValue, EncodesTst}
 use Rattle.check_verdict.specs.Alone.{any_fault}
-use Rattle.check_verdict.specs.TokenRules.{IsTstReading, TokenClaim, Statement, held, signed_by, imprint_alg, stated, IsStatement}
+use Rattle.check_verdict.specs.TokenRules.{IsTstReading, Statement, held, signed_by, imprint_alg, stated, IsStatement}
 use Rattle.check_verdict.proofs.Claims.{held_says}
 use Rattle.check_verdict.proofs.Tokens.{states}
 use Rattle.check_verdict.proofs.TokensGiven.{looks_at}

@@ -1,11 +1,11 @@
-use Rattle.std.proofs.Common.{◌≡◌, ℕ, Bool, true, Ok, Err, refl, sym, subst}
+use Rattle.std.proofs.Common.{◌≡◌, Bool, true, Ok, Err, refl, sym, subst}
 use Rattle.check_fit.specs.declared.rules.TokenRefused.TheVariants as refused
 use Rattle.trust_lists.specs.Asking.{Asked}
-use Rattle.check_verdict.specs.Passing.{Terms, of_digest, PassesFor}
+use Rattle.check_verdict.specs.Passing.{Terms, of_digest}
 use Rattle.check_verdict.specs.Asks.{IsAskedFor}
 use Rattle.check_verdict.specs.Checkers.{CheckerValue, terms_for}
 use Rattle.check_verdict.specs.TokenRules.{IsStatement}
-use Rattle.check_verdict.specs.TokenVerdicts.{terms_of, IsVerdictFor, PassesOrDevice}
+use Rattle.check_verdict.specs.TokenVerdicts.{terms_of, IsVerdictFor}
 use Rattle.check_verdict.proofs.TokenVerdicts.{statement_fails, completes}
 use Rattle.check_verdict.proofs.stamp.check_stamp.Given.{Over}
 use Rattle.check_verdict.proofs.stamp.check_stamp.Goals.{After-judge_stamp}

@@ -1,8 +1,7 @@
-use Rattle.std.proofs.Common.{rules, ◌≡◌, ◌≢◌, ℕ, List, Some, None, Ok, Err, sym, ap, subst, ◌∙◌}
+use Rattle.std.proofs.Common.{rules, ◌≡◌, ◌≢◌, ℕ, List, Some, Err, sym, ap, ◌∙◌}
 use Rattle.check_fit.specs.declared.rules.TokenRule.TheVariants as rule
 use Rattle.check_fit.specs.declared.rules.TokenRefused.TheVariants as refused
 use Rattle.digests.specs.Digests.{alg_of}
-use Rattle.digests.specs.declared.algorithm.Alg.{Alg}
 use Rattle.check_verdict.specs.Passing.{Terms, Due, of_digest}
 use Rattle.check_verdict.specs.Checkers.{terms_for}
 use Rattle.check_verdict.proofs.TokenVerdicts.{claim_fails, completes, none_due, claim_by, given_other, given_same}

@@ -4,7 +4,7 @@ use Rattle.check_verdict.specs.Filters.{Best}
 use Rattle.check_verdict.specs.Stages.{passed_for_token}
 use Rattle.check_verdict.specs.declared.filter.TokenFilter.{TokenFilter}
 use Rattle.check_verdict.specs.Passing.{Terms, Due, PassesFor}
-use Rattle.check_verdict.specs.TokenRules.{TokenClaim, Statement, LeftForToken, IsStatement, IsClaim}
+use Rattle.check_verdict.specs.TokenRules.{Statement, LeftForToken, IsStatement, IsClaim}
 use Rattle.check_verdict.specs.Checkers.{terms_for}
 use Rattle.check_verdict.specs.declared.claim.Stamp.TheInside.{Inside}
 use Rattle.check_verdict.proofs.TokenVerdicts.{stage_fails, stage_passes, due_then, claim_by}

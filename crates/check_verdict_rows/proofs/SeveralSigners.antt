@@ -8,7 +8,7 @@ use Rattle.check_fit.specs.FittingRows.{id_data}
 use Rattle.check_fit.specs.declared.rules.SignerRule.TheVariants as signer
 use Rattle.trust_lists.specs.Entries.{EntryValue}
 use Rattle.check_verdict.specs.Trusted.{Holds}
-use Rattle.check_verdict.specs.Passing.{StampedUnder, Passes}
+use Rattle.check_verdict.specs.Passing.{of_octets, StampedUnder, Passes}
 use Rattle.check_verdict.specs.Verdicts.{IsStamped, SignedUnder, SignerPasses, LeftForSigner, SignerFails, FirstBad}
 use Rattle.check_verdict.specs.Verdicts.{Accepts}
 use Rattle.check_verdict.specs.Rows.{of_signer, early_token, digest_of_stamp, digest_of_early_stamp, attributes_over}
@@ -79,7 +79,7 @@ good token m p h =
           has = refl;
           entry = first_of (SignedUnder open_terms s file_attributes m) (signs None None) others under;
         };
-        least = λ n k. (let e = tokens_law.one_moment open_terms token abc n m
+        least = λ n k. (let e = tokens_law.one_moment open_terms token (of_octets abc) n m
             (in_one (λ x. Passes open_terms x abc n) token k.stamped) p in omega (arith, e));
       };
     }

@@ -4,15 +4,14 @@ use crate::lists::{answers_in, trust_in};
 use cert_types::Certificate;
 use check_fit::{Policy, fits, signer_fits};
 use check_names::{EachTime, matches, must_name, names_if_any};
-use check_verdict::check_token;
 use cms_compare::compare;
 use cms_types::SignedData;
 use der_time::generalized_text;
 use devices::{FromRead, Pieces, Slice, Source};
 use list_answers::FusedVerifier;
-use tsp_requester::answers;
+use tsp_requester::{answers, granted_token};
 use tsp_types::{Request, Response};
-use vectors::{Bad, Row, needed};
+use vectors::{Bad, Row, Said, needed};
 use vectors_doubles::Failing;
 
 /// The file of a row; or one with the content `abc` and one signer (RFC 5652 5.1, 5.3) with the row's identifier, or
@@ -66,17 +65,18 @@ pub fn answers_request(row: &Row<'_>) -> Result<String, Bad> {
     row.ended("answers", answers(&request, &response))
 }
 
-/// The moment of a token that passes, the rule that it fails first, or the failure of the verifier, which fails after
-/// so many questions.
-pub fn token(row: &Row<'_>) -> Result<String, Bad> {
-    row.takes("of stamps trust answers asks sha1")?;
-    let (token, stamped) = (row.octets("of")?, row.octets("stamps")?);
-    let (trust, answers) = (trust_in(row, "trust")?, answers_in(row, "answers")?);
-    let sha1 = row.flag("sha1")?;
-    let mut verifier = FusedVerifier::new(answers, row.number("asks")? as u64);
-    match check_token(&token, &stamped, &trust, &Policy { sha1 }, &mut verifier) {
-        Ok(accepted) => row.word(generalized_text(accepted.moment).as_str()),
-        Err(refused) => row.shown(&refused),
+/// The token of a response that was granted, or the rule that keeps it from being one.
+pub fn granted(row: &Row<'_>) -> Result<String, Bad> {
+    row.takes("of known")?;
+    let octets = row.octets("of")?;
+    let response = needed(Response::read(octets.as_slice()), "no response")?;
+    match granted_token(&response) {
+        Ok(token) => {
+            let mut said = Said::new(row)?;
+            said.octets(token)?;
+            Ok(said.text)
+        }
+        Err(rule) => row.shown(&rule),
     }
 }
 

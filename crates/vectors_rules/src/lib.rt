@@ -5,6 +5,7 @@
 mod checks;
 mod lists;
 mod refusals;
+mod stamps;
 mod written;
 
 use vectors::{Bad, Judge, Row};
@@ -18,7 +19,10 @@ impl Judge for OfRules {
         match row.kind {
             "names" => checks::names(row),
             "answers" => checks::answers_request(row),
-            "token" => checks::token(row),
+            "granted" => checks::granted(row),
+            "token" => stamps::token(row),
+            "stamp" => stamps::stamp(row),
+            "cut" => stamps::cut(row),
             "compare" => checks::compared(row),
             "signer" => checks::signer(row),
             "made" => checks::made(row),

@@ -519,7 +519,8 @@ refused_token : (from until : Option ℕ) (rest : List EntryValue) (ls : List As
 refused_token from until rest ls failed answered f =
     let trust : List EntryValue = signs from until ∷ rest in
     let t : Terms = terms trust ls in
-    let none : (m : ℕ) → IsStamped t who m → ⊥ = λ m k. tokens_law.never_both t time_stamp_token (of_octets abc) m failed
+    let none : (m : ℕ) → IsStamped t who m
+    → ⊥ = λ m k. tokens_law.never_both t time_stamp_token (of_octets abc) m failed
     (in_one (λ token. Passes t token abc m) time_stamp_token k) f in
     let fails : TokensFail t abc id_data who 1 failed = record {
       signs = record {

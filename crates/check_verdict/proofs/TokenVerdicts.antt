@@ -1,5 +1,6 @@
 -- The verdict of a check of a token, from what the token says and from how far the best of the trusted entries comes.
-use Rattle.std.proofs.Common.{◌≡◌, ◌≢◌, ℕ, Bool, true, false, List, Some, None, Result, Ok, Err, ap, sym, ◌∙◌, arith, inl, inr, refl}
+use Rattle.std.proofs.Common.{◌≡◌, ◌≢◌, ℕ, Bool, true, false, List, Some, None, Result, Ok, Err, ap, sym, ◌∙◌, arith}
+use Rattle.std.proofs.Common.{inl, inr, refl}
 use Rattle.der_core.specs.declared.fault.Fault.{Fault}
 use Rattle.cms_types.specs.SignedDataValue.{SignedDataValue}
 use Rattle.cms_types.specs.declared.fault.CmsFault.{CmsFault}
@@ -44,7 +45,8 @@ completes t token due (Ok n) is m p = inl (ap moments (one_moment t token due n 
 completes t token due (Err (refused.Rule failed)) is m p = absurd (never_both t token due m failed p is)
 completes t token due (Err (refused.Device fault)) is m p = inr tt
 
-module _ (t : Terms) (token : List ℕ) (due : Due) (signed : Result SignedDataValue CmsFault) (stamp : Result TstValue Fault)
+module _ (t : Terms) (token : List ℕ) (due : Due) (signed : Result SignedDataValue CmsFault)
+    (stamp : Result TstValue Fault)
     (reads : Reads token signed stamp) where
   -- one of K1 to K9 fails
   pub claim_fails : (failed : TokenRule) → token_claim t.policy due signed stamp ≡ Err failed

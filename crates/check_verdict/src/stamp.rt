@@ -100,8 +100,8 @@ fn digest_from<S: Source>(alg: Alg, source: &mut S) -> Result<Digest, DeviceFaul
     }
 }
 
-/// The verdict about a token that was read, for what a source gives until its end, by a `Checker`, which serves for many
-/// tokens. The source is read once, and digested by the algorithm of the imprint alone.
+/// The verdict about a token that was read, for what a source gives until its end, by a `Checker`, which serves for
+/// many tokens. The source is read once, and digested by the algorithm of the imprint alone.
 ///
 /// Errors: X1 if the source fails, X5 if it gives more than 2^40 octets; otherwise the first of K9 to K14 that fails,
 /// and X2 if the verifier fails.
@@ -111,8 +111,8 @@ pub fn judge_stamp_of<S: Source, V: Verifier>(
     checker: &mut Checker,
     verifier: &mut V,
 ) -> Result<Accepted, TokenRefused>
-    // Each token that states this passes with the moment for what the source gave, or fails the rule first; the verifier
-    // is asked only under entries that passed K10 to K13, and only if K1 to K9 hold.
+    // Each token that states this passes with the moment for what the source gave, or fails the rule first; the
+    // verifier is asked only under entries that passed K10 to K13, and only if K1 to K9 hold.
     ensures judged { let terms = terms_for checker.old (V.vouches verifier.old) in
         (token : List ℕ) → IsStatement checker.old.policy token (Ok stamp.now)
         → JudgesSource terms token (λ test. V.asked_only test verifier.old verifier.new) (S.tells source.old)

@@ -1,14 +1,11 @@
 //! Which certificate a signer means, which response answers a request, and which rule a token, one of two files, a
 //! signer or a file fails first.
-use crate::lists::{answers_in, trust_in};
 use cert_types::Certificate;
 use check_fit::{Policy, fits, signer_fits};
 use check_names::{EachTime, matches, must_name, names_if_any};
 use cms_compare::compare;
 use cms_types::SignedData;
-use der_time::generalized_text;
 use devices::{FromRead, Pieces, Slice, Source};
-use list_answers::FusedVerifier;
 use tsp_requester::{answers, granted_token};
 use tsp_types::{Request, Response};
 use vectors::{Bad, Row, Said, needed};

@@ -38,7 +38,10 @@ fn by_digest(
     };
     let due = digest(stamp.alg(), stamped);
     let mut verifier = verifier_in(row)?;
-    said(row, &check_stamp(token, &due, trust, &policy, &mut verifier))
+    said(
+        row,
+        &check_stamp(token, &due, trust, &policy, &mut verifier),
+    )
 }
 
 /// The answer for what a source gives.
@@ -55,7 +58,10 @@ fn from_source<S: Source>(
     };
     let mut checker = Checker::of(trust, policy);
     let mut verifier = verifier_in(row)?;
-    said(row, &judge_stamp_of(&stamp, source, &mut checker, &mut verifier))
+    said(
+        row,
+        &judge_stamp_of(&stamp, source, &mut checker, &mut verifier),
+    )
 }
 
 /// What is said of a token for what was stamped; and, if that is something else, for the digest of that, and for a
@@ -89,7 +95,10 @@ pub fn stamp(row: &Row<'_>) -> Result<String, Bad> {
     let trust = trust_in(row, "trust")?;
     let mut verifier = verifier_in(row)?;
     let policy = Policy { sha1: false };
-    said(row, &check_stamp(&token, &due, &trust, &policy, &mut verifier))
+    said(
+        row,
+        &check_stamp(&token, &due, &trust, &policy, &mut verifier),
+    )
 }
 
 /// What is said of a token for what a source gives that fails at its end.

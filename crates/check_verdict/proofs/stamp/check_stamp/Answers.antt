@@ -12,7 +12,8 @@ use Rattle.check_verdict.proofs.stamp.check_stamp.Goals.{After-judge_stamp}
 use Rattle.check_verdict.proofs.stamp.check_stamp.Goals as goal
 
 -- what the token states, by the checker's policy
-stated : (g : Over) (c : After-judge_stamp g) → IsStatement c.of-checker.result.policy c.args.token.now (Ok c.in-Ok.stamp)
+stated : (g : Over) (c : After-judge_stamp g)
+    → IsStatement c.of-checker.result.policy c.args.token.now (Ok c.in-Ok.stamp)
 stated g c = subst (λ (k : CheckerValue). IsStatement k.policy c.args.token.now (Ok c.in-Ok.stamp))
     (sym c.of-checker.ensures) c.in-Ok.ensures
 

@@ -14,8 +14,8 @@ use Rattle.cli_failures.specs.declared.failure.Failure.TheVariants as failure
 use Rattle.cli_tasks.specs.declared.task.Stamped.{Stamped}
 use Rattle.cli_tasks.specs.declared.task.Stamped.TheVariants as stamped
 use Rattle.cli_failures.specs.Files.{IsFailureToRead, IsHeld}
+use Rattle.cli_failures.specs.Signatures.{HasNoSigner, IsSignatureDigest}
 use Rattle.cli_commands.specs.Requests.{AreValues, IsDigest, IsPolicy, IsInHex}
-use Rattle.cli_commands.specs.Signatures.{HasNoSigner, IsSignatureDigest}
 
 -- the failure names this option
 abbrev pub Names : (option : List ℕ) → Failure → Type 0

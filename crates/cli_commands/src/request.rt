@@ -6,14 +6,13 @@ ghost use Rattle.digests.specs.Algorithms.{name_of};
 ghost use Rattle.tsp_types.specs.Asked.{asked};
 ghost use Rattle.tsp_types.specs.RequestValue.{EncodesRequest, request_parts};
 ghost use Rattle.cli_failures.specs.Files.{IsHeld};
+ghost use Rattle.cli_failures.specs.Signatures.{IsSignatureDigest};
 ghost use Rattle.cli_commands.specs.Requests.{AreValues, IsDigest, IsInHex, IsPolicy, IsRequestFor, IsOutApart};
 ghost use Rattle.cli_commands.specs.Requests.{IsRequestOf, IsRequestWritten};
 ghost use Rattle.cli_commands.specs.Refusals.{MakesNone, Names, Refuses, RefusesAlg, RefusesDigest, RefusesGiven};
 ghost use Rattle.cli_commands.specs.Refusals.{RefusesNonce, RefusesOut, RefusesPolicy, RefusesSignature, RefusesValues};
-ghost use Rattle.cli_commands.specs.Signatures.{IsSignatureDigest};
 
-use crate::signature;
-use cli_failures::{Failure, files};
+use cli_failures::{Failure, files, signature};
 use cli_tasks::{RequestWords, Stamped};
 use cmsproof_api::{Alg, Digest, Int, MakeFault, Oid, Request};
 use der_oid_text::{OidFault, oid_parse};

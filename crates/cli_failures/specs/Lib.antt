@@ -1,3 +1,5 @@
 pub mod Statuses
 pub mod Failures
 pub mod Files
+pub mod Causes
+pub mod Signatures

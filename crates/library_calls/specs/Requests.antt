@@ -13,9 +13,9 @@ use Rattle.tsp_types.specs.RequestValue.{EncodesRequest, request_parts}
 use Rattle.tsp_types.specs.Asked.{asked}
 use Rattle.cli_failures.specs.declared.failure.Failure.{Failure}
 use Rattle.cli_failures.specs.declared.failure.Failure.TheVariants as failure
+use Rattle.cli_failures.specs.Signatures.{IsSignatureDigest, HasNoSigner}
 use Rattle.library_answers.specs.declared.answer.Answer.{Answer}
 use Rattle.library_answers.specs.Failures.{IsMade, IsUnmade}
-use Rattle.library_calls.specs.Signatures.{IsSignatureDigest, HasNoSigner}
 
 -- the digest by the algorithm of this name that has these octets, as many as the algorithm gives
 pub record IsGiven (name octets : List ℕ) (digest : Digest) : Type 0 where

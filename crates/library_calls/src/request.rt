@@ -12,8 +12,8 @@ ghost use Rattle.library_calls.specs.Requests.{RefusesPolicy, RefusesNonce, IsRe
 ghost use Rattle.library_calls.specs.Requests.{IsRequestOfSignature, RefusesSignature, IsSignatureRequested};
 ghost use Rattle.library_answers.specs.Failures.{IsMade, IsUnmade};
 
-use crate::signature::digest_of;
 use cli_failures::Failure;
+use cli_failures::signature::digest_of;
 use der_core::{Int, Oid};
 use der_oid_text::{OidFault, oid_parse};
 use digests::{Alg, Digest, digest};

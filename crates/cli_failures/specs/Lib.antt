@@ -3,3 +3,4 @@ pub mod Failures
 pub mod Files
 pub mod Causes
 pub mod Signatures
+pub mod Tokens

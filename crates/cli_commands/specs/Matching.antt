@@ -5,9 +5,9 @@ use Rattle.std.specs.Io.KnownBytes.{Appends}
 use Rattle.cli_failures.specs.declared.failure.Failure.{Failure}
 use Rattle.cli_failures.specs.declared.failure.Failure.TheVariants as failure
 use Rattle.cli_tasks.specs.declared.task.MatchWords.{MatchWords}
+use Rattle.cli_failures.specs.Causes.{Names}
 use Rattle.cli_failures.specs.Files.{IsFailureToRead, IsHeld}
 use Rattle.cli_failures.specs.Tokens.{Answers, AnswersNot}
-use Rattle.cli_commands.specs.Refusals.{Names}
 
 -- what is printed if the response in one file answers the request in another
 abbrev pub ShowsAnswer : {F : Type 0} → (holds : F → Option (List ℕ)) → (text : List ℕ) → Type 0

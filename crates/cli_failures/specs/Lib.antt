@@ -4,3 +4,4 @@ pub mod Files
 pub mod Causes
 pub mod Signatures
 pub mod Tokens
+pub mod Requests

@@ -8,7 +8,6 @@ pub mod Checked
 pub mod Rereadings
 pub mod Growing
 pub mod ListFaults
-pub mod Messages
 pub mod Straight
 pub mod Unasked
 pub mod AskedAgain

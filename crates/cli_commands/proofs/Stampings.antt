@@ -12,10 +12,11 @@ use Rattle.cli_tasks.specs.declared.task.Stamped.{Stamped}
 use Rattle.cli_tasks.specs.declared.task.Stamped.TheVariants as stamped
 use Rattle.tsp_types.specs.Asked.{asked}
 use Rattle.tsp_types.specs.RequestValue.{EncodesRequest, request_parts}
+use Rattle.cli_failures.specs.Causes.{Names}
 use Rattle.cli_failures.specs.Files.{IsFailureToRead, IsHeld}
+use Rattle.cli_failures.specs.Signatures.{HasNoSigner, IsSignatureDigest}
 use Rattle.cli_commands.specs.Requests.{AreValues, IsDigest, IsRequestFor, IsRequestOf, IsStamped}
-use Rattle.cli_commands.specs.Refusals.{Names, Refuses, RefusesGiven, RefusesLength, RefusesSignature, RefusesStamped}
-use Rattle.cli_commands.specs.Signatures.{HasNoSigner, IsSignatureDigest}
+use Rattle.cli_commands.specs.Refusals.{Refuses, RefusesGiven, RefusesLength, RefusesSignature, RefusesStamped}
 
 pub of_digest :
     {F : Type 0} (holds : F → Option (List ℕ)) (words : RequestWords) (digits : Bor (List ℕ)) (octets : List ℕ)

@@ -8,9 +8,9 @@ use Rattle.tsp_requester.specs.declared.fault.AttachFault.TheVariants as rule
 use Rattle.cli_failures.specs.declared.failure.Failure.{Failure}
 use Rattle.cli_failures.specs.declared.failure.Failure.TheVariants as failure
 use Rattle.cli_tasks.specs.declared.task.AttachWords.{AttachWords}
+use Rattle.cli_failures.specs.Causes.{Names}
 use Rattle.cli_failures.specs.Files.{IsFailureToRead, IsHeld}
 use Rattle.cli_commands.specs.Matching.{IsWritten}
-use Rattle.cli_commands.specs.Refusals.{Names}
 
 -- the octets encode the SignedData of a file with a token attached to its signer of this number
 abbrev pub IsNewFile : (file : List ℕ) (signer : ℕ) (token octets : List ℕ) → Type 0

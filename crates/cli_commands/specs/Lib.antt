@@ -1,4 +1,3 @@
-pub mod Signatures
 pub mod Requests
 pub mod Refusals
 pub mod Showing

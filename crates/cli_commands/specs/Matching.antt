@@ -1,63 +1,18 @@
 -- What `match` prints for a request and a response. `holds` is what an open file holds, if that is known.
-use Rattle.std.specs.Prelude.{◌≡◌, ◌≢◌, ◌⊎◌, ℕ, List, [], ◌∷◌, ◌++◌, Option, Some, IfSome, IsSomeAnd, codes}
+use Rattle.std.specs.Prelude.{◌≡◌, ◌≢◌, ◌⊎◌, ℕ, List, [], ◌∷◌, ◌++◌, Option, IfSome, IsSomeAnd, codes}
 use Rattle.std.specs.Borrow.{Bor}
 use Rattle.std.specs.Io.KnownBytes.{Appends}
-use Rattle.der_core.specs.declared.fault.Fault.{Fault}
-use Rattle.der_core.specs.Faults.{Faults}
-use Rattle.der_core.specs.Grammar as grammar
-use Rattle.der_grammar.specs.Table as table
-use Rattle.tsp_types.specs.RequestValue.{RequestValue, EncodesRequest}
-use Rattle.tsp_types.specs.ResponseValue.{ResponseValue, EncodesResponse}
-use Rattle.tsp_requester.specs.declared.rules.MatchFault.{MatchFault}
-use Rattle.tsp_requester.specs.Answering.{Answering, MatchFails}
 use Rattle.cli_failures.specs.declared.failure.Failure.{Failure}
 use Rattle.cli_failures.specs.declared.failure.Failure.TheVariants as failure
-use Rattle.cli_failures.specs.declared.failure.Message.TheVariants as message
 use Rattle.cli_tasks.specs.declared.task.MatchWords.{MatchWords}
+use Rattle.cli_failures.specs.Causes.{Names}
 use Rattle.cli_failures.specs.Files.{IsFailureToRead, IsHeld}
-use Rattle.cli_commands.specs.Refusals.{Names}
+use Rattle.cli_failures.specs.Tokens.{Answers, AnswersNot}
 
--- the octets encode a request and a response that answers it, and this is the token of the response
-pub record Answers (request response token : List ℕ) : Type 0 where
-  pub asked : RequestValue
-  pub encodes_asked : EncodesRequest request asked
-  pub given : ResponseValue
-  pub encodes_given : EncodesResponse response given
-  pub answering : Answering asked given
-  pub holds : given.token ≡ Some token
-
--- what is printed for that, of two files
+-- what is printed if the response in one file answers the request in another
 abbrev pub ShowsAnswer : {F : Type 0} → (holds : F → Option (List ℕ)) → (text : List ℕ) → Type 0
 ShowsAnswer holds text = (request response token : List ℕ) × IsHeld holds request × IsHeld holds response
     × Answers request response token × (text ≡ codes "answers" ++ (10 ∷ []))
-
--- the octets aren't a request
-pub record NoRequest (request : List ℕ) (f : Failure) : Type 0 where
-  pub fault : Fault
-  pub malformed : f ≡ failure.MalformedMessage message.Request fault
-  pub found : Faults (grammar.file table.request) request fault
-
--- there is a request, and the octets aren't a response
-pub record NoResponse (request response : List ℕ) (f : Failure) : Type 0 where
-  pub asked : RequestValue
-  pub encodes_asked : EncodesRequest request asked
-  pub fault : Fault
-  pub malformed : f ≡ failure.MalformedMessage message.Response fault
-  pub found : Faults (grammar.file table.response) response fault
-
--- there are a request and a response, which doesn't answer it by this rule
-pub record NoAnswer (request response : List ℕ) (f : Failure) : Type 0 where
-  pub asked : RequestValue
-  pub encodes_asked : EncodesRequest request asked
-  pub given : ResponseValue
-  pub encodes_given : EncodesResponse response given
-  pub rule : MatchFault
-  pub refused : f ≡ failure.Unmatched rule
-  pub fails : MatchFails asked given rule
-
--- the octets don't answer
-abbrev pub AnswersNot : (request response : List ℕ) → Failure → Type 0
-AnswersNot request response f = NoRequest request f ⊎ (NoResponse request response f ⊎ NoAnswer request response f)
 
 -- memory ran out, or the file that should take the token can't be made or written
 abbrev pub IsFailureToTake : (path : Option (Bor (List ℕ))) → Failure → Type 0

@@ -6,10 +6,10 @@ use Rattle.trust_lists.specs.Written.{AreEntryLines}
 use Rattle.cli_failures.specs.declared.failure.Failure.{Failure}
 use Rattle.cli_failures.specs.declared.failure.Failure.TheVariants as failure
 use Rattle.cli_tasks.specs.declared.task.MigrateWords.{MigrateWords}
+use Rattle.cli_failures.specs.Causes.{Names}
 use Rattle.cli_failures.specs.Files.{IsHeld}
 use Rattle.cli_commands.specs.Lists.{IsFailureOfTrust}
 use Rattle.cli_commands.specs.Matching.{IsWritten}
-use Rattle.cli_commands.specs.Refusals.{Names}
 
 -- the text of version 2 with a line for each of these entries, in their order
 pub record IsTextOf (entries : List EntryValue) (text : List ℕ) : Type 0 where

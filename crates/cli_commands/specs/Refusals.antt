@@ -13,14 +13,10 @@ use Rattle.cli_failures.specs.declared.failure.Failure.{Failure}
 use Rattle.cli_failures.specs.declared.failure.Failure.TheVariants as failure
 use Rattle.cli_tasks.specs.declared.task.Stamped.{Stamped}
 use Rattle.cli_tasks.specs.declared.task.Stamped.TheVariants as stamped
+use Rattle.cli_failures.specs.Causes.{Names}
 use Rattle.cli_failures.specs.Files.{IsFailureToRead, IsHeld}
+use Rattle.cli_failures.specs.Signatures.{HasNoSigner, IsSignatureDigest}
 use Rattle.cli_commands.specs.Requests.{AreValues, IsDigest, IsPolicy, IsInHex}
-use Rattle.cli_commands.specs.Signatures.{HasNoSigner, IsSignatureDigest}
-
--- the failure names this option
-abbrev pub Names : (option : List ℕ) → Failure → Type 0
-Names option (failure.Usage named) = named.now ≡ option
-Names option _ = ⊥
 
 -- no algorithm has this name
 abbrev pub RefusesAlg : (name : List ℕ) → Failure → Type 0

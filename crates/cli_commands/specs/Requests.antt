@@ -13,7 +13,7 @@ use Rattle.cli_tasks.specs.declared.task.RequestWords.{RequestWords}
 use Rattle.cli_tasks.specs.declared.task.Stamped.{Stamped}
 use Rattle.cli_tasks.specs.declared.task.Stamped.TheVariants as stamped
 use Rattle.cli_failures.specs.Files.{IsHeld}
-use Rattle.cli_commands.specs.Signatures.{IsSignatureDigest}
+use Rattle.cli_failures.specs.Signatures.{IsSignatureDigest}
 
 -- the digest by the algorithm of this name that these hexadecimal digits state, with as many octets as the algorithm
 -- gives

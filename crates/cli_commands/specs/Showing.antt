@@ -1,8 +1,5 @@
 -- How octets fail that should be a request, a response, a TSTInfo, a certificate or a SignedData.
 use Rattle.std.specs.Prelude.{◌≡◌, ◌⊎◌, ℕ, List}
-use Rattle.der_core.specs.declared.fault.Fault.{Fault}
-use Rattle.der_core.specs.Faults.{Faults}
-use Rattle.der_core.specs.Form.{Form}
 use Rattle.der_core.specs.Grammar.{file}
 use Rattle.der_grammar.specs.Table.{request, response, tst_info, certificate, content_info}
 use Rattle.tsp_types.specs.RequestValue.{EncodesRequest}
@@ -11,13 +8,8 @@ use Rattle.tsp_types.specs.TstValue.{EncodesTst}
 use Rattle.cert_types.specs.CertificateValue.{EncodesCertificate}
 use Rattle.cms_types.specs.SignedDataValue.{EncodesSignedData, EncodesAnotherType}
 use Rattle.cli_failures.specs.declared.failure.Failure.{Failure}
-use Rattle.cli_failures.specs.declared.failure.Failure.TheVariants.{Malformed, NotSignedData, Memory}
-
--- the octets have this fault, so they aren't a whole input of this form
-pub record IsMalformed (form : Form) (octets : List ℕ) (f : Failure) : Type 0 where
-  pub fault : Fault
-  pub malformed : f ≡ Malformed fault
-  pub found : Faults form octets fault
+use Rattle.cli_failures.specs.declared.failure.Failure.TheVariants.{NotSignedData, Memory}
+use Rattle.cli_failures.specs.Causes.{IsMalformed}
 
 -- memory ran out for the lines of the value that the octets encode
 abbrev pub LacksMemory : {V : Type 0} → (Encodes : List ℕ → V → Type 0) → (octets : List ℕ) → Failure → Type 0

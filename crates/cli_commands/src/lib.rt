@@ -15,7 +15,6 @@ mod request;
 mod rereading;
 mod room;
 mod show;
-mod signature;
 mod telling;
 mod texts;
 

@@ -1,12 +1,11 @@
 ghost use Rattle.std.specs.Prelude.{◌≡◌, ◌⊎◌, ℕ, List, Some, IfErr, IfOk, OnOk};
 ghost use Rattle.std.specs.Borrow.{Bor};
-ghost use Rattle.cli_failures.specs.Failures.{failure_of_message};
-ghost use Rattle.cli_commands.specs.Matching.{Answers, ShowsAnswer, AnswersNot, IsFailureToTake, IsTokenApart};
+ghost use Rattle.cli_commands.specs.Matching.{ShowsAnswer, IsFailureToTake, IsTokenApart};
 ghost use Rattle.cli_commands.specs.Matching.{RefusesToken, ShowsNoAnswer, IsWritten, IsTokenWritten};
 
-use cli_failures::{Failure, Message, files};
+use cli_failures::token::token_of;
+use cli_failures::{Failure, files};
 use cli_tasks::MatchWords;
-use cmsproof_api::{ReadFault, Request, Response, answers};
 use std::rt::Files;
 
 /// The line that says that the response in these files answers the request. Its token is then written into the file
@@ -61,38 +60,5 @@ fn take<'a, R: Files + AllocGlobal>(
     match path {
         None => Ok(()),
         Some(path) => files::write_whole(rt, path, octets),
-    }
-}
-
-/// Why a file that should hold this message can't be read as one. Reading allocates nothing.
-fn malformed<'a>(message: Message, fault: ReadFault) -> Failure<'a>
-    ensures { result ≡ failure_of_message message fault }
-{
-    match fault {
-        ReadFault::Malformed(fault) => Failure::MalformedMessage(message, fault),
-        ReadFault::OutOfMemory => Failure::Memory,
-    }
-}
-
-/// The token of the response that these octets encode, which answers the request that the other octets encode.
-#[tactic(auto, using(crate::proofs::Messages::no_request, crate::proofs::Messages::no_response))]
-fn token_of<'o, 'a>(request: &[u8], response: &'o [u8]) -> Result<&'o [u8], Failure<'a>>
-    ensures answers { IfOk result (λ token. Answers request.now response.now token.now) }
-    ensures refused { IfErr result (AnswersNot request.now response.now) }
-{
-    let asked = match Request::read(request) {
-        Ok(asked) => asked,
-        Err(fault) => return Err(malformed(Message::Request, fault)),
-    };
-    let given = match Response::read(response) {
-        Ok(given) => given,
-        Err(fault) => return Err(malformed(Message::Response, fault)),
-    };
-    match answers(&asked, &given) {
-        Ok(()) => match given.token() {
-            Some(token) => Ok(token),
-            None => unreachable!(),
-        },
-        Err(rule) => Err(Failure::Unmatched(rule)),
     }
 }

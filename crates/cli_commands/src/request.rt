@@ -5,18 +5,17 @@ ghost use Rattle.hex.specs.Hex.{decode_of};
 ghost use Rattle.digests.specs.Algorithms.{name_of};
 ghost use Rattle.tsp_types.specs.Asked.{asked};
 ghost use Rattle.tsp_types.specs.RequestValue.{EncodesRequest, request_parts};
+ghost use Rattle.cli_failures.specs.Causes.{Names};
 ghost use Rattle.cli_failures.specs.Files.{IsHeld};
+ghost use Rattle.cli_failures.specs.Signatures.{IsSignatureDigest};
+ghost use Rattle.cli_commands.specs.Refusals.{MakesNone, Refuses, RefusesAlg, RefusesDigest, RefusesGiven};
+ghost use Rattle.cli_commands.specs.Refusals.{RefusesNonce, RefusesOut, RefusesPolicy, RefusesSignature, RefusesValues};
 ghost use Rattle.cli_commands.specs.Requests.{AreValues, IsDigest, IsInHex, IsPolicy, IsRequestFor, IsOutApart};
 ghost use Rattle.cli_commands.specs.Requests.{IsRequestOf, IsRequestWritten};
-ghost use Rattle.cli_commands.specs.Refusals.{MakesNone, Names, Refuses, RefusesAlg, RefusesDigest, RefusesGiven};
-ghost use Rattle.cli_commands.specs.Refusals.{RefusesNonce, RefusesOut, RefusesPolicy, RefusesSignature, RefusesValues};
-ghost use Rattle.cli_commands.specs.Signatures.{IsSignatureDigest};
 
-use crate::signature;
-use cli_failures::{Failure, files};
+use cli_failures::{Failure, files, request, signature};
 use cli_tasks::{RequestWords, Stamped};
-use cmsproof_api::{Alg, Digest, Int, MakeFault, Oid, Request};
-use der_oid_text::{OidFault, oid_parse};
+use cmsproof_api::{Alg, Digest, Int};
 use list_answers::Digits;
 use std::alloc::Global;
 use std::rt::Files;
@@ -139,18 +138,9 @@ fn request_of<'a>(
         (asked digest.now (option_map (λ p. p.items) values.now.policy)
         (option_map (λ n. n.items) values.now.nonce) cert))))) }
 {
-    let policy = policy_in(&values.policy);
+    let policy = request::policy_in(&values.policy);
     let nonce = nonce_in(&values.nonce);
-    match Request::make(alloc, digest, policy, nonce, cert) {
-        Ok(octets) => Ok(octets),
-        Err(MakeFault::OutOfMemory) => Err(Failure::Memory),
-        // Only a policy or a nonce of some 2^32 octets makes a request too long, and no command line holds one.
-        Err(MakeFault::TooLong) => Err(Failure::Usage(if values.policy.is_some() {
-            "policy"
-        } else {
-            "nonce"
-        })),
-    }
+    request::request_of(alloc, digest, policy, nonce, cert)
 }
 
 /// The octets that hexadecimal digits of either case state; they are the value of this option.
@@ -200,22 +190,7 @@ fn policy_contents<'a>(alloc: Global, text: Option<&str>) -> Result<Option<Vec<u
     let Some(text) = text else {
         return Ok(None);
     };
-    match oid_parse(alloc, text) {
-        Ok(contents) => Ok(Some(contents)),
-        Err(OidFault::OidText) => Err(Failure::Usage("policy")),
-        Err(OidFault::OutOfMemory) => Err(Failure::Memory),
-    }
-}
-
-fn policy_in<'c>(contents: &'c Option<Vec<u8>>) -> Option<Oid<'c>>
-    requires { IfSome contents.now (λ v. is_oid v.items ≡ true) }
-    ensures { result ≡ option_map (λ v. v.items) contents.now }
-{
-    let contents = contents.as_ref()?;
-    let Ok(policy) = Oid::read(contents.as_slice(), 0) else {
-        unreachable!();
-    };
-    Some(policy)
+    Ok(Some(request::policy_of(alloc, text)?))
 }
 
 #[tactic(auto, using(crate::proofs::Nonces::refuses_nonce))]

@@ -1,3 +1,7 @@
 pub mod Statuses
 pub mod Failures
 pub mod Files
+pub mod Causes
+pub mod Signatures
+pub mod Tokens
+pub mod Requests

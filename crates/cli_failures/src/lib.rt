@@ -1,11 +1,17 @@
 //! How a command fails: the line that says so, the exit status that it ends with, and the files that it reads and
 //! writes, each of which may fail.
+//!
+//! `signature`, `token` and `request` give what a command and a call of the library for C both make of octets, or why
+//! it can't be had.
 #![tactic(auto)]
 
 mod failure;
 pub mod files;
 mod replacing;
+pub mod request;
+pub mod signature;
 mod status;
+pub mod token;
 
 pub use failure::{Failure, Message, STANDARD_OUTPUT};
 pub use status::Status;

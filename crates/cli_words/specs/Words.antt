@@ -42,11 +42,6 @@ abbrev pub IsWords : Failure → Type 0
 IsWords (failure.Words text) = Unit {0}
 IsWords _ = ⊥
 
--- the failure names this argument
-abbrev pub Names : (name : List ℕ) → Failure → Type 0
-Names name (failure.Usage named) = named.now ≡ name
-Names name _ = ⊥
-
 -- whether a word without a value is on the command line
 pub record IsFlagIn (given : Found) (name : List ℕ) (flag : Bool) : Type 0 where
   pub absent : one_text given name ≡ None → flag ≡ false

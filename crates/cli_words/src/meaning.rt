@@ -4,8 +4,9 @@ ghost use Rattle.clap.specs.Simple.{subcommand_rows_of};
 ghost use Rattle.clap.specs.Walk.{rows_of};
 ghost use Rattle.clap.specs.declared.parser.matches.Found.{Found};
 ghost use Rattle.clap.specs.Values.{kind_of};
+ghost use Rattle.cli_failures.specs.Causes.{Names};
 ghost use Rattle.cli_words.specs.Words.{asks_for_help, command_of, text_command_of, IsHelp, IsTaskIn, IsTextTaskIn};
-ghost use Rattle.cli_words.specs.Words.{IsWords, Names};
+ghost use Rattle.cli_words.specs.Words.{IsWords};
 ghost use Rattle.cli_words.specs.Several.{IsManyIn, each_command_of};
 
 use crate::grammar::command_line;

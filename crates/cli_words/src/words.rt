@@ -1,7 +1,8 @@
 ghost use Rattle.std.specs.Prelude.{◌≡◌, codes, IfErr, IfOk, Some};
 ghost use Rattle.clap.specs.Matches.{found_of, first_value};
 ghost use Rattle.cli_tasks.specs.declared.task.Stamped.{Stamped};
-ghost use Rattle.cli_words.specs.Words.{Names, IsNumberIn, IsSignerIn, IsStampedIn, IsRequestIn, IsFitIn, IsMatchIn};
+ghost use Rattle.cli_failures.specs.Causes.{Names};
+ghost use Rattle.cli_words.specs.Words.{IsNumberIn, IsSignerIn, IsStampedIn, IsRequestIn, IsFitIn, IsMatchIn};
 ghost use Rattle.cli_words.specs.Words.{IsMigrateIn, IsQuestionsIn, IsBufferIn, IsCheckIn, IsCompareIn, IsAttachIn};
 ghost use Rattle.cli_words.specs.Words.{IsShownIn};
 

@@ -3,7 +3,6 @@ pub mod Asking
 pub mod Checking
 pub mod CheckingTokens
 pub mod InMemory
-pub mod Messages
 pub mod Moments
 pub mod Requested
 pub mod Stamped

@@ -8,9 +8,11 @@ use Rattle.tsp_types.specs.Asked.{asked}
 use Rattle.tsp_types.specs.RequestValue.{EncodesRequest, request_parts}
 use Rattle.cli_failures.specs.declared.failure.Failure.{Failure}
 use Rattle.cli_failures.specs.declared.failure.Failure.TheVariants as failure
+use Rattle.cli_failures.specs.Causes.{Names}
+use Rattle.cli_failures.specs.Requests.{longer}
 use Rattle.library_answers.specs.declared.answer.Answer.{Answer}
 use Rattle.library_answers.specs.Failures.{IsMade, IsUnmade}
-use Rattle.library_calls.specs.Requests.{IsPolicy, IsNonce, AreValues, Names, longer, IsRequestOf, RefusesAlg}
+use Rattle.library_calls.specs.Requests.{IsPolicy, IsNonce, AreValues, IsRequestOf, RefusesAlg}
 use Rattle.library_calls.specs.Requests.{RefusesDigest, RefusesPolicy, RefusesLength, RefusesValues, IsRequested}
 
 abbrev pub values : (policy nonce : List ℕ) (oid number : Option (List ℕ)) → IsPolicy policy oid → IsNonce nonce number

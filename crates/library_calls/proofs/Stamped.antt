@@ -6,9 +6,9 @@ use Rattle.digests.specs.declared.value.Digest.{Digest}
 use Rattle.digests.specs.Algorithms.{name_of}
 use Rattle.cli_failures.specs.declared.failure.Failure.{Failure}
 use Rattle.cli_failures.specs.declared.failure.Failure.TheVariants as failure
+use Rattle.cli_failures.specs.Signatures.{IsSignatureDigest, HasNoSigner}
 use Rattle.library_answers.specs.declared.answer.Answer.{Answer}
 use Rattle.library_answers.specs.Failures.{IsMade, IsUnmade}
-use Rattle.library_calls.specs.Signatures.{IsSignatureDigest, HasNoSigner}
 use Rattle.library_calls.specs.Requests.{AreValues, RefusesPolicy, RefusesLength, RefusesSignature, IsRequestOf}
 use Rattle.library_calls.specs.Requests.{IsRequestOfSignature, IsSignatureRequested}
 

@@ -9,4 +9,3 @@ pub mod Matching
 pub mod Questions
 pub mod Requests
 pub mod Shown
-pub mod Signatures

@@ -13,9 +13,11 @@ use Rattle.tsp_types.specs.RequestValue.{EncodesRequest, request_parts}
 use Rattle.tsp_types.specs.Asked.{asked}
 use Rattle.cli_failures.specs.declared.failure.Failure.{Failure}
 use Rattle.cli_failures.specs.declared.failure.Failure.TheVariants as failure
+use Rattle.cli_failures.specs.Causes.{Names}
+use Rattle.cli_failures.specs.Requests.{longer}
+use Rattle.cli_failures.specs.Signatures.{IsSignatureDigest, HasNoSigner}
 use Rattle.library_answers.specs.declared.answer.Answer.{Answer}
 use Rattle.library_answers.specs.Failures.{IsMade, IsUnmade}
-use Rattle.library_calls.specs.Signatures.{IsSignatureDigest, HasNoSigner}
 
 -- the digest by the algorithm of this name that has these octets, as many as the algorithm gives
 pub record IsGiven (name octets : List ℕ) (digest : Digest) : Type 0 where
@@ -50,11 +52,6 @@ abbrev pub IsRequestOf : Digest → (policy nonce : List ℕ) (certificate : Boo
 IsRequestOf digest policy nonce certificate octets = (values : AreValues policy nonce)
     × EncodesRequest octets (asked digest values.oid values.number certificate)
 
--- the failure names this value
-abbrev pub Names : (value : List ℕ) → Failure → Type 0
-Names value (failure.Usage named) = named.now ≡ value
-Names value why = ⊥
-
 -- no algorithm has this name
 abbrev pub RefusesAlg : (name : List ℕ) → Failure → Type 0
 RefusesAlg name f = Names (codes "alg") f × ((IsUtf8 name → ⊥) ⊎ ((alg : Alg) → name ≡ name_of alg → ⊥))
@@ -76,11 +73,6 @@ RefusesNonce octets f = Names (codes "nonce") f × (0 < length octets) × (is_in
 -- the policy is as it must be, and the nonce isn't
 abbrev pub RefusesAfterPolicy : (policy nonce : List ℕ) → Failure → Type 0
 RefusesAfterPolicy policy nonce f = ((oid : Option (List ℕ)) × IsPolicy policy oid) × RefusesNonce nonce f
-
--- a request that is too long is refused by its policy, if it has one, or else by its nonce
-abbrev pub longer : (oid : Option (List ℕ)) → List ℕ
-longer None = codes "nonce"
-longer (Some b) = codes "policy"
 
 -- a request of this digest would be longer than an element can be
 abbrev pub RefusesLength : Digest → (policy nonce : List ℕ) (certificate : Bool) → Failure → Type 0

@@ -12,7 +12,6 @@ mod matching;
 mod questions;
 mod request;
 mod show;
-mod signature;
 mod token;
 
 pub use attach::tell_attached;

@@ -1,49 +1,11 @@
-ghost use Rattle.std.specs.Prelude.{◌≡◌, IfOk, IfErr};
-ghost use Rattle.cli_failures.specs.Failures.{failure_of_message};
-ghost use Rattle.library_calls.specs.Matching.{Answers, AnswersNot, IsMatch, IsTokenOf};
+ghost use Rattle.library_calls.specs.Matching.{IsMatch, IsTokenOf};
 
-use cli_failures::{Failure, Message};
-use der_core::ReadFault;
+use cli_failures::token::token_of;
 use library_answers::{Answer, DONE, Told, tell_failure, tell_line, tell_made, tell_unmade};
 use std::alloc::Global;
-use tsp_requester::answers;
-use tsp_types::{Request, Response};
 
 /// A response answers a request.
 const ANSWERS: u32 = 6;
-
-/// Why octets that should be this message can't be read as one. Reading allocates nothing.
-fn malformed(message: Message, fault: ReadFault) -> Failure<'static>
-    ensures { result ≡ failure_of_message message fault }
-{
-    match fault {
-        ReadFault::Malformed(fault) => Failure::MalformedMessage(message, fault),
-        ReadFault::OutOfMemory => Failure::Memory,
-    }
-}
-
-/// The token of the response that these octets encode, which answers the request that the other octets encode.
-#[tactic(auto, using(crate::proofs::Messages::no_request, crate::proofs::Messages::no_response))]
-fn token_of<'o>(request: &[u8], response: &'o [u8]) -> Result<&'o [u8], Failure<'static>>
-    ensures answers { IfOk result (λ token. Answers request.now response.now token.now) }
-    ensures refused { IfErr result (AnswersNot request.now response.now) }
-{
-    let asked = match Request::read(request) {
-        Ok(asked) => asked,
-        Err(fault) => return Err(malformed(Message::Request, fault)),
-    };
-    let given = match Response::read(response) {
-        Ok(given) => given,
-        Err(fault) => return Err(malformed(Message::Response, fault)),
-    };
-    match answers(&asked, &given) {
-        Ok(()) => match given.token() {
-            Some(token) => Ok(token),
-            None => unreachable!(),
-        },
-        Err(rule) => Err(Failure::Unmatched(rule)),
-    }
-}
 
 /// Whether a response answers a request.
 pub fn tell_match(alloc: Global, request: &[u8], response: &[u8], room: &mut [u8]) -> Told

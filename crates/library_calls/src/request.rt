@@ -1,26 +1,22 @@
-ghost use Rattle.std.specs.Prelude.{◌≡◌, ◌≤◌, ◌^◌, ◌⊎◌, length, IfOk, IfErr, IfSome, MatchResult, true};
+ghost use Rattle.std.specs.Prelude.{◌≡◌, ◌⊎◌, IfOk, IfErr, IfSome, MatchResult, true};
 ghost use Rattle.std.specs.Prelude.{option_map};
 ghost use Rattle.der_core.specs.Contents.{is_integer, is_oid};
 ghost use Rattle.digests.specs.declared.algorithm.Alg.{Alg};
 ghost use Rattle.digests.specs.Algorithms.{name_of};
 ghost use Rattle.digests.specs.Digests.{alg_of};
-ghost use Rattle.tsp_types.specs.Asked.{asked};
-ghost use Rattle.tsp_types.specs.RequestValue.{EncodesRequest, request_parts};
-ghost use Rattle.library_calls.specs.Requests.{IsGiven, IsHashed, IsPolicy, IsNonce, Names, RefusesAlg, RefusesDigest};
-ghost use Rattle.library_calls.specs.Requests.{longer};
+ghost use Rattle.library_calls.specs.Requests.{IsGiven, IsHashed, IsPolicy, IsNonce, RefusesAlg, RefusesDigest};
 ghost use Rattle.library_calls.specs.Requests.{RefusesPolicy, RefusesNonce, IsRequestOf, RefusesValues, IsRequested};
 ghost use Rattle.library_calls.specs.Requests.{IsRequestOfSignature, RefusesSignature, IsSignatureRequested};
 ghost use Rattle.library_answers.specs.Failures.{IsMade, IsUnmade};
 
-use crate::signature::digest_of;
 use cli_failures::Failure;
-use der_core::{Int, Oid};
-use der_oid_text::{OidFault, oid_parse};
+use cli_failures::request::{policy_in, policy_of, request_of};
+use cli_failures::signature::digest_of;
+use der_core::Int;
 use digests::{Alg, Digest, digest};
 use library_answers::{Told, tell_made, tell_unmade};
 use std::alloc::Global;
 use std::str;
-use tsp_types::{MakeFault, Request};
 
 /// The algorithm of this name.
 fn alg_of(name: &[u8]) -> Result<Alg, Failure<'static>>
@@ -70,23 +66,7 @@ fn policy_contents(alloc: Global, text: &[u8]) -> Result<Option<Vec<u8>>, Failur
     let Ok(text) = str::from_utf8(text) else {
         return Err(Failure::Usage("policy"));
     };
-    match oid_parse(alloc, text) {
-        Ok(contents) => Ok(Some(contents)),
-        Err(OidFault::OidText) => Err(Failure::Usage("policy")),
-        Err(OidFault::OutOfMemory) => Err(Failure::Memory),
-    }
-}
-
-/// The object identifier of these contents.
-fn policy_in<'c>(contents: &'c Option<Vec<u8>>) -> Option<Oid<'c>>
-    requires { IfSome contents.now (λ v. is_oid v.items ≡ true) }
-    ensures { result ≡ option_map (λ v. v.items) contents.now }
-{
-    let contents = contents.as_ref()?;
-    let Ok(policy) = Oid::read(contents.as_slice(), 0) else {
-        unreachable!();
-    };
-    Some(policy)
+    Ok(Some(policy_of(alloc, text)?))
 }
 
 /// The INTEGER of these contents.
@@ -101,27 +81,6 @@ fn nonce_in<'c>(contents: &'c [u8]) -> Result<Option<Int<'c>>, Failure<'static>>
     match Int::read(contents, 0) {
         Ok(nonce) => Ok(Some(nonce)),
         Err(_) => Err(Failure::Usage("nonce")),
-    }
-}
-
-/// The octets of a request of a digest.
-fn request_of(
-    alloc: Global,
-    digest: &Digest,
-    policy: Option<Oid>,
-    nonce: Option<Int>,
-    certificate: bool,
-) -> Result<Vec<u8>, Failure<'static>>
-    ensures made { IfOk result
-        (λ octets. EncodesRequest octets.items (asked digest.now policy.entry nonce.entry certificate)) }
-    ensures refused { IfErr result (λ f. (f ≡ Failure.Memory) ⊎ (Names (longer policy.entry) f
-        × (2 ^ 32 ≤ length (request_parts (asked digest.now policy.entry nonce.entry certificate))))) }
-{
-    let is_policy = policy.is_some();
-    match Request::make(alloc, digest, policy, nonce, certificate) {
-        Ok(octets) => Ok(octets),
-        Err(MakeFault::OutOfMemory) => Err(Failure::Memory),
-        Err(MakeFault::TooLong) => Err(Failure::Usage(if is_policy { "policy" } else { "nonce" })),
     }
 }
 

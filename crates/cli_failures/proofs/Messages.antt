@@ -9,7 +9,7 @@ use Rattle.tsp_types.specs.RequestValue.{RequestValue, EncodesRequest}
 use Rattle.tsp_types.specs.ResponseValue.{ResponseValue}
 use Rattle.cli_failures.specs.declared.failure.Message.TheVariants as message
 use Rattle.cli_failures.specs.Failures.{failure_of_message}
-use Rattle.library_calls.specs.Matching.{AnswersNot}
+use Rattle.cli_failures.specs.Tokens.{AnswersNot}
 
 pub no_request : (request response : List ℕ) (e : ReadFault) → IsReadFault (grammar.file table.request) request e
     → (let r : Result RequestValue ReadFault = Err e in r ≢ Err read.OutOfMemory)

@@ -1,13 +1,17 @@
 ghost use Rattle.std.specs.Prelude.{IfErr, IfOk};
-ghost use Rattle.cli_commands.specs.Signatures.{HasNoSigner, IsSignatureDigest};
+ghost use Rattle.cli_failures.specs.Signatures.{HasNoSigner, IsSignatureDigest};
 
-use cli_failures::Failure;
+use crate::failure::Failure;
 use cmsproof_api::{Alg, AttachFault, CmsFault, Digest, SignedData, digest};
 
 /// The digest of the signature of the signer of this number, from 1, in the SignedData that the octets of a file
 /// encode.
+///
+/// Errors: `Malformed` and `Unattached`.
 pub fn digest_of<'a>(file: &[u8], number: u64, alg: Alg) -> Result<Digest, Failure<'a>>
+    // Returns the digest by this algorithm of the signature of the signer of this number.
     ensures found { IfOk result (IsSignatureDigest alg file.now number) }
+    // An error says that the file has no such signature, and why.
     ensures refused { IfErr result (HasNoSigner file.now number) }
 {
     let signed = match SignedData::read(file) {

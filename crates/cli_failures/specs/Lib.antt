@@ -1,3 +1,4 @@
 pub mod Statuses
 pub mod Failures
 pub mod Files
+pub mod Output

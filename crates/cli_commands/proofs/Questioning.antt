@@ -1,5 +1,5 @@
 -- What is printed if the questions of a file are not.
-use Rattle.std.proofs.Common.{◌≡◌, ◌≢◌, ◌⊎◌, ◌∙◌, ℕ, List, Option, sym, inl, inr, ap}
+use Rattle.std.proofs.Common.{◌≡◌, ◌≢◌, ◌⊎◌, ◌∙◌, ℕ, List, Option, take, sym, subst, inl, inr, ap}
 use Rattle.std.specs.Io.KnownBytes.{Appends}
 use Rattle.check_questions.specs.declared.fault.QuestionsFault.TheVariants as questions
 use Rattle.check_stream.specs.declared.fault.StreamQuestionsFault.TheVariants as stream
@@ -7,9 +7,12 @@ use Rattle.cli_failures.specs.declared.failure.Failure.{Failure}
 use Rattle.cli_failures.specs.declared.status.Status.{Status}
 use Rattle.cli_failures.specs.declared.status.Status.TheVariants as status
 use Rattle.cli_tasks.specs.declared.task.QuestionsWords.{QuestionsWords}
-use Rattle.cli_commands.specs.Asking.{AsksNot, KeepsUnlessFailed}
+use Rattle.cli_tasks.specs.declared.task.Task.TheVariants as task
+use Rattle.cli_commands.specs.Asking.{AsksNot, KeepsUnlessFailed, ShowsPart}
 use Rattle.cli_commands.specs.Rereading.{Sayings}
-use Rattle.cli_failures.specs.Failures.{failure_text, status_of}
+use Rattle.cli_failures.specs.Failures.{failure_text, printed_text, status_of}
+use Rattle.cli_failures.specs.Output.{Begins}
+use Rattle.cli_commands.specs.Tasks.{StopsBy}
 use Rattle.cli_commands.specs.Telling.{TellsMalformed, TellsRefusal}
 use Rattle.cli_commands.proofs.AskedAgain.{kept_then}
 use Rattle.cli_commands.proofs.Malformed.{fault_told, refusal_told}
@@ -69,6 +72,18 @@ module _ (f : Failure) (result : Status) (before between after : Option (List �
   )
 
 module _ {F : Type 0} (holds : F → Option (List ℕ)) (says : Sayings F) (words : QuestionsWords) (f : Failure) where
+  -- if the report ended as failed, a beginning of the text was printed, or of the line
+  pub questions_cut : (result : Status) (before between after : Option (List ℕ)) → AsksNot holds says words f
+      → ShowsPart holds before between f
+      → (result ≡ status.Failed → Begins between after (printed_text f))
+      → (status_of f ≡ status.Failed → after ≡ between) → result ≡ status.Failed
+      → StopsBy holds says (task.Questions words) before after
+  questions_cut result before between after fails (inl kept) begun same is =
+      let (count, took) = begun is in
+      inr (f, fails, (count, kept_then before between after (take count (printed_text f)) kept took))
+  questions_cut result before between after fails (inr (e, (text, shows, part))) begun same is =
+      inl (text, shows, subst (λ (o : Option (List ℕ)). Begins before o text) (sym (same (ap status_of e))) part)
+
   -- none of the failures of questions is one of usage
   no_usage : AsksNot holds says words f → status_of f ≢ status.Usage
   no_usage (inl (inl (inl e))) is = cc

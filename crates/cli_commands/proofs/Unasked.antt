@@ -1,5 +1,5 @@
 -- Why the questions of a file were not printed, and what was then printed.
-use Rattle.std.proofs.Common.{◌≡◌, ℕ, List, Option, Some, None, Ok, Err, inr}
+use Rattle.std.proofs.Common.{◌≡◌, ℕ, List, Option, Some, None, Ok, Err, inl, inr}
 use Rattle.std.specs.Borrow.{Bor}
 use Rattle.std.specs.Io.KnownBytes.{Appends}
 use Rattle.der_grammar.specs.TooLarge.{IsTooLarge}
@@ -9,8 +9,8 @@ use Rattle.check_stream.specs.declared.fault.StreamQuestionsFault.{StreamQuestio
 use Rattle.check_stream.specs.declared.fault.StreamQuestionsFault.TheVariants as stream
 use Rattle.cli_failures.specs.declared.failure.Failure.{Failure}
 use Rattle.cli_tasks.specs.declared.task.QuestionsWords.{QuestionsWords}
-use Rattle.cli_commands.specs.Asking.{IsTooLong, IsUnasked, AsksPass, ShowsQuestions, AsksNot, KeepsUnlessFailed}
-use Rattle.cli_commands.specs.Asking.{failure_of}
+use Rattle.cli_commands.specs.Asking.{IsTooLong, IsUnasked, AsksPass, ShowsQuestions, ShowsPart, AsksNot}
+use Rattle.cli_commands.specs.Asking.{KeepsUnlessFailed, failure_of}
 use Rattle.cli_commands.specs.Checking.{IfKnown}
 use Rattle.cli_commands.specs.Lists.{IsTrustOf}
 use Rattle.cli_commands.specs.Rereading.{IsLimitFor, Sayings}
@@ -37,6 +37,17 @@ module _ {F : Type 0} (holds : F → Option (List ℕ)) (says : Sayings F) (word
       → IfKnown held (λ octets. IsUnasked trust (IsTooLong says words opened) octets why)
   if_known None why is = tt
   if_known (Some octets) why is = λ are. by_words octets why (is are)
+
+  -- what it printed: nothing, or a beginning of the text
+  pub printed_part : (why : StreamQuestionsFault) (f : Failure)
+      → AsksPass trust (holds last) limit (Err why) before after
+      → f ≡ failure_of words.file why → ShowsPart holds before after f
+  printed_part (stream.Questions (fault.Malformed g)) f (took, is) e = inl took
+  printed_part (stream.Questions fault.NotSignedData) f (took, is) e = inl took
+  printed_part (stream.Questions fault.WriteFailed) f ((text, of, begun), is) e =
+      inr (e, (text, (trust, last, trusted, of), begun))
+  printed_part stream.ReadFailed f (took, is) e = inl took
+  printed_part stream.TooLong f (took, is) e = inl took
 
   pub not_asked : (why : StreamQuestionsFault) (f : Failure) → AsksPass trust (holds last) limit (Err why) before after
       → f ≡ failure_of words.file why → AsksNot holds says words f

@@ -1,6 +1,6 @@
 -- What `questions` prints for a file. `holds` is what an open file holds, if that is known, and `says` what it may say
 -- of itself.
-use Rattle.std.specs.Prelude.{◌≡◌, ◌≢◌, ◌⊎◌, ℕ, List, take, Option, Result, Ok, Err, IfErr}
+use Rattle.std.specs.Prelude.{◌≡◌, ◌≢◌, ◌⊎◌, ℕ, List, Option, Result, Ok, Err, IfErr}
 use Rattle.std.specs.Borrow.{Bor}
 use Rattle.std.specs.Io.KnownBytes.{Appends, Keeps}
 use Rattle.der_core.specs.OpenFaults.{FaultsOpenly}
@@ -23,6 +23,7 @@ use Rattle.cli_failures.specs.declared.failure.Failure.{Failure}
 use Rattle.cli_failures.specs.declared.failure.Failure.TheVariants as failure
 use Rattle.cli_tasks.specs.declared.task.QuestionsWords.{QuestionsWords}
 use Rattle.cli_failures.specs.Files.{IsFailureToOpen}
+use Rattle.cli_failures.specs.Output.{Begins}
 use Rattle.cli_commands.specs.Checking.{IfKnown}
 use Rattle.cli_commands.specs.Lists.{IsTrustOf, IsFailureOfTrust}
 use Rattle.cli_commands.specs.Rereading.{IsLimitFor, IsUnread, Sayings}
@@ -48,7 +49,7 @@ Attempt = Result (Unit {0}) StreamQuestionsFault
 abbrev pub Takes : (IsText : List ℕ → Type 0) → Attempt → (before after : Option (List ℕ)) → Type 0
 Takes IsText (Ok u) before after = (text : List ℕ) × IsText text × Appends before after text
 Takes IsText (Err (stream.Questions fault.WriteFailed)) before after = (text : List ℕ) × IsText text
-    × ((count : ℕ) × Appends before after (take count text))
+    × Begins before after text
 Takes IsText (Err _) before after = Keeps before after
 
 -- why the questions of a file of these octets were not printed: they don't encode a SignedData, more must be kept of
@@ -108,3 +109,9 @@ AsksNot holds says words f = IsFailureOfTrust holds words.trust f
 -- what was printed so far is unchanged, unless the output failed
 abbrev pub KeepsUnlessFailed : (before after : Option (List ℕ)) → Failure → Type 0
 KeepsUnlessFailed before after f = (f ≢ failure.Unasked fault.WriteFailed) → Keeps before after
+
+-- how much was printed of questions that were not all printed: nothing, or a beginning of them if the output failed
+abbrev pub ShowsPart : {F : Type 0} → (holds : F → Option (List ℕ)) → (before after : Option (List ℕ)) → Failure
+    → Type 0
+ShowsPart holds before after f = Keeps before after ⊎ ((f ≡ failure.Unasked fault.WriteFailed)
+    × ((text : List ℕ) × ShowsQuestions holds text × Begins before after text))

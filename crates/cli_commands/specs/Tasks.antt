@@ -7,6 +7,8 @@ use Rattle.lines_shown.specs.TstLines.{ShowsTst}
 use Rattle.lines_shown.specs.CertificateLines.{ShowsCertificate}
 use Rattle.lines_shown.specs.SignedLines.{ShowsSigned}
 use Rattle.cli_failures.specs.declared.failure.Failure.{Failure}
+use Rattle.cli_failures.specs.Failures.{printed_text}
+use Rattle.cli_failures.specs.Output.{Begins}
 use Rattle.cli_tasks.specs.declared.task.Task.{Task}
 use Rattle.cli_tasks.specs.declared.task.Task.TheVariants.{Questions, Text}
 use Rattle.cli_tasks.specs.declared.task.TextTask.{TextTask}
@@ -81,6 +83,13 @@ IsDoneBy holds (Text task) text = MakesText holds task text
 abbrev pub FailsBy : {F : Type 0} → (holds : F → Option (List ℕ)) → (says : Sayings F) → Task → Failure → Type 0
 FailsBy holds says (Questions words) f = AsksNot holds says words f
 FailsBy holds says (Text task) f = MakesNoText holds says task f
+
+-- a task stopped: a writer took a beginning of what it prints, or of what is printed of its failure, if what the writer
+-- takes is known
+abbrev pub StopsBy : {F : Type 0} → (holds : F → Option (List ℕ)) → (says : Sayings F) → Task
+    → (before after : Option (List ℕ)) → Type 0
+StopsBy holds says task before after = ((text : List ℕ) × IsDoneBy holds task text × Begins before after text)
+    ⊎ ((f : Failure) × FailsBy holds says task f × Begins before after (printed_text f))
 
 -- the path of the file that a task writes is none of those that it reads, but that `attach` may replace its file
 abbrev pub IsApart : Task → Type 0

@@ -1,7 +1,8 @@
 ghost use Rattle.std.specs.Prelude.{◌≡◌, ℕ, List, Err, IfErr, IfOk, OnErr, OnOk, MatchBool};
 ghost use Rattle.std.specs.Io.KnownBytes.{Appends, Keeps};
 ghost use Rattle.check_stream.specs.StreamQuestions.{CountsReads};
-ghost use Rattle.cli_commands.specs.Asking.{AsksReading, ShowsQuestions, AsksNot, KeepsUnlessFailed, failure_of};
+ghost use Rattle.cli_commands.specs.Asking.{AsksReading, ShowsQuestions, ShowsPart, AsksNot, KeepsUnlessFailed};
+ghost use Rattle.cli_commands.specs.Asking.{failure_of};
 ghost use Rattle.cli_commands.specs.Lists.{IsTrustOf};
 ghost use Rattle.cli_commands.specs.Rereading.{IsLimitFor};
 
@@ -34,6 +35,8 @@ where
     ensures refused { IfErr result (AsksNot R.File.remaining R.File.says words.now) }
     // Before the line of a refusal nothing was printed.
     ensures kept { IfErr result (KeepsUnlessFailed (O.contents out.old) (O.contents out.new)) }
+    // If the output failed, it took a beginning of the text.
+    ensures cut { IfErr result (ShowsPart R.File.remaining (O.contents out.old) (O.contents out.new)) }
 {
     let trust = lists::trust_in(rt, words.trust)?;
     let mut passing = Pass::new();
@@ -62,6 +65,9 @@ where
         → IfErr result (AsksNot R.File.remaining R.File.says words.now) }
     // Nothing was printed if this fails, unless the output failed.
     ensures kept { IfErr result (KeepsUnlessFailed (O.contents out.old) (O.contents out.new)) }
+    // And then it took a beginning of the text.
+    ensures cut { IsTrustOf R.File.remaining trust.now
+        → IfErr result (ShowsPart R.File.remaining (O.contents out.old) (O.contents out.new)) }
 {
     let mut file = Rereadable {
         file: files::open(rt, words.file)?,

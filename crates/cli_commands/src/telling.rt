@@ -12,13 +12,15 @@ ghost use Rattle.cli_commands.specs.Matching.{IsTokenWritten};
 ghost use Rattle.cli_commands.specs.Migrating.{IsMigrated};
 ghost use Rattle.cli_commands.specs.Requests.{IsRequestWritten};
 ghost use Rattle.cli_failures.specs.Failures.{status_of, failure_text};
-ghost use Rattle.cli_commands.specs.Tasks.{IsApart, IsDoneBy, MakesText, FailsBy, MakesNoText, WritesApart};
+ghost use Rattle.cli_failures.specs.Output.{Begins};
+ghost use Rattle.cli_commands.specs.Tasks.{IsApart, IsDoneBy, MakesText, FailsBy, MakesNoText, StopsBy, WritesApart};
 ghost use Rattle.cli_commands.specs.Telling.{TellsMalformed, TellsRefusal};
 
 use crate::asking::ask;
 use crate::rereading::Describes;
 use crate::texts::text_of;
-use cli_failures::{Failure, STANDARD_OUTPUT, Status, files};
+use cli_failures::Status;
+use cli_failures::output::put;
 use cli_tasks::{QuestionsWords, Task, TextTask};
 use std::io::Write;
 use std::rt::Files;
@@ -58,6 +60,9 @@ where
     ensures malformed { result ≡ Status.Malformed → TellsMalformed (O.contents out.old) (O.contents out.new) }
     // With `Refused` the output took a line of a rule that refuses a file, if it is known what it takes.
     ensures refused { result ≡ Status.Refused → TellsRefusal (O.contents out.old) (O.contents out.new) }
+    // With `Failed` the output took a beginning of what this task prints, or of the line of a failure that goes there.
+    ensures cut { result ≡ Status.Failed → StopsBy R.File.remaining R.File.says task.entry (O.contents out.old)
+        (O.contents out.new) }
     // If a value isn't as it must be, nothing is printed on the standard output.
     ensures silent { result ≡ Status.Usage → out.new ≡ out.old }
     // With `Usage` the failure is one of this task with that status.
@@ -101,6 +106,8 @@ where
         × Appends (O.contents out.old) (O.contents out.new) (failure_text f) }
     ensures malformed { result ≡ Status.Malformed → TellsMalformed (O.contents out.old) (O.contents out.new) }
     ensures refused { result ≡ Status.Refused → TellsRefusal (O.contents out.old) (O.contents out.new) }
+    ensures cut { result ≡ Status.Failed → StopsBy R.File.remaining R.File.says (Task.Text task.entry)
+        (O.contents out.old) (O.contents out.new) }
     // If a value isn't as it must be, nothing is printed on the standard output.
     ensures silent { result ≡ Status.Usage → out.new ≡ out.old }
     ensures usage { result ≡ Status.Usage → (f : Failure) × MakesNoText R.File.remaining R.File.says task.entry f
@@ -128,6 +135,8 @@ where
         × Appends (O.contents out.old) (O.contents out.new) (failure_text f) }
     ensures malformed { result ≡ Status.Malformed → TellsMalformed (O.contents out.old) (O.contents out.new) }
     ensures refused { result ≡ Status.Refused → TellsRefusal (O.contents out.old) (O.contents out.new) }
+    ensures cut { result ≡ Status.Failed → StopsBy R.File.remaining R.File.says (Task.Questions words.now)
+        (O.contents out.old) (O.contents out.new) }
     ensures silent { result ≢ Status.Usage }
     ensures quiet { (result ≡ Status.Failed) ⊎ (err.new ≡ err.old) }
 {
@@ -143,6 +152,8 @@ pub fn print<O: Write, E: Write>(text: &str, out: &mut O, err: &mut E) -> Status
     ensures status { (result ≡ Status.Done) ⊎ (result ≡ Status.Failed) }
     // With `Done` the output took the text, if it is known what it takes.
     ensures told { result ≡ Status.Done → Appends (O.contents out.old) (O.contents out.new) text.now }
+    // With `Failed` it took a beginning of the text.
+    ensures cut { result ≡ Status.Failed → Begins (O.contents out.old) (O.contents out.new) text.now }
     // With `Done` nothing was put on the standard error.
     ensures quiet { result ≡ Status.Done → err.new ≡ err.old }
 {
@@ -153,13 +164,14 @@ pub fn print<O: Write, E: Write>(text: &str, out: &mut O, err: &mut E) -> Status
 fn put_text<O: Write, E: Write>(text: &[u8], out: &mut O, err: &mut E) -> Status
     ensures status { (result ≡ Status.Done) ⊎ (result ≡ Status.Failed) }
     ensures told { result ≡ Status.Done → Appends (O.contents out.old) (O.contents out.new) text.now }
+    ensures cut { result ≡ Status.Failed → Begins (O.contents out.old) (O.contents out.new) text.now }
     ensures quiet { result ≡ Status.Done → err.new ≡ err.old }
 {
     if text.is_empty() {
         return Status::Done;
     }
-    match files::put(out, text) {
+    match put(out, text) {
         Ok(()) => Status::Done,
-        Err(_) => Failure::Write(STANDARD_OUTPUT).report_error(err),
+        Err(lost) => lost.report_error(err),
     }
 }

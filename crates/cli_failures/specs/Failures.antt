@@ -109,6 +109,17 @@ status_of (failure.Size path) = status.Failed
 status_of (failure.Write path) = status.Failed
 status_of failure.Memory = status.Failed
 
+-- of the line of a failure with which a command ends so, what goes to the standard output: all, or nothing if the line
+-- goes to the standard error
+abbrev pub printed_by : Status → (line : List ℕ) → List ℕ
+printed_by status.Usage line = []
+printed_by status.Failed line = []
+printed_by _ line = line
+
+-- what is printed of a failure on the standard output
+abbrev pub printed_text : Failure → List ℕ
+printed_text f = printed_by (status_of f) (failure_text f)
+
 -- the failure of a command for a fault of a read
 abbrev pub failure_of : ReadFault → Failure
 failure_of (read.Malformed fault) = failure.Malformed fault

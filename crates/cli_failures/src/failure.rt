@@ -1,7 +1,9 @@
 ghost use Rattle.std.specs.Prelude.{◌≡◌};
 ghost use Rattle.cli_failures.specs.Failures.{refused_status, unasked_status, uncompared_status};
 
+use crate::output::put;
 use crate::status::Status;
+use arrayvec::ArrayVec;
 use cmsproof_api::{
     AnswersFault, AnswersRule, AttachFault, CmsFault, CompareFault, CompareRule, Fault, FileRule,
     MatchFault, QuestionsFault, ReadFault, Refused, TrustFault, TrustRule,
@@ -13,6 +15,10 @@ use thiserror::Error;
 
 /// The standard output, in the place of a path.
 pub const STANDARD_OUTPUT: &str = "-";
+
+/// The room for a line that goes to the standard output. None of these has a path. By `failure_text` and the texts that
+/// it names, the longest is `refused signer N token N K1 M4 LengthForm at N`: 104 octets, if each number has 20 digits.
+const ROOM: usize = 256;
 
 /// Which message of the time-stamp protocol a file holds, if a command reads both.
 #[derive(Clone, Copy, Debug, PartialEq, Eq)]
@@ -230,10 +236,11 @@ fn refused_status(refused: Refused) -> Status
 }
 
 impl<'a> Failure<'a> {
-    ghost use Rattle.std.specs.Prelude.{◌≡◌, ◌≢◌, ◌⊎◌, OnOk};
+    ghost use Rattle.std.specs.Prelude.{◌≡◌, ◌≢◌, ◌⊎◌, IfErr, OnOk};
     ghost use Rattle.std.specs.IoError.{error_kind};
     ghost use Rattle.std.specs.Io.KnownBytes.{Appends};
-    ghost use Rattle.cli_failures.specs.Failures.{failure_text, status_of};
+    ghost use Rattle.cli_failures.specs.Failures.{failure_text, printed_text, status_of};
+    ghost use Rattle.cli_failures.specs.Output.{Begins, IsLost};
 
     /// Why the words of the process aren't available: memory ran out, or one of them isn't text.
     pub fn of_words(error: &io::Error) -> Failure<'a>
@@ -276,6 +283,9 @@ impl<'a> Failure<'a> {
         // With `Refused` the output took the failure's line, if it is known what it takes.
         ensures refused { result ≡ Status.Refused → Appends (O.contents out.old) (O.contents out.new)
             (failure_text self.now) }
+        // With `Failed` the output took a beginning of what is printed there of the failure.
+        ensures cut { result ≡ Status.Failed → Begins (O.contents out.old) (O.contents out.new)
+            (printed_text self.now) }
         // With `Usage` nothing was put on the output.
         ensures silent { result ≡ Status.Usage → out.new ≡ out.old }
         // For a failure whose status is `Usage`, nothing was put on the output.
@@ -286,9 +296,9 @@ impl<'a> Failure<'a> {
         ensures quiet { (result ≡ Status.Usage) ⊎ ((result ≡ Status.Failed) ⊎ (err.new ≡ err.old)) }
     {
         match self.status() {
-            Status::Done | Status::Refused | Status::Malformed => match self.tell(out) {
+            Status::Done | Status::Refused | Status::Malformed => match self.print(out) {
                 Ok(()) => self.status(),
-                Err(_) => Failure::Write(STANDARD_OUTPUT).report_error(err),
+                Err(lost) => lost.report_error(err),
             },
             _ => self.report_error(err),
         }
@@ -301,6 +311,23 @@ impl<'a> Failure<'a> {
     {
         let _ = self.tell(err);
         self.status()
+    }
+
+    /// Prints it on the standard output. Of a writer that fails `write!` promises nothing, so the line is made in a
+    /// room first.
+    ///
+    /// Errors: the output fails, or the line is longer than the room, and nothing was printed.
+    #[inline(never)]
+    fn print<O: Write>(&self, out: &mut O) -> Result<(), Failure<'static>>
+        ensures all { OnOk result (Appends (O.contents out.old) (O.contents out.new) (failure_text self.now)) }
+        ensures cut { IfErr result (λ f. IsLost f
+            × Begins (O.contents out.old) (O.contents out.new) (failure_text self.now)) }
+    {
+        let mut line = ArrayVec::<u8, ROOM>::new();
+        match write!(line, "{self}") {
+            Ok(()) => put(out, line.as_slice()),
+            Err(_) => Err(Failure::Write(STANDARD_OUTPUT)),
+        }
     }
 
     fn tell<W: Write>(&self, to: &mut W) -> io::Result<()>

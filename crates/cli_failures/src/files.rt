@@ -8,7 +8,7 @@ use crate::replacing::{are_same, write};
 use cmsproof_api::FromRead;
 use std::alloc::Global;
 use std::fs::{self, OpenFile};
-use std::io::{self, ErrorKind, Read, Write};
+use std::io::{self, ErrorKind, Read};
 use std::rt::Files;
 
 /// The most octets of a file that is read whole: an element with contents of 2^32 - 1 octets, and a header of 6.
@@ -126,15 +126,6 @@ pub fn apart<'p, R: Files + AllocGlobal>(
         Ok(true) => Err(Failure::Usage(name)),
         Err(_) => Err(Failure::Memory),
     }
-}
-
-/// Writes all the octets.
-pub fn put<W: Write>(to: &mut W, octets: &[u8]) -> io::Result<()>
-    // After a success the writer took all the octets, if it is known what it takes.
-    ensures { OnOk result (Appends (W.contents to.old) (W.contents to.new) octets.now) }
-{
-    to.write_all(octets)?;
-    to.flush()
 }
 
 /// The failure that reports a device's error: this one, unless memory ran out.

@@ -1,5 +1,5 @@
-//! How a command fails: the line that says so, the exit status that it ends with, and the files that it reads and
-//! writes, each of which may fail.
+//! How a command fails: the line that says so, the exit status that it ends with, and what may fail: the files that it
+//! reads and writes, and the standard output.
 //!
 //! `signature`, `token` and `request` give what a command and a call of the library for C both make of octets, or why
 //! it can't be had.
@@ -7,6 +7,7 @@
 
 mod failure;
 pub mod files;
+pub mod output;
 mod replacing;
 pub mod request;
 pub mod signature;

@@ -3,7 +3,6 @@ ghost use Rattle.std.specs.Prelude.{◌≡◌, OnOk, bit_and};
 ghost use Rattle.std.specs.Fs.{permissions_mode};
 ghost use Rattle.std.specs.Io.KnownBytes.{Appends};
 
-use crate::files::put;
 use std::fs::{self, OpenFile, OpenOptions, Permissions};
 use std::io::{self, ErrorKind, Write};
 use std::os::unix::fs::{OpenOptionsExt, PermissionsExt};
@@ -46,7 +45,16 @@ fn write_straight<R: Files>(rt: &R, path: &str, octets: &[u8]) -> io::Result<()>
         (R.File.contents after) octets.now) }
 {
     let mut file = fs::create(rt, path)?;
-    put(&mut file, octets)
+    put_in_file(&mut file, octets)
+}
+
+/// Writes all the octets into an open file. What it took after a failure nobody has to know: unless it is a device or
+/// a pipe, it is removed.
+fn put_in_file<F: Write>(file: &mut F, octets: &[u8]) -> io::Result<()>
+    ensures { OnOk result (Appends (F.contents file.old) (F.contents file.new) octets.now) }
+{
+    file.write_all(octets)?;
+    file.flush()
 }
 
 /// Writes octets beside a path, and then puts them there. If that fails, what was written is removed.
@@ -105,7 +113,7 @@ fn fill<F: Write + OpenFile + Drop>(
     if let Some(permissions) = permissions {
         file.set_permissions(permissions)?;
     }
-    put(&mut file, octets)?;
+    put_in_file(&mut file, octets)?;
     file.sync_all()
 }
 

@@ -1,4 +1,3 @@
-pub mod Taking
 pub mod Cuts
 pub mod Telling
 pub mod NeverUsage

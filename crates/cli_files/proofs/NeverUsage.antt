@@ -16,6 +16,7 @@ use Rattle.cli_failures.specs.declared.status.Status.{Status}
 use Rattle.cli_failures.specs.declared.status.Status.TheVariants as status
 use Rattle.cli_failures.specs.Failures.{failure_text, refused_status, status_of, unasked_status}
 use Rattle.cli_failures.specs.Files.{IsFailureToOpen, IsFailureToRead}
+use Rattle.cli_failures.specs.Output.{Begins, IsLost}
 use Rattle.cli_tasks.specs.declared.task.CheckEach.{CheckEach}
 use Rattle.cli_tasks.specs.declared.task.CheckWords.{CheckWords}
 use Rattle.cli_tasks.specs.declared.task.Each.{Each}
@@ -29,8 +30,8 @@ use Rattle.cli_commands.specs.Checking.{ShowsRefused}
 use Rattle.cli_commands.specs.Fit.{ShowsUnfit}
 use Rattle.cli_commands.specs.Lists.{IsFailureOfAnswers, IsFailureOfTrust}
 use Rattle.cli_commands.specs.Rereading.{Sayings}
-use Rattle.cli_files.specs.Lines.{AreAll, AreTold, none, next, Begins, EndsFiles, IsAsked, IsCut, IsFailureOfList}
-use Rattle.cli_files.specs.Lines.{IsLine, IsLost, TellsNotAll}
+use Rattle.cli_files.specs.Lines.{AreAll, AreTold, none, next, EndsFiles, IsAsked, IsCut, IsFailureOfList}
+use Rattle.cli_files.specs.Lines.{IsLine, TellsNotAll}
 use Rattle.cli_files.specs.Lines.{check_of, fit_of, questions_of}
 
 pub read_fails : (path : Bor (List ℕ)) (f : Failure) → IsFailureToRead path f → status_of f ≡ status.Failed

@@ -12,6 +12,7 @@ use Rattle.cli_failures.specs.declared.failure.Failure.{Failure}
 use Rattle.cli_failures.specs.declared.status.Status.{Status}
 use Rattle.cli_failures.specs.declared.status.Status.TheVariants as status
 use Rattle.cli_failures.specs.Failures.{failure_text, status_of}
+use Rattle.cli_failures.specs.Output.{Begins, IsLost}
 use Rattle.cli_failures.specs.Statuses.{code_of}
 use Rattle.cli_tasks.specs.declared.task.TextTask.{TextTask}
 use Rattle.cli_tasks.specs.declared.task.QuestionsEach.{QuestionsEach}
@@ -20,9 +21,9 @@ use Rattle.cli_commands.specs.Asking.{AsksNot, ShowsQuestions}
 use Rattle.cli_commands.specs.Lists.{IsAnswersOf}
 use Rattle.cli_commands.specs.Rereading.{Sayings}
 use Rattle.cli_commands.specs.Tasks.{MakesText, MakesNoText}
-use Rattle.cli_files.proofs.Taking.{appends_both, begins_behind, begins_front}
+use Rattle.cli_failures.proofs.Taking.{appends_both, begins_behind, begins_front}
 use Rattle.cli_files.specs.Names.{heading_of, line_of}
-use Rattle.cli_files.specs.Lines.{AreTold, Begins, first_line, IsAsked, IsHeaded, IsLost, next, questions_of, Says}
+use Rattle.cli_files.specs.Lines.{AreTold, first_line, IsAsked, IsHeaded, next, questions_of, Says}
 use Rattle.cli_files.specs.Lines.{IsSaid, IsWorse}
 
 -- what is known stays the same where nothing is printed

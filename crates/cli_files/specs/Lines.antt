@@ -12,11 +12,11 @@ use Rattle.std.specs.Borrow.{Bor}
 use Rattle.std.specs.Io.KnownBytes.{Appends, Keeps}
 use Rattle.trust_lists.specs.Entries.{EntryValue}
 use Rattle.cli_failures.specs.declared.failure.Failure.{Failure}
-use Rattle.cli_failures.specs.declared.failure.Failure.TheVariants as failure
 use Rattle.cli_failures.specs.declared.status.Status.{Status}
 use Rattle.cli_failures.specs.declared.status.Status.TheVariants as status
 use Rattle.cli_failures.specs.Failures.{failure_text, status_of}
 use Rattle.cli_failures.specs.Files.{IsHeld}
+use Rattle.cli_failures.specs.Output.{Begins, IsLost}
 use Rattle.cli_failures.specs.Statuses.{code_of}
 use Rattle.cli_tasks.specs.declared.task.CheckEach.{CheckEach}
 use Rattle.cli_tasks.specs.declared.task.Each.{Each}
@@ -111,14 +111,6 @@ abbrev pub IsFailureOfList : {F : Type 0} → (holds : F → Option (List ℕ)) 
 IsFailureOfList holds (each.Check e) f = IsFailureOfTrust holds e.trust f ⊎ IsFailureOfAnswers holds e.answers f
 IsFailureOfList holds (each.Fit e) f = ⊥
 IsFailureOfList holds (each.Questions e) f = IsFailureOfTrust holds e.trust f
-
--- a line was not printed: memory ran out, or the output failed
-abbrev pub IsLost : Failure → Type 0
-IsLost f = (f ≡ failure.Memory) ⊎ ((output : Bor (List ℕ)) × (f ≡ failure.Write output))
-
--- a writer took a beginning of a text, if what it takes is known
-abbrev pub Begins : (before after : Option (List ℕ)) → (text : List ℕ) → Type 0
-Begins before after text = (count : ℕ) × Appends before after (take count text)
 
 -- a writer took a beginning of what is printed of the first of these files
 abbrev pub IsCut : {F : Type 0} → (holds : F → Option (List ℕ)) → (says : Sayings F) → Each

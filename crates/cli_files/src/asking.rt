@@ -2,17 +2,18 @@
 ghost use Rattle.std.specs.Prelude.{◌≡◌, ◌++◌, ℕ, List, IfErr, IfOk, OnOk};
 ghost use Rattle.std.specs.Io.KnownBytes.{Appends};
 ghost use Rattle.cli_failures.specs.declared.status.Status.{Status};
+ghost use Rattle.cli_failures.specs.Output.{Begins, IsLost};
 ghost use Rattle.cli_tasks.specs.declared.task.Each.TheVariants as asked;
 ghost use Rattle.cli_commands.specs.Asking.{AsksNot, ShowsQuestions};
 ghost use Rattle.cli_commands.specs.Lists.{IsTrustOf};
-ghost use Rattle.cli_files.specs.Lines.{Begins, IsHeaded, IsLost, TellsAll, TellsNotAll, first_line};
+ghost use Rattle.cli_files.specs.Lines.{IsHeaded, TellsAll, TellsNotAll, first_line};
 ghost use Rattle.cli_files.specs.Names.{heading_of};
 
 use crate::lines::put_failure;
 use crate::names::heading_of;
 use crate::worst::worse;
-use crate::writing::put;
 use cli_commands::{Describes, ask_by, trust_in};
+use cli_failures::output::put;
 use cli_failures::{Failure, Status};
 use cli_tasks::{QuestionsEach, QuestionsWords};
 use cmsproof_api::{Pass, QuestionsFault, Trust};

@@ -10,6 +10,5 @@ mod paths;
 mod running;
 mod stopping;
 mod worst;
-mod writing;
 
 pub use running::run;

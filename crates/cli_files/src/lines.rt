@@ -3,11 +3,12 @@ ghost use Rattle.std.specs.Prelude.{◌≡◌, ◌++◌, ℕ, List, IfErr, IfOk,
 ghost use Rattle.std.specs.Io.KnownBytes.{Appends};
 ghost use Rattle.cli_failures.specs.declared.status.Status.{Status};
 ghost use Rattle.cli_failures.specs.Failures.{failure_text, status_of};
-ghost use Rattle.cli_files.specs.Lines.{Begins, IsLost, IsSaid};
+ghost use Rattle.cli_failures.specs.Output.{Begins, IsLost};
+ghost use Rattle.cli_files.specs.Lines.{IsSaid};
 ghost use Rattle.cli_files.specs.Names.{line_of};
 
 use crate::names::line_of;
-use crate::writing::put;
+use cli_failures::output::put;
 use cli_failures::{Failure, Status};
 use std::alloc::Global;
 use std::io::Write;

@@ -2,9 +2,9 @@
 ghost use Rattle.std.specs.Prelude.{◌≡◌, ◌⊎◌, IfErr, MatchResult, OnOk};
 ghost use Rattle.std.specs.Io.KnownBytes.{Appends};
 ghost use Rattle.cli_failures.specs.Failures.{failure_text, status_of};
-ghost use Rattle.cli_files.specs.Lines.{Begins, IsLost};
+ghost use Rattle.cli_failures.specs.Output.{Begins, IsLost};
 
-use crate::writing::put;
+use cli_failures::output::put;
 use cli_failures::{Failure, Status};
 use std::alloc::Global;
 use std::io::Write;

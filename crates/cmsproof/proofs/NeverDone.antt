@@ -73,10 +73,12 @@ module _ {F : Type 0} (holds : F → Option (List ℕ)) (says : Sayings F) (many
   told_unless s unfailed (inl (paths, files, inr (failed, stops))) = absurd (unfailed failed)
   told_unless s unfailed (inr (failed, kept)) = absurd (unfailed failed)
 
+  ends_with : (s : Status) → result ≡ s → s ≢ status.Usage → EndsMany holds says many.each many.files s before after
+  ends_with s is used = subst (λ (x : Status). EndsMany holds says many.each many.files x before after) is
+      (told (λ e. used (sym is ∙ e)))
+
   ends_as : (s : Status) → result ≡ s → s ≢ status.Failed → s ≢ status.Usage → TellsMany holds says many s before after
-  ends_as s is unfailed used = told_unless s unfailed
-      (subst (λ (x : Status). EndsMany holds says many.each many.files x before after) is
-      (told (λ e. used (sym is ∙ e))))
+  ends_as s is unfailed used = told_unless s unfailed (ends_with s is used)
 
   pub many_done : result ≡ status.Done
       → (text : List ℕ) × IsToldBy holds says (meaning.Many many) text × Appends before after text
@@ -92,3 +94,6 @@ module _ {F : Type 0} (holds : F → Option (List ℕ)) (says : Sayings F) (many
 
   pub many_refused : result ≡ status.Refused → TellsMany holds says many status.Refused before after
   many_refused is = ends_as status.Refused is (λ e. cc) (λ e. cc)
+
+  pub many_failed : result ≡ status.Failed → EndsMany holds says many.each many.files status.Failed before after
+  many_failed is = ends_with status.Failed is (λ e. cc)

@@ -4,13 +4,14 @@ use Rattle.std.specs.Prelude.{◌≡◌, ◌⊎◌, ℕ, List, Option}
 use Rattle.std.specs.Borrow.{Bor}
 use Rattle.std.specs.String.{string_bytes}
 use Rattle.cli_failures.specs.declared.status.Status.TheVariants as status
+use Rattle.cli_failures.specs.Output.{Begins}
 use Rattle.cli_tasks.specs.declared.task.Many.{Many}
 use Rattle.cli_words.specs.declared.meaning.Meaning.{Meaning}
 use Rattle.cli_words.specs.declared.meaning.Meaning.TheVariants as meaning
 use Rattle.cli_commands.specs.Rereading.{Sayings}
-use Rattle.cli_commands.specs.Tasks.{IsDoneBy}
+use Rattle.cli_commands.specs.Tasks.{IsDoneBy, StopsBy}
 use Rattle.cli_commands.specs.Telling.{TellsMalformed, TellsRefusal}
-use Rattle.cli_files.specs.Lines.{AreAll, AreFiles, TellsMany}
+use Rattle.cli_files.specs.Lines.{AreAll, AreFiles, EndsMany, TellsMany}
 
 -- of a task what its command prints, of what is asked of several files the lines of all, and of help its text
 abbrev pub IsToldBy : {F : Type 0} → (holds : F → Option (List ℕ)) → (says : Sayings F) → Meaning → (text : List ℕ)
@@ -19,6 +20,15 @@ IsToldBy holds says (meaning.Task task) text = IsDoneBy holds task text
 IsToldBy holds says (meaning.Many many) text = (paths : List (Bor (List ℕ))) × AreFiles holds many.files paths
     × AreAll holds says many.each paths text status.Done
 IsToldBy holds says (meaning.Help help) text = text ≡ string_bytes help
+
+-- a command failed: a writer took a beginning of what is printed of a task, of several files or of help, if what it
+-- takes is known
+abbrev pub IsStoppedBy : {F : Type 0} → (holds : F → Option (List ℕ)) → (says : Sayings F) → Meaning
+    → (before after : Option (List ℕ)) → Type 0
+IsStoppedBy holds says (meaning.Task task) before after = StopsBy holds says task before after
+IsStoppedBy holds says (meaning.Many many) before after =
+    EndsMany holds says many.each many.files status.Failed before after
+IsStoppedBy holds says (meaning.Help help) before after = Begins before after (string_bytes help)
 
 -- a writer took the line of a file that isn't of its form, or the lines of several of which this is the worst that is
 -- said, if what it takes is known

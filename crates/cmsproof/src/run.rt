@@ -1,7 +1,10 @@
 ghost use Rattle.std.specs.Prelude.{◌≡◌, ◌⊎◌, ℕ, List};
 ghost use Rattle.std.specs.Io.KnownBytes.{Appends};
+ghost use Rattle.cli_failures.specs.declared.failure.Failure.{Failure};
+ghost use Rattle.cli_failures.specs.Failures.{printed_text};
+ghost use Rattle.cli_failures.specs.Output.{Begins};
 ghost use Rattle.cli_words.specs.declared.meaning.Meaning.{Meaning};
-ghost use Rattle.cmsproof.specs.Telling.{IsToldBy, TellsFaults, TellsRefusals};
+ghost use Rattle.cmsproof.specs.Telling.{IsStoppedBy, IsToldBy, TellsFaults, TellsRefusals};
 
 use crate::asking::asked;
 use cli_commands::Describes;
@@ -26,6 +29,10 @@ where
     // Once it is done, what was asked for is on the standard output.
     ensures done { result ≡ Status.Done → (meaning : Meaning) × (text : List ℕ)
         × IsToldBy R.File.remaining R.File.says meaning text × Appends (O.contents out.old) (O.contents out.new) text }
+    // If it failed, a beginning of that is, or of the line of a failure that belongs there.
+    ensures cut { result ≡ Status.Failed → ((meaning : Meaning) × IsStoppedBy R.File.remaining R.File.says meaning
+        (O.contents out.old) (O.contents out.new))
+        ⊎ ((f : Failure) × Begins (O.contents out.old) (O.contents out.new) (printed_text f)) }
     // After a fault of the words or of a value nothing is on the standard output; for a fault of a file its line is,
     // and likewise for a file that is refused. Of several files there is a line for each, if one of them is the worst.
     ensures silent { result ≡ Status.Usage → out.new ≡ out.old }
@@ -50,6 +57,8 @@ where
     E: Write,
     ensures done { result ≡ Status.Done → (text : List ℕ) × IsToldBy R.File.remaining R.File.says meaning.entry text
         × Appends (O.contents out.old) (O.contents out.new) text }
+    ensures cut { result ≡ Status.Failed → IsStoppedBy R.File.remaining R.File.says meaning.entry
+        (O.contents out.old) (O.contents out.new) }
     ensures silent { result ≡ Status.Usage → out.new ≡ out.old }
     ensures malformed { result ≡ Status.Malformed
         → TellsFaults R.File.remaining R.File.says (O.contents out.old) (O.contents out.new) }

@@ -5,6 +5,7 @@ use cli_commands::{print, run};
 use cli_failures::Failure;
 use cli_tasks::{QuestionsWords, RequestWords, Stamped, Task, TextTask};
 use cli_words::{Meaning, meaning_of};
+use cmsproof_api::{CmsFault, Fault, Kind, Refused, TokenRule};
 use std::fs;
 use std::io::{self, ErrorKind, Write};
 use std::test::Fail;
@@ -173,6 +174,24 @@ fn reports_faults_of_the_words(rt: HostRuntime) -> Result<(), Fail> {
         let (out, err, status) = reported(&rt, failure)?;
         assert_eq!(rt; (out.as_str(), err.as_str(), status), ("", *line, *ends));
     }
+    Ok(())
+}
+
+/// The longest line that goes to the standard output, in which each number has 20 digits: there is room for it.
+#[test]
+fn reports_the_longest_refusal(rt: HostRuntime) -> Result<(), Fail> {
+    let failure = Failure::Refused(Refused::Token {
+        signer: usize::MAX,
+        token: usize::MAX,
+        rule: TokenRule::Malformed(CmsFault::Malformed(Fault {
+            kind: Kind::LengthForm,
+            at: u64::MAX,
+        })),
+    });
+    let (out, err, status) = reported(&rt, &failure)?;
+    let line = "refused signer 18446744073709551615 token 18446744073709551615 \
+K1 M4 LengthForm at 18446744073709551615\n";
+    assert_eq!(rt; (out.as_str(), err.as_str(), status), (line, "", 1));
     Ok(())
 }
 

@@ -14,3 +14,6 @@ returns-in-Text-clause-written g c words path is wanted done =
     let at : c.args.task ≡ task.Text c.in-Text.task = c.in-Text.is in
     let same : c.in-Text.task ≡ text.Match words = cc in
     c.tell_text.ensures.written words path same wanted done
+
+pub returns-in-Questions-clause-cut : goal.returns-in-Questions-clause-cut
+returns-in-Questions-clause-cut g c = rw c.in-Questions.is c.tell_questions.ensures.cut

@@ -1,4 +1,6 @@
-use Rattle.cli_commands.proofs.Questioning.{questions_told, questions_malformed, questions_refused, never_usage}
+use Rattle.std.proofs.Common.{ap}
+use Rattle.cli_commands.proofs.Questioning.{questions_told, questions_malformed, questions_refused, questions_cut}
+use Rattle.cli_commands.proofs.Questioning.{never_usage}
 use Rattle.cli_commands.proofs.telling.tell_questions.Goals as goal
 
 pub returns-in-Err-clause-told : goal.returns-in-Err-clause-told
@@ -18,3 +20,9 @@ returns-in-Err-clause-refused g c =
 pub returns-in-Err-clause-silent : goal.returns-in-Err-clause-silent
 returns-in-Err-clause-silent g c =
     never_usage _ _ _ c.in-Err.failure c.report.result c.in-Err.ensures.refused c.report.ensures.status
+
+pub returns-in-Err-clause-cut : goal.returns-in-Err-clause-cut
+returns-in-Err-clause-cut g c =
+    questions_cut _ _ _ c.in-Err.failure c.report.result (g.O.Write.contents c.args.out.now)
+    (g.O.Write.contents c.ask.new.out) (g.O.Write.contents c.report.new.out) c.in-Err.ensures.refused
+    c.in-Err.ensures.cut c.report.ensures.cut (λ e. ap g.O.Write.contents (c.report.ensures.failed e))

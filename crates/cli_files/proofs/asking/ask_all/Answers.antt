@@ -3,7 +3,7 @@ use Rattle.std.specs.Borrow.{Bor}
 use Rattle.std.proofs.lemmas.Result.{err_from_is_err_and}
 use Rattle.cli_failures.specs.declared.status.Status.TheVariants as status
 use Rattle.cli_files.specs.Lines.{IsAsked, first_line, none}
-use Rattle.cli_files.proofs.Taking.{appends_both, appends_none, begins_behind}
+use Rattle.cli_failures.proofs.Taking.{appends_both, appends_none, begins_behind}
 use Rattle.cli_files.proofs.Telling.{all_told, cut_next, told_next, headed_by}
 use Rattle.cli_files.proofs.asking.ask_all.Goals as goal
 

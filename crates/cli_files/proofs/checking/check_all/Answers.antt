@@ -5,7 +5,7 @@ use Rattle.check_verdict.specs.Checkers.{CheckerValue}
 use Rattle.cli_commands.specs.Lists.{IsCheckerOf}
 use Rattle.cli_files.specs.Lines.{IsLine, none, check_of}
 use Rattle.cli_files.specs.Names.{line_of}
-use Rattle.cli_files.proofs.Taking.{appends_none}
+use Rattle.cli_failures.proofs.Taking.{appends_none}
 use Rattle.cli_files.proofs.Telling.{cut_next, told_next, said_by, still_answers}
 use Rattle.cli_files.proofs.checking.check_all.Goals as goal
 

@@ -3,7 +3,7 @@ use Rattle.std.specs.Borrow.{Bor}
 use Rattle.std.proofs.lemmas.Result.{err_from_is_err_and}
 use Rattle.cli_files.specs.Lines.{IsLine, none, fit_of}
 use Rattle.cli_files.specs.Names.{line_of}
-use Rattle.cli_files.proofs.Taking.{appends_none}
+use Rattle.cli_failures.proofs.Taking.{appends_none}
 use Rattle.cli_files.proofs.Telling.{cut_next, told_next, said_by}
 use Rattle.cli_files.proofs.fitting.fit_all.Goals as goal
 

@@ -1,4 +1,4 @@
-use Rattle.cli_files.proofs.Taking.{begins_either}
+use Rattle.cli_failures.proofs.Taking.{begins_either}
 use Rattle.cli_failures.specs.Failures.{failure_text}
 use Rattle.cli_files.proofs.stopping.stop.Goals as goal
 

@@ -1,5 +1,5 @@
 use Rattle.std.proofs.Common.{inl, inr}
-use Rattle.cmsproof.proofs.NeverDone.{many_done, many_malformed, many_refused}
+use Rattle.cmsproof.proofs.NeverDone.{many_done, many_failed, many_malformed, many_refused}
 use Rattle.cmsproof.proofs.run.tell.Goals as goal
 
 pub returns-in-Many-clause-done : goal.returns-in-Many-clause-done
@@ -29,3 +29,9 @@ returns-in-Task-clause-malformed g c = λ ends. inl (c.run.ensures.malformed end
 
 pub returns-in-Task-clause-refused : goal.returns-in-Task-clause-refused
 returns-in-Task-clause-refused g c = λ ends. inl (c.run.ensures.refused ends)
+
+pub returns-in-Many-clause-cut : goal.returns-in-Many-clause-cut
+returns-in-Many-clause-cut g c = λ ends.
+    rw c.in-Many.is
+    (many_failed g.R.File.Read.remaining g.R.File.Describes.says c.in-Many.many c.run-in-Many.result _ _
+    c.run-in-Many.ensures.told ends)

@@ -1,6 +1,6 @@
 use Rattle.std.proofs.Common.{length}
-use Rattle.cli_files.proofs.Taking.{UpTo}
-use Rattle.cli_files.proofs.writing.put.Given as goal
+use Rattle.cli_failures.proofs.Taking.{UpTo}
+use Rattle.cli_failures.proofs.output.put.Given as goal
 
 -- the octets up to those that are left were taken
 abbrev pub invariant-loop-left : goal.invariant-loop-left

@@ -1,7 +1,7 @@
 use Rattle.std.proofs.Common.{inr, refl}
-use Rattle.cli_files.proofs.Taking.{up_to_more, cut_more, cut_kept}
-use Rattle.cli_files.proofs.writing.put.Goals as goal
-use Rattle.cli_files.proofs.writing.put.Goals.{in_default-via-in-Ok+else-taken-gt0, in_default-via-in_default}
+use Rattle.cli_failures.proofs.Taking.{up_to_more, cut_more, cut_kept}
+use Rattle.cli_failures.proofs.output.put.Goals as goal
+use Rattle.cli_failures.proofs.output.put.Goals.{in_default-via-in-Ok+else-taken-gt0, in_default-via-in_default}
 
 pub loop-left-preserved : goal.loop-left-preserved
 loop-left-preserved g c = up_to_more c.args.octets.now c.loop-left.left.now (g.O.Write.contents c.args.out.now)

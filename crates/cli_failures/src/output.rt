@@ -1,9 +1,9 @@
 //! Octets that are put on the standard output.
 ghost use Rattle.std.specs.Prelude.{IfErr, OnOk};
 ghost use Rattle.std.specs.Io.KnownBytes.{Appends};
-ghost use Rattle.cli_files.specs.Lines.{Begins, IsLost};
+ghost use Rattle.cli_failures.specs.Output.{Begins, IsLost};
 
-use cli_failures::{Failure, STANDARD_OUTPUT};
+use crate::failure::{Failure, STANDARD_OUTPUT};
 use std::io::Write;
 
 /// Writes all the octets. Of a writer that fails `write_all` promises nothing: this says what it took.

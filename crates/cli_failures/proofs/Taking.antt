@@ -9,7 +9,7 @@ use Rattle.std.proofs.Common.{Result, Ok, Err}
 use Rattle.std.specs.Prelude.{IfErr, OnOk}
 use Rattle.std.specs.Io.KnownBytes.{Appends, Keeps}
 use Rattle.cli_failures.specs.declared.failure.Failure.{Failure}
-use Rattle.cli_files.specs.Lines.{Begins, IsLost}
+use Rattle.cli_failures.specs.Output.{Begins, IsLost}
 
 -- the octets up to those that are left
 pub record UpTo (octets left : List ℕ) (before after : Option (List ℕ)) : Type 0 where

@@ -9,6 +9,7 @@ use Rattle.der_core.specs.Results.{◌>>=◌}
 use Rattle.check_fit.specs.declared.policy.Policy.{Policy}
 use Rattle.check_fit.specs.declared.rules.TokenRule.{TokenRule}
 use Rattle.check_fit.specs.declared.rules.TokenRule.TheVariants as rule
+use Rattle.check_fit.specs.declared.rules.DeviceFault.{DeviceFault}
 use Rattle.check_fit.specs.declared.rules.DeviceFault.TheVariants as device
 use Rattle.check_fit.specs.declared.rules.TokenRefused.{TokenRefused}
 use Rattle.check_fit.specs.declared.rules.TokenRefused.TheVariants as refused
@@ -23,11 +24,11 @@ use Rattle.digests.specs.declared.value.Digest.{Digest}
 use Rattle.digests.proofs.Named.{alg_is, alg_is_not}
 use Rattle.trust_lists.specs.Asking.{Asked}
 use Rattle.check_verdict.specs.Passing.{Terms, Due, of_octets, of_digest, PassesFor}
-use Rattle.check_verdict.specs.StampsOfSources.{IsJudgedOver, JudgesSource}
+use Rattle.check_verdict.specs.StampsOfSources.{CountsAsked, IsJudgedOver, JudgesSource, KeepsBack}
 use Rattle.check_verdict.specs.TokenRules.{Reads, TokenClaim, Statement, token_statement, due_claim, token_claim}
 use Rattle.check_verdict.specs.TokenRules.{IsStatement, IsClaim}
 use Rattle.check_verdict.specs.TokenRules.{LeftForToken, token_filter, TokenFailsFor}
-use Rattle.check_verdict.specs.TokenVerdicts.{IsVerdictFor, PassesOrDevice}
+use Rattle.check_verdict.specs.TokenVerdicts.{CountsAsks, IsAskFailed, IsVerdictFor, PassesOrDevice}
 use Rattle.check_verdict.proofs.Claims.{claim_says}
 use Rattle.check_verdict.proofs.Stages.{best_stops, best_left}
 use Rattle.check_verdict.proofs.StageSteps.{token_is_within}
@@ -136,3 +137,19 @@ judged_over t token OnlyAsked tells rest count count' (Err (refused.Device devic
 judged_over t token OnlyAsked tells rest count count' (Err (refused.Device device.AskFailed)) e j = (e, j)
 judged_over t token OnlyAsked tells rest count count' (Err (refused.Device device.TooLong)) e j = (e, j)
 judged_over t token OnlyAsked tells rest count count' (Err (refused.Device device.OutOfMemory)) e j = (e, j)
+
+-- ---- the verifier's count
+
+pub asks_counted : (r : Result ℕ TokenRefused) (count count' : ℕ) → IsAskFailed r → CountsAsks r count count'
+    → CountsAsked r count count'
+asks_counted (Ok m) count count' only h = h
+asks_counted (Err (refused.Rule rule)) count count' only h = h
+asks_counted (Err (refused.Device fault)) count count' only h = rw only h
+
+pub unasked_counted : (tells : Type 0) (rest : List ℕ) (before after count : ℕ) (fault : DeviceFault)
+    → KeepsBack tells rest before after fault → CountsAsked (Err (refused.Device fault)) count count
+unasked_counted tells rest before after count device.ReadFailed h = refl
+unasked_counted tells rest before after count device.AskFailed h = absurd h
+unasked_counted tells rest before after count device.TooLong h = refl
+unasked_counted tells rest before after count device.OutOfMemory h = refl
+unasked_counted tells rest before after count device.ContentTooLong h = refl

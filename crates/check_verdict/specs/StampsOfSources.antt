@@ -40,6 +40,11 @@ pub record IsJudgedOver (t : Terms) (token : List ℕ) (OnlyAsked : (Asked → B
   pub verdict : IsTokenVerdict t token stamped result
   pub asks : AsksOnly OnlyAsked (IsAskedOfToken t.policy t.trust stamped token)
 
+-- the verifier's count of failures rose by one if it failed, and otherwise it is as it was
+abbrev pub CountsAsked : Result ℕ TokenRefused → (count count' : ℕ) → Type 0
+CountsAsked (Err (refused.Device device.AskFailed)) count count' = count' ≡ raised count
+CountsAsked result count count' = count' ≡ count
+
 -- that, where the source was read to its end; or why it wasn't
 abbrev pub JudgesSource : Terms → (token : List ℕ) → (OnlyAsked : (Asked → Bool) → Type 0) → (tells : Type 0)
     → (rest : List ℕ) → (count count' : ℕ) → Result ℕ TokenRefused → Type 0

@@ -29,6 +29,11 @@ abbrev pub IsDevice : Result ℕ TokenRefused → Type 0
 IsDevice (Err (refused.Device fault)) = ⊤
 IsDevice _ = ⊥
 
+-- no device but the verifier failed
+abbrev pub IsAskFailed : Result ℕ TokenRefused → Type 0
+IsAskFailed (Err (refused.Device fault)) = fault ≡ device.AskFailed
+IsAskFailed _ = ⊤
+
 -- the verdict is this moment, or the verifier failed
 abbrev pub PassesOrDevice : ℕ → Result ℕ TokenRefused → Type 0
 PassesOrDevice m result = (result ≡ Ok m) ⊎ IsDevice result

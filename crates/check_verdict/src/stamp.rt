@@ -3,9 +3,10 @@ ghost use Rattle.trust_lists.specs.Asking.{Asked};
 ghost use Rattle.check_verdict.specs.Passing.{Due, of_digest, PassesFor};
 ghost use Rattle.check_verdict.specs.Asks.{IsAskedFor};
 ghost use Rattle.check_verdict.specs.Checkers.{terms_for};
-ghost use Rattle.check_verdict.specs.StampsOfSources.{DigestsSource, JudgesSource};
+ghost use Rattle.check_verdict.specs.StampsOfSources.{CountsAsked, DigestsSource, JudgesSource};
 ghost use Rattle.check_verdict.specs.TokenRules.{IsStatement};
 ghost use Rattle.check_verdict.specs.TokenVerdicts.{terms_of, IsVerdictFor, PassesOrDevice, CountsAsks};
+ghost use Rattle.check_verdict.specs.TokenVerdicts.{IsAskFailed};
 
 use crate::accepted::Accepted;
 use crate::checker::Checker;
@@ -44,6 +45,8 @@ pub fn judge_stamp<V: Verifier>(
     ensures same { V.vouches verifier.new ≡ V.vouches verifier.old }
     // It failed exactly if the verdict says so.
     ensures count { CountsAsks result (V.failures verifier.old) (V.failures verifier.new) }
+    // No other device fails.
+    ensures device { IsAskFailed result }
     // What the check goes by stays the same.
     ensures stays { checker.new ≡ checker.old }
 {
@@ -117,6 +120,8 @@ pub fn judge_stamp_of<S: Source, V: Verifier>(
         (token : List ℕ) → IsStatement checker.old.policy token (Ok stamp.now)
         → JudgesSource terms token (λ test. V.asked_only test verifier.old verifier.new) (S.tells source.old)
         (S.rest source.old) (S.failures source.old) (S.failures source.new) result }
+    // The verifier failed exactly if the verdict says so.
+    ensures count { CountsAsked result (V.failures verifier.old) (V.failures verifier.new) }
     // What the verifier vouches for stays the same.
     ensures same { V.vouches verifier.new ≡ V.vouches verifier.old }
     // What the check goes by stays the same.

@@ -5,6 +5,7 @@ ghost use Rattle.check_verdict.specs.Asks.{IsAskedFor, IsAskedOfToken};
 ghost use Rattle.check_verdict.specs.Checkers.{terms_for};
 ghost use Rattle.check_verdict.specs.TokenRules.{IsStatement};
 ghost use Rattle.check_verdict.specs.TokenVerdicts.{terms_of, IsTokenVerdict, IsVerdictFor, PassesOrDevice, CountsAsks};
+ghost use Rattle.check_verdict.specs.TokenVerdicts.{IsAskFailed};
 
 use crate::accepted::Accepted;
 use crate::checker::Checker;
@@ -32,6 +33,7 @@ pub(crate) fn judge_imprint<V: Verifier>(
         → V.asked_only test verifier.old verifier.new }
     ensures same { V.vouches verifier.new ≡ V.vouches verifier.old }
     ensures count { CountsAsks result (V.failures verifier.old) (V.failures verifier.new) }
+    ensures device { IsAskFailed result }
     ensures stays { checker.new ≡ checker.old }
 {
     if !is_same(stamp.imprint, imprint) {

@@ -3,7 +3,7 @@ use Rattle.digests.specs.Messages.{digest_of}
 use Rattle.digests.specs.declared.algorithm.Alg.{Alg}
 use Rattle.check_verdict.specs.Passing.{Terms, of_octets, of_digest}
 use Rattle.check_verdict.specs.Checkers.{terms_for}
-use Rattle.check_verdict.proofs.TokenVerdicts.{given_of, judged_over}
+use Rattle.check_verdict.proofs.TokenVerdicts.{asks_counted, given_of, judged_over, unasked_counted}
 use Rattle.check_verdict.proofs.stamp.judge_stamp_of.Goals as goal
 
 pub returns-in-Ok-clause-judged : goal.returns-in-Ok-clause-judged
@@ -19,3 +19,13 @@ returns-in-Ok-clause-judged g c = λ token is.
       verdict = c.judge_stamp.ensures.judged token (of_octets stamped) is wanted;
       asks = c.judge_stamp.ensures.only token (of_octets stamped) is wanted;
     })
+
+pub returns-in-Ok-clause-count : goal.returns-in-Ok-clause-count
+returns-in-Ok-clause-count g c = asks_counted c.judge_stamp.result _ _ c.judge_stamp.ensures.device
+    c.judge_stamp.ensures.count
+
+pub returns-in-Err-clause-count : goal.returns-in-Err-clause-count
+returns-in-Err-clause-count g c =
+    unasked_counted (g.S.Source.tells c.args.source.now) (g.S.Source.rest c.args.source.now)
+    (g.S.Source.failures c.args.source.now) (g.S.Source.failures c.digest_from.new.source)
+    (g.V.Verifier.failures c.args.verifier.now) c.in-Err.fault c.in-Err.ensures

@@ -1,4 +1,4 @@
--- Each file that encodes a SignedData has one list of questions.
+-- Each file and each token that encodes a SignedData has one list of questions.
 use Rattle.std.proofs.Common.{◌≡◌, ℕ, List, [], ◌∷◌, Option, Some, None, Result, Ok, Err, refl, sym, subst, ◌∙◌, inl}
 use Rattle.std.proofs.Common.{inr}
 use Rattle.std.specs.Prelude.{MatchOption, ⊤}
@@ -24,7 +24,7 @@ use Rattle.check_fit.proofs.Readings.{one_value}
 use Rattle.check_fit.proofs.Readings.{reading_of}
 use Rattle.check_questions.specs.FileQuestions.{Joined, InOrder, IsUnder, OfEntry, OfEntries, OfToken, OfSigner}
 use Rattle.check_questions.specs.FileQuestions.{AreQuestions}
-use Rattle.check_questions.specs.Laws.{FilesHaveQuestions, FilesHaveOneList}
+use Rattle.check_questions.specs.Laws.{FilesHaveQuestions, FilesHaveOneList, TokensHaveQuestions, TokensHaveOneList}
 use Rattle.check_questions.proofs.Lists.{one_joined, one_list, one_or_none, some_list}
 use Rattle.check_questions.proofs.Under.{one_under, one_signer, unread_none, other_number, sole}
 
@@ -115,7 +115,8 @@ some_of_entries : (role : Role) (s : SignerValue) (trust : List EntryValue)
 some_of_entries role s trust =
     some_list (λ _. ⊤) (OfEntry role s) (λ e _. some_of_entry role s e) trust (each_entry trust)
 
-some_of_token : (trust : List EntryValue) (token : List ℕ) → IsBytes token → (qs : List Asked) × OfToken trust token qs
+pub some_of_token : (trust : List EntryValue) (token : List ℕ) → IsBytes token
+    → (qs : List Asked) × OfToken trust token qs
 some_of_token trust token octets = let r = reading_of token octets in go r.0 r.1
   where
     by : (v : SignedDataValue) → IsReading token (Ok v) → (o : Option SignerValue) → o ≡ only v.signers
@@ -148,3 +149,10 @@ some_of_file trust file v octets encodes =
     let l = some_list SignerOctets (OfSigner trust) (some_of_signer trust) v.signers
     (signed_octets file v encodes octets).signers in
     (l.0, record { signed = v; encodes = encodes; are = l.1 })
+
+pub some_of_alone : TokensHaveQuestions
+some_of_alone trust token v octets encodes = let l = some_of_token trust token octets in
+    (l.0, record { signed = v; encodes = encodes; are = l.1 })
+
+pub one_of_alone : TokensHaveOneList
+one_of_alone trust token qs ps h g = one_of_token trust token qs ps h.are g.are

@@ -1,4 +1,4 @@
--- The members of a file's list are its questions.
+-- The members of the list of a file, and of a token, are its questions.
 use Rattle.std.proofs.Common.{◌≡◌, ℕ, List, [], ◌∷◌, Option, Some, None, refl, sym, ap, subst, ◌∙◌, inl, inr, ◌⊎◌}
 use Rattle.std.specs.Prelude.{Contains, MatchOption}
 use Rattle.cms_types.specs.AttributeValue.{AttributeValue}
@@ -13,7 +13,7 @@ use Rattle.check_verdict.specs.Verdicts.{tokens}
 use Rattle.check_fit.proofs.Readings.{one_value}
 use Rattle.check_questions.specs.FileQuestions.{Joined, InOrder, IsUnder, OfEntry, OfEntries, IsSigned, OfToken}
 use Rattle.check_questions.specs.FileQuestions.{OfSigner, AreQuestionsOf}
-use Rattle.check_questions.specs.Laws.{ListsHaveTheQuestions}
+use Rattle.check_questions.specs.Laws.{ListsHaveTheQuestions, TokensListTheQuestions}
 use Rattle.check_questions.proofs.Lists.{in_none, in_one, is_first, in_joined, from_first, from_others, Found, find}
 use Rattle.check_questions.proofs.Lists.{find_back}
 use Rattle.check_questions.proofs.Under.{one_under, one_signer}
@@ -149,3 +149,7 @@ contains trust file qs q h k =
 
 pub members : ListsHaveTheQuestions
 members trust file qs h q = (is_question trust file qs q h, contains trust file qs q h)
+
+pub members_of_token : TokensListTheQuestions
+members_of_token trust token qs h q =
+    (token_about trust token qs q h.are, λ a. about_token trust token q a qs h.are)

@@ -1,5 +1,5 @@
--- What is returned for a file.
-use Rattle.std.proofs.Common.{◌≡◌, ℕ, List, Result, Ok, Err, sym, ap, subst, ◌∙◌}
+-- What is returned for a file and for a token.
+use Rattle.std.proofs.Common.{◌≡◌, ℕ, List, Result, Ok, Err, refl, sym, ap, subst, ◌∙◌}
 use Rattle.std.specs.Prelude.{◌↔◌}
 use Rattle.der_core.specs.declared.fault.Fault.{Fault}
 use Rattle.der_core.specs.Element.{IsBytes}
@@ -11,18 +11,16 @@ use Rattle.der_grammar.proofs.Clearness.{content_info_clear}
 use Rattle.cms_types.specs.SignerValue.{SignerValue}
 use Rattle.cms_types.specs.SignedDataValue.{SignedDataValue, SignedContent, OtherContent, EncodesSignedData}
 use Rattle.cms_types.specs.SignedDataValue.{EncodesAnotherType}
-use Rattle.cms_types.specs.declared.fault.CmsFault.{CmsFault}
-use Rattle.cms_types.specs.declared.fault.CmsFault.TheVariants as cms
 use Rattle.cms_types.proofs.SignedDataReaders.{content_encodes, content_unique}
-use Rattle.check_fit.specs.FileFitting.{IsReading}
 use Rattle.trust_lists.specs.Entries.{EntryValue}
 use Rattle.trust_lists.specs.Asking.{Asked}
 use Rattle.check_fit.proofs.Readings.{one_value}
 use Rattle.check_questions.specs.declared.fault.QuestionsFault.{QuestionsFault}
 use Rattle.check_questions.specs.declared.fault.QuestionsFault.TheVariants.{Malformed, NotSignedData, WriteFailed}
-use Rattle.check_questions.specs.FileQuestions.{AreQuestions, AreQuestionsOf}
-use Rattle.check_questions.specs.Written.{EncodesNothing}
-use Rattle.check_questions.proofs.Files.{some_of_file}
+use Rattle.check_questions.specs.AskingSteps.{IsOpened}
+use Rattle.check_questions.specs.FileQuestions.{AreQuestions, AreQuestionsOf, AreQuestionsOfToken, OfToken}
+use Rattle.check_questions.specs.Written.{CountsWrites, EncodesNothing, IsMalformed, IsWrittenOf}
+use Rattle.check_questions.proofs.Files.{some_of_file, some_of_alone}
 
 abbrev pub Returned : Type 0
 Returned = Result (Unit {0}) QuestionsFault
@@ -30,33 +28,10 @@ Returned = Result (Unit {0}) QuestionsFault
 abbrev failing : QuestionsFault → Returned
 failing f = Err f
 
--- ---- octets with a fault
-
-pub fault_of : (bytes : List ℕ) (x : CmsFault) (f : Fault) → x ≡ cms.Malformed f → IsReading bytes (Err x)
-    → Faults (file content_info) bytes f
-fault_of bytes x f e is = subst (λ (y : CmsFault). IsReading bytes (Err y)) e is
-
-pub another_of : (bytes : List ℕ) (x : CmsFault) → x ≡ cms.NotSignedData → IsReading bytes (Err x)
-    → EncodesAnotherType bytes
-another_of bytes x e is = subst (λ (y : CmsFault). IsReading bytes (Err y)) e is
+-- ---- octets that encode no SignedData
 
 pub faultless : (bytes : List ℕ) (f : Fault) → Faults (file content_info) bytes f → EncodesNothing bytes
 faultless bytes f fault c h = refuted (file content_info) bytes f content_info_clear (content_encodes bytes c h) fault
-
-pub malformed_only : (trust : List EntryValue) (bytes : List ℕ) (f : Fault) (qs : List Asked)
-    → Faults (file content_info) bytes f
-    → AreQuestionsOf trust bytes qs → ⊥
-malformed_only trust bytes f qs fault h = faultless bytes f fault (SignedContent h.signed) h.encodes
-
-malformed_differs : (f : Fault) → failing (Malformed f) ≡ failing NotSignedData → ⊥
-malformed_differs f e = absurd cc
-
-pub malformed_another : (bytes : List ℕ) (f : Fault) → Faults (file content_info) bytes f
-    → (failing (Malformed f) ≡ failing NotSignedData) ↔ EncodesAnotherType bytes
-malformed_another bytes f fault =
-    (λ e. absurd (malformed_differs f e), λ a. absurd (faultless bytes f fault (OtherContent a.0 a.1) a.2))
-
--- ---- octets of another type
 
 never_other : (v : SignedDataValue) (id content : List ℕ) → SignedContent v ≡ OtherContent id content → ⊥
 never_other v id content e = absurd cc
@@ -64,9 +39,39 @@ never_other v id content e = absurd cc
 pub never_both : (bytes : List ℕ) (v : SignedDataValue) → EncodesSignedData bytes v → EncodesAnotherType bytes → ⊥
 never_both bytes v h a = never_other v a.0 a.1 (content_unique bytes (SignedContent v) (OtherContent a.0 a.1) h a.2)
 
-pub another_only : (trust : List EntryValue) (bytes : List ℕ) (qs : List Asked) → EncodesAnotherType bytes
-    → AreQuestionsOf trust bytes qs → ⊥
-another_only trust bytes qs a h = never_both bytes h.signed h.encodes a
+pub unopened : (bytes : List ℕ) (f : QuestionsFault) (v : SignedDataValue) → IsOpened bytes (Err f)
+    → EncodesSignedData bytes v → ⊥
+unopened bytes (Malformed f) v h e = faultless bytes f h (SignedContent v) e
+unopened bytes NotSignedData v h e = never_both bytes v e h
+unopened bytes WriteFailed v h e = h
+
+pub unopened_written : (Are : List Asked → Type 0) (bytes : List ℕ) (f : QuestionsFault) (tells : Type 0)
+    (taken : List ℕ) (count : ℕ) → IsOpened bytes (Err f) → IsWrittenOf Are bytes (Err f) tells taken taken count count
+unopened_written Are bytes (Malformed f) tells taken count h = (h, (λ t. refl, refl))
+unopened_written Are bytes NotSignedData tells taken count h = (h, (λ t. refl, refl))
+unopened_written Are bytes WriteFailed tells taken count h = absurd h
+
+pub unopened_malformed : (bytes : List ℕ) (f : QuestionsFault) → IsOpened bytes (Err f)
+    → IsMalformed (Err f) ↔ EncodesNothing bytes
+unopened_malformed bytes (Malformed f) h = (λ _. faultless bytes f h, λ _. tt)
+unopened_malformed bytes NotSignedData h = (λ f. absurd f, λ none. none (OtherContent h.0 h.1) h.2)
+unopened_malformed bytes WriteFailed h = absurd h
+
+malformed_differs : (f : Fault) → failing (Malformed f) ≡ failing NotSignedData → ⊥
+malformed_differs f e = absurd cc
+
+pub unopened_another : (bytes : List ℕ) (f : QuestionsFault) → IsOpened bytes (Err f)
+    → (failing f ≡ failing NotSignedData) ↔ EncodesAnotherType bytes
+unopened_another bytes (Malformed f) h =
+    (λ e. absurd (malformed_differs f e), λ a. absurd (faultless bytes f h (OtherContent a.0 a.1) a.2))
+unopened_another bytes NotSignedData h = (λ e. h, λ a. refl)
+unopened_another bytes WriteFailed h = absurd h
+
+pub unopened_counts : (bytes : List ℕ) (f : QuestionsFault) (count : ℕ) → IsOpened bytes (Err f)
+    → CountsWrites (Err f) count count
+unopened_counts bytes (Malformed f) count h = refl
+unopened_counts bytes NotSignedData count h = refl
+unopened_counts bytes WriteFailed count h = absurd h
 
 -- ---- octets of a SignedData
 
@@ -107,3 +112,20 @@ done_another bytes v h = (λ e. absurd (done_differs e), λ a. absurd (never_bot
 pub failed_another : (bytes : List ℕ) (v : SignedDataValue) → EncodesSignedData bytes v
     → (failing WriteFailed ≡ failing NotSignedData) ↔ EncodesAnotherType bytes
 failed_another bytes v h = (λ e. absurd (failed_differs e), λ a. absurd (never_both bytes v h a))
+
+-- octets of a SignedData are not malformed
+pub opened_malformed : (bytes : List ℕ) (v : SignedDataValue) → EncodesSignedData bytes v → ⊥ ↔ EncodesNothing bytes
+opened_malformed bytes v h = (λ never. absurd never, λ none. none (SignedContent v) h)
+
+-- ---- octets of a token
+
+pub puts_token : {Was : List Asked → Type 0} (trust : List EntryValue) (token : List ℕ)
+    → ((qs : List Asked) → OfToken trust token qs → Was qs) → (qs : List Asked)
+    → AreQuestionsOfToken trust token qs → Was qs
+puts_token trust token was qs h = was qs h.are
+
+pub puts_some_token : {Was : List Asked → Type 0} (trust : List EntryValue) (token : List ℕ) (v : SignedDataValue)
+    → IsBytes token → EncodesSignedData token v → ((qs : List Asked) → OfToken trust token qs → Was qs)
+    → (qs : List Asked) × AreQuestionsOfToken trust token qs × Was qs
+puts_some_token trust token v octets encodes was = let l = some_of_alone trust token v octets encodes in
+    (l.0, l.1, was l.0 l.1.are)

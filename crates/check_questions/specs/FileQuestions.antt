@@ -1,4 +1,4 @@
--- The questions of a file in their order.
+-- The questions of a file and of a token in their order.
 use Rattle.std.specs.Prelude.{◌≡◌, ℕ, ◌⊎◌, List, [], ◌∷◌, ◌++◌, Some, MatchOption}
 use Rattle.cms_types.specs.AttributeValue.{AttributeValue}
 use Rattle.cms_types.specs.SignerValue.{SignerValue}
@@ -57,6 +57,12 @@ pub record IsSigned (token : List ℕ) (s : SignerValue) : Type 0 where
 abbrev pub OfToken : (trust : List EntryValue) → (token : List ℕ) → List Asked → Type 0
 OfToken trust token qs = ((s : SignerValue) × IsSigned token s × OfEntries Tsa s trust qs)
     ⊎ (((s : SignerValue) → IsSigned token s → ⊥) × (qs ≡ []))
+
+-- those of a token by itself, which encodes a SignedData
+pub record AreQuestionsOfToken (trust : List EntryValue) (token : List ℕ) (qs : List Asked) : Type 0 where
+  pub signed : SignedDataValue
+  pub encodes : EncodesSignedData token signed
+  pub are : OfToken trust token qs
 
 -- ---- a file
 

@@ -2,8 +2,9 @@
 ghost use Rattle.check_fit.specs.FileFitting.{IsReading};
 ghost use Rattle.check_verdict.specs.Verdicts.{tokens};
 ghost use Rattle.check_questions.specs.FileQuestions.{InOrder, OfEntry, OfEntries, OfToken, OfSigner, AreQuestions};
-ghost use Rattle.check_questions.specs.AskingSteps.{PutsLines};
+ghost use Rattle.check_questions.specs.AskingSteps.{IsOpened, PutsLines};
 
+use crate::fault::QuestionsFault;
 use crate::written::put_question;
 use check_names::matches;
 use check_verdict::{next_candidate, question_of};
@@ -55,15 +56,33 @@ fn put_under_entries<S: Sink>(
     Ok(())
 }
 
-/// The SignedData that octets encode.
-pub(crate) fn opened<'a>(octets: &'a [u8]) -> Result<SignedData<'a>, CmsFault>
+// The SignedData that octets encode.
+fn opened<'a>(octets: &'a [u8]) -> Result<SignedData<'a>, CmsFault>
     ensures { IsReading octets.now result }
 {
     SignedData::read(octets)
 }
 
-// Writes the lines of the questions about the one signer of a token, in the order of the entries.
-fn put_under_token<S: Sink>(sink: &mut S, trust: &Trust, token: &[u8]) -> Result<(), SinkFault>
+/// The SignedData that octets encode.
+///
+/// Errors: `Malformed` and `NotSignedData`.
+pub(crate) fn signed_of<'a>(octets: &'a [u8]) -> Result<SignedData<'a>, QuestionsFault>
+    ensures { IsOpened octets.now result }
+{
+    match opened(octets) {
+        Ok(signed) => Ok(signed),
+        Err(CmsFault::Malformed(fault)) => Err(QuestionsFault::Malformed(fault)),
+        Err(CmsFault::NotSignedData) => Err(QuestionsFault::NotSignedData),
+        Err(CmsFault::OutOfMemory) => unreachable!(),
+    }
+}
+
+/// Writes the lines of the questions about the one signer of a token, in the order of the entries.
+pub(crate) fn put_under_token<S: Sink>(
+    sink: &mut S,
+    trust: &Trust,
+    token: &[u8],
+) -> Result<(), SinkFault>
     ensures wrote { PutsLines (OfToken trust.now token.now) result (S.tells sink.old) (S.taken sink.old)
         (S.taken sink.new) (S.failures sink.old) (S.failures sink.new) }
     ensures telling { S.tells sink.old → S.tells sink.new }

@@ -6,14 +6,14 @@ ghost use Rattle.check_questions.specs.FileQuestions.{AreQuestions, AreQuestions
 ghost use Rattle.check_questions.specs.QuestionsText.{questions_text};
 ghost use Rattle.check_questions.specs.Written.{IsMalformed, EncodesNothing, IsWritten, IsWrittenWith, CountsWrites};
 
-use crate::asking::{opened, put_under_signers};
+use crate::asking::{put_under_signers, signed_of};
 use crate::fault::QuestionsFault;
-use cms_types::{CmsFault, Signers};
+use cms_types::Signers;
 use devices::{Sink, SinkFault, put_all};
 use trust_lists::Trust;
 
 /// The first line of the text.
-const FIRST_LINE: &[u8] = b"cmsproof questions 1\n";
+pub(crate) const FIRST_LINE: &[u8] = b"cmsproof questions 1\n";
 
 /// Writes the text of the questions about signers: the first line, and the lines of the questions about each of them
 /// and its tokens, in order, as `questions` says.
@@ -58,12 +58,7 @@ pub fn questions<S: Sink>(file: &[u8], trust: &Trust, sink: &mut S) -> Result<()
     // If it was known what the sink took, it still is.
     ensures telling { S.tells sink.old → S.tells sink.new }
 {
-    let signed = match opened(file) {
-        Ok(signed) => signed,
-        Err(CmsFault::Malformed(fault)) => return Err(QuestionsFault::Malformed(fault)),
-        Err(CmsFault::NotSignedData) => return Err(QuestionsFault::NotSignedData),
-        Err(CmsFault::OutOfMemory) => unreachable!(),
-    };
+    let signed = signed_of(file)?;
     match put_text(sink, trust, signed.signers()) {
         Ok(()) => Ok(()),
         Err(_fault) => Err(QuestionsFault::WriteFailed),

@@ -1,10 +1,12 @@
-//! What holds of the questions of files: there is no code to run.
+//! What holds of the questions of files and of tokens: there is no code to run.
 
 ghost use Rattle.check_questions.specs.Laws.{ListsHaveTheQuestions, FilesHaveQuestions, FilesHaveOneList};
+ghost use Rattle.check_questions.specs.Laws.{TokensListTheQuestions, TokensHaveQuestions, TokensHaveOneList};
 ghost use Rattle.check_questions.specs.Rows.{FileRows, SignerRows, TextRows};
 
 /// Each file of octets that encodes a SignedData has exactly one list of questions, and its members are those questions
-/// on whose answers it may depend whether the file is accepted or refused.
+/// on whose answers it may depend whether the file is accepted or refused. The same holds of a token by itself, and
+/// whether it passes.
 pub fn questions_are_those_asked()
     // The members of the list are exactly the questions on whose answers the verdict may depend.
     ensures members { ListsHaveTheQuestions }
@@ -12,6 +14,12 @@ pub fn questions_are_those_asked()
     ensures some { FilesHaveQuestions }
     // A file has at most one such list.
     ensures one { FilesHaveOneList }
+    // The members of a token's list are exactly the questions on whose answers its verdict may depend.
+    ensures members_of_token { TokensListTheQuestions }
+    // Each token of octets that encodes a SignedData has such a list.
+    ensures some_of_token { TokensHaveQuestions }
+    // A token has at most one such list.
+    ensures one_of_token { TokensHaveOneList }
 {}
 
 /// The worked rows: the questions of files whose octets are written out and of signers, and their text.

@@ -26,12 +26,12 @@ use Rattle.cli_commands.proofs.JudgedFiles.{judged_file, Gives}
 use Rattle.check_fit.specs.FileFitting.{SourceFacts}
 
 -- what a check goes by is what the lists say
-terms : {F : Type 0} (holds : F → Option (List ℕ)) (words : CheckWords) (policy : Policy) (trust : List EntryValue)
+pub terms : {F : Type 0} (holds : F → Option (List ℕ)) (sha1 : Bool) (policy : Policy) (trust : List EntryValue)
     (vouched : List Asked)
-    → policy ≡ record { sha1 = words.sha1 }
+    → policy ≡ record { sha1 = sha1 }
     → IsTrustOf holds trust → IsAnswersOf holds vouched
-    → IsTerms holds words (terms_of policy trust (λ q. is_among vouched q))
-terms holds words policy trust vouched p is (text, asked, read, says, same) =
+    → IsTerms holds sha1 (terms_of policy trust (λ q. is_among vouched q))
+terms holds sha1 policy trust vouched p is (text, asked, read, says, same) =
     record { policy = p; trust = is; text = text; read = read; asked = asked; says = says; vouches = same }
 
 -- what the words say of the values that a check was called with
@@ -68,7 +68,7 @@ module _ {F S T : Type 0} (bytes : T → List ℕ) (holds : F → Option (List �
       → JudgesCheck holds words octets verdict
   by_words octets verdict called (reading, reads, judged) = (
     by_lists,
-    terms holds words policy trust vouched called.policy_is called.trusted called.vouched_for,
+    terms holds words.sha1 policy trust vouched called.policy_is called.trusted called.vouched_for,
     subst (λ (b : Bool). JudgesFile (FaultsOpenly (file content_info)) (Judges by_lists)
         (IsContentHeld holds) b octets verdict) called.handed
         (judged_file facts (Judges by_lists) (IsContentHeld holds) gives

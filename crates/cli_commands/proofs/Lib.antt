@@ -15,3 +15,4 @@ pub mod Questioning
 pub mod Stampings
 pub mod Attached
 pub mod Compared
+pub mod StampsChecked

@@ -25,6 +25,7 @@ fault_told (failure.Uncompared why) before after ends told = inr (inr (inr (why,
 fault_told failure.Different before after ends told = absurd (let no : ⊥ = cc in no)
 fault_told failure.Collision before after ends told = absurd (let no : ⊥ = cc in no)
 fault_told (failure.Unattached why) before after ends told = absurd (let no : ⊥ = cc in no)
+fault_told (failure.Unstamped why) before after ends told = absurd (let no : ⊥ = cc in no)
 fault_told (failure.Unasked (questions.Malformed fault)) before after ends told =
     inl (record { message = None; fault = fault; line = told })
 fault_told (failure.Unasked questions.NotSignedData) before after ends told = absurd (let no : ⊥ = cc in no)
@@ -54,11 +55,12 @@ refusal_told (failure.Words text) before after ends told = absurd (let no : ⊥ 
 refusal_told failure.NotText before after ends told = absurd (let no : ⊥ = cc in no)
 refusal_told failure.NotSignedData before after ends told = inl told
 refusal_told (failure.Unmatched why) before after ends told = inr (inl (why, told))
-refusal_told (failure.Refused why) before after ends told = inr (inr (inr (inr (inr (inr (why, ends, told))))))
+refusal_told (failure.Refused why) before after ends told = inr (inr (inr (inr (inr (inr (inr (why, ends, told)))))))
 refusal_told failure.Different before after ends told = inr (inr (inr (inl (inl told))))
 refusal_told failure.Collision before after ends told = inr (inr (inr (inl (inr told))))
 refusal_told (failure.Uncompared why) before after ends told = inr (inr (inr (inr (inl (why, ends, told)))))
 refusal_told (failure.Unattached why) before after ends told = inr (inr (inr (inr (inr (inl (why, told))))))
+refusal_told (failure.Unstamped why) before after ends told = inr (inr (inr (inr (inr (inr (inl (why, told)))))))
 refusal_told (failure.Unasked questions.NotSignedData) before after ends told = inr (inr (inl told))
 refusal_told (failure.Unasked (questions.Malformed fault)) before after ends told = absurd (let no : ⊥ = cc in no)
 refusal_told (failure.Unasked questions.WriteFailed) before after ends told = absurd (let no : ⊥ = cc in no)

@@ -1,6 +1,6 @@
 -- What `check` prints for a file, its content, a trust list and an answers list. `holds` is what an open file holds, if
 -- that is known, and `says` what it may say of itself.
-use Rattle.std.specs.Prelude.{◌≡◌, ◌⊎◌, ℕ, List, Option, Result, Ok, Err, IfSome, IsSomeAnd, is_some}
+use Rattle.std.specs.Prelude.{◌≡◌, ◌⊎◌, ℕ, Bool, List, Option, Result, Ok, Err, IfSome, IsSomeAnd, is_some}
 use Rattle.devices.specs.Device.{AreOctets}
 use Rattle.der_core.specs.OpenFaults.{FaultsOpenly}
 use Rattle.der_core.specs.Grammar.{file}
@@ -29,8 +29,8 @@ TellsAccepted (Err why) text = ⊥
 
 -- the terms of a check: SHA-1 is allowed if the words say so, the text of a file is the trust list, and that of another
 -- file is an answers list; its questions are vouched for, and no others
-pub record IsTerms {F : Type 0} (holds : F → Option (List ℕ)) (words : CheckWords) (t : Terms) : Type 0 where
-  pub policy : t.policy ≡ record { sha1 = words.sha1 }
+pub record IsTerms {F : Type 0} (holds : F → Option (List ℕ)) (sha1 : Bool) (t : Terms) : Type 0 where
+  pub policy : t.policy ≡ record { sha1 = sha1 }
   pub trust : IsTrustOf holds t.trust
   pub text : List ℕ
   pub read : IsHeld holds text
@@ -42,7 +42,7 @@ pub record IsTerms {F : Type 0} (holds : F → Option (List ℕ)) (words : Check
 -- the octets up to it show
 abbrev pub JudgesCheck : {F : Type 0} → (holds : F → Option (List ℕ)) → CheckWords → (octets : List ℕ)
     → Result ℕ Refused → Type 0
-JudgesCheck holds words octets verdict = (t : Terms) × IsTerms holds words t × JudgesFile
+JudgesCheck holds words octets verdict = (t : Terms) × IsTerms holds words.sha1 t × JudgesFile
     (FaultsOpenly (file content_info)) (Judges t) (IsContentHeld holds) (is_some words.content) octets verdict
 
 -- X1 of the file: it failed while it was read

@@ -14,3 +14,4 @@ pub mod Judging
 pub mod Rereading
 pub mod Rooms
 pub mod Checking
+pub mod Stamping

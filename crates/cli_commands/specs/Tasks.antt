@@ -14,7 +14,7 @@ use Rattle.cli_tasks.specs.declared.task.Task.TheVariants.{Questions, Text}
 use Rattle.cli_tasks.specs.declared.task.TextTask.{TextTask}
 use Rattle.cli_tasks.specs.declared.task.TextTask.TheVariants.{Request, ShowRequest, ShowResponse, ShowTst, ShowSigned}
 use Rattle.cli_tasks.specs.declared.task.TextTask.TheVariants.{ShowCertificate, Fit, Match, Migrate, Check, Compare}
-use Rattle.cli_tasks.specs.declared.task.TextTask.TheVariants.{Attach}
+use Rattle.cli_tasks.specs.declared.task.TextTask.TheVariants.{Attach, AskStamp, CheckStamp}
 use Rattle.cli_commands.specs.Asking.{ShowsQuestions, AsksNot}
 use Rattle.cli_commands.specs.Attaching.{AttachesNot}
 use Rattle.cli_commands.specs.Checking.{ShowsAccepted, ShowsRefused}
@@ -26,6 +26,7 @@ use Rattle.cli_commands.specs.Migrating.{MigratesNot}
 use Rattle.cli_commands.specs.Refusals.{MakesNone}
 use Rattle.cli_commands.specs.Rereading.{Sayings}
 use Rattle.cli_commands.specs.Requests.{IsOutApart}
+use Rattle.cli_commands.specs.Stamping.{ShowsNoStampQuestions, ShowsStampQuestions, ShowsStamped, ShowsUnstamped}
 use Rattle.cli_commands.specs.Showing.{ShowsNone, ShowsNoResponse, ShowsNoTst, ShowsNoCertificate, ShowsNoSignedData}
 
 -- the text of a task, if it is made before it is printed: nothing for a request that was made and for a list and a file
@@ -43,6 +44,8 @@ MakesText holds (Migrate words) text = text ≡ []
 MakesText {F} holds (Check words) text = (file : F) × ShowsAccepted holds words (holds file) text
 MakesText holds (Compare words) text = ShowsSame holds words text
 MakesText holds (Attach words) text = text ≡ []
+MakesText holds (CheckStamp words) text = ShowsStamped holds words text
+MakesText holds (AskStamp words) text = ShowsStampQuestions holds text
 
 -- how such a task fails: a value isn't as it must be, a file named by the task fails, or what a file holds isn't as it
 -- must be
@@ -65,6 +68,8 @@ MakesNoText holds says (Migrate words) f = MigratesNot holds words f
 MakesNoText holds says (Check words) f = ShowsRefused holds says words f
 MakesNoText holds says (Compare words) f = ShowsUnlike holds words f
 MakesNoText holds says (Attach words) f = AttachesNot holds words f
+MakesNoText holds says (CheckStamp words) f = ShowsUnstamped holds words f
+MakesNoText holds says (AskStamp words) f = ShowsNoStampQuestions holds words f
 
 -- the path of the file that such a task writes is none of those that it reads, but that `attach` may replace its file
 abbrev pub WritesApart : TextTask → Type 0

@@ -14,7 +14,8 @@ use Rattle.cms_compare.specs.declared.fault.CompareFault.{CompareFault}
 use Rattle.cms_compare.specs.FaultTexts.{compare_fault_text}
 use Rattle.cli_failures.specs.declared.failure.Message.{Message}
 use Rattle.check_fit.specs.declared.rules.Refused.{Refused}
-use Rattle.check_fit.specs.RuleTexts.{refused_text}
+use Rattle.check_fit.specs.declared.rules.TokenRule.{TokenRule}
+use Rattle.check_fit.specs.RuleTexts.{refused_text, token_rule_text}
 use Rattle.cli_failures.specs.declared.status.Status.{Status}
 use Rattle.cli_failures.specs.declared.status.Status.TheVariants as status
 use Rattle.cli_failures.specs.Failures.{said, malformed_line, refused_status, uncompared_status}
@@ -69,10 +70,15 @@ abbrev pub TellsUnattached : (before after : Option (List ℕ)) → Type 0
 TellsUnattached before after = (why : AttachFault) × Appends before after
     (said (codes "refused") (attach_fault_text why))
 
+-- a writer took the line of a rule by which a stamp's token doesn't pass, if what it takes is known
+abbrev pub TellsUnstamped : (before after : Option (List ℕ)) → Type 0
+TellsUnstamped before after = (why : TokenRule) × Appends before after
+    (said (codes "refused") (token_rule_text why))
+
 -- a writer took the line of a rule that refuses a file, if what it takes is known
 abbrev pub TellsRefusal : (before after : Option (List ℕ)) → Type 0
 TellsRefusal before after = TellsAnotherType before after
     ⊎ (TellsUnmatched before after ⊎ (TellsUnasked before after
     ⊎ (TellsUnlike before after ⊎ (TellsUncompared status.Refused before after ⊎ (TellsUnattached before after
-    ⊎ ((why : Refused) × (refused_status why ≡ status.Refused)
-    × Appends before after (refused_text why ++ (10 ∷ []))))))))
+    ⊎ (TellsUnstamped before after ⊎ ((why : Refused) × (refused_status why ≡ status.Refused)
+    × Appends before after (refused_text why ++ (10 ∷ [])))))))))

@@ -247,8 +247,13 @@ fn reported(alloc: Global, verdict: &Result<Accepted, Refused>) -> Option<Vec<u8
     Some(line.into_inner())
 }
 
-/// The line that says by when each signature of a file existed.
-fn line_of<'a>(alloc: Global, verdict: Result<Accepted, Refused>) -> Result<Vec<u8>, Failure<'a>>
+/// The line of a verdict, if it accepts.
+///
+/// Errors: `Refused`, with why it doesn't; memory is refused for the line.
+pub fn line_of<'a>(
+    alloc: Global,
+    verdict: Result<Accepted, Refused>,
+) -> Result<Vec<u8>, Failure<'a>>
     ensures { MatchResult result (λ line. TellsAccepted verdict line.items) (TellsUnfit verdict) }
 {
     if let Err(refused) = verdict {

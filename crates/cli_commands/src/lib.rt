@@ -15,6 +15,7 @@ mod request;
 mod rereading;
 mod room;
 mod show;
+mod stamping;
 mod telling;
 mod texts;
 
@@ -22,5 +23,6 @@ pub use asking::ask_by;
 pub use checking::check_by;
 pub use lists::{answers_in, trust_in};
 pub use rereading::Describes;
+pub use stamping::stamp_questions_by;
 pub use telling::{print, run};
 pub use texts::text_of;

@@ -11,7 +11,7 @@ ghost use Rattle.cli_commands.specs.Requests.{IsRequestWritten};
 ghost use Rattle.cli_commands.specs.Tasks.{WritesApart, MakesText, MakesNoText};
 
 use crate::rereading::Describes;
-use crate::{attaching, checking, comparing, fit, matching, migrating, request, show};
+use crate::{attaching, checking, comparing, fit, matching, migrating, request, show, stamping};
 use cli_failures::Failure;
 use cli_tasks::TextTask;
 use std::rt::Files;
@@ -55,5 +55,7 @@ where
         TextTask::Migrate(words) => migrating::migrate(rt, words),
         TextTask::Compare(words) => comparing::compare(rt, words),
         TextTask::Attach(words) => attaching::attach(rt, words),
+        TextTask::CheckStamp(words) => stamping::check_stamp(rt, words),
+        TextTask::AskStamp(words) => stamping::stamp_questions(rt, words),
     }
 }

@@ -1,3 +1,4 @@
 pub mod Whole
 pub mod Messages
 pub mod Taking
+pub mod Stamps

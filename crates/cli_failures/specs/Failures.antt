@@ -22,7 +22,7 @@ use Rattle.check_questions.specs.FaultTexts.{questions_fault_text}
 use Rattle.check_fit.specs.declared.rules.FileRule.TheVariants as file
 use Rattle.check_fit.specs.declared.rules.Refused.{Refused}
 use Rattle.check_fit.specs.declared.rules.Refused.TheVariants as refused
-use Rattle.check_fit.specs.RuleTexts.{refused_text}
+use Rattle.check_fit.specs.RuleTexts.{refused_text, token_rule_text}
 use Rattle.tsp_requester.specs.AttachFaultTexts.{attach_fault_text}
 use Rattle.cms_compare.specs.declared.fault.CompareRule.{CompareRule}
 use Rattle.cms_compare.specs.declared.fault.CompareRule.TheVariants as compare
@@ -58,6 +58,7 @@ failure_text (failure.Malformed fault) = malformed_line None fault
 failure_text (failure.MalformedMessage m fault) = malformed_line (Some m) fault
 failure_text (failure.Unmatched why) = said (codes "refused") (match_fault_text why)
 failure_text (failure.Refused why) = refused_text why ++ (10 ∷ [])
+failure_text (failure.Unstamped why) = said (codes "refused") (token_rule_text why)
 failure_text (failure.Unasked fault) = questions_fault_text fault ++ (10 ∷ [])
 failure_text failure.Different = codes "different" ++ (10 ∷ [])
 failure_text failure.Collision = codes "collision" ++ (10 ∷ [])
@@ -96,6 +97,7 @@ status_of (failure.Malformed fault) = status.Malformed
 status_of (failure.MalformedMessage m fault) = status.Malformed
 status_of (failure.Unmatched why) = status.Refused
 status_of (failure.Refused why) = refused_status why
+status_of (failure.Unstamped why) = status.Refused
 status_of (failure.Unasked fault) = unasked_status fault
 status_of failure.Different = status.Refused
 status_of failure.Collision = status.Refused

@@ -5,4 +5,5 @@ pub mod Output
 pub mod Causes
 pub mod Signatures
 pub mod Tokens
+pub mod Stamps
 pub mod Requests

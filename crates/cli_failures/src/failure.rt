@@ -6,7 +6,7 @@ use crate::status::Status;
 use arrayvec::ArrayVec;
 use cmsproof_api::{
     AnswersFault, AnswersRule, AttachFault, CmsFault, CompareFault, CompareRule, Fault, FileRule,
-    MatchFault, QuestionsFault, ReadFault, Refused, TrustFault, TrustRule,
+    MatchFault, QuestionsFault, ReadFault, Refused, TokenRule, TrustFault, TrustRule,
 };
 use std::alloc::{AllocError, AllocFailed};
 use std::fmt;
@@ -62,6 +62,8 @@ pub enum Failure<'a> {
     Unmatched(MatchFault),
     /// The file that was checked fails a rule, or a device failed.
     Refused(Refused),
+    /// The token doesn't pass for what it should stamp, by this rule.
+    Unstamped(TokenRule),
     /// The questions of the file were not printed.
     Unasked(QuestionsFault),
     /// Other digest algorithms are named, or other octets are signed.
@@ -104,6 +106,7 @@ impl fmt::Display for Failure<'_> {
             Failure::MalformedMessage(message, fault) => write!(f, "malformed {message} {fault}\n"),
             Failure::Unmatched(fault) => write!(f, "refused {fault}\n"),
             Failure::Refused(refused) => write!(f, "{refused}\n"),
+            Failure::Unstamped(rule) => write!(f, "refused {rule}\n"),
             Failure::Unasked(fault) => write!(f, "{fault}\n"),
             Failure::Different => f.write_str("different\n"),
             Failure::Collision => f.write_str("collision\n"),
@@ -263,6 +266,7 @@ impl<'a> Failure<'a> {
         match self {
             Failure::NotSignedData | Failure::Unmatched(_) => Status::Refused,
             Failure::Different | Failure::Collision | Failure::Unattached(_) => Status::Refused,
+            Failure::Unstamped(_) => Status::Refused,
             Failure::Uncompared(fault) => uncompared_status(*fault),
             Failure::Malformed(_) | Failure::MalformedMessage(_, _) => Status::Malformed,
             Failure::Trust(_) | Failure::Answers(_) => Status::Malformed,

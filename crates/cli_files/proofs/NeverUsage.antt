@@ -10,6 +10,8 @@ use Rattle.check_stream.specs.declared.fault.StreamQuestionsFault.TheVariants as
 use Rattle.check_fit.specs.declared.rules.FileRule.TheVariants as file
 use Rattle.check_fit.specs.declared.rules.Refused.{Refused}
 use Rattle.check_fit.specs.declared.rules.Refused.TheVariants as refused
+use Rattle.der_core.specs.Form.{Form}
+use Rattle.cli_failures.specs.Causes.{IsMalformed}
 use Rattle.cli_failures.specs.declared.failure.Failure.{Failure}
 use Rattle.cli_failures.specs.declared.failure.Failure.TheVariants as failure
 use Rattle.cli_failures.specs.declared.status.Status.{Status}
@@ -17,6 +19,8 @@ use Rattle.cli_failures.specs.declared.status.Status.TheVariants as status
 use Rattle.cli_failures.specs.Failures.{failure_text, refused_status, status_of, unasked_status}
 use Rattle.cli_failures.specs.Files.{IsFailureToOpen, IsFailureToRead}
 use Rattle.cli_failures.specs.Output.{Begins, IsLost}
+use Rattle.cli_tasks.specs.declared.task.About.{About}
+use Rattle.cli_tasks.specs.declared.task.About.TheVariants as about
 use Rattle.cli_tasks.specs.declared.task.CheckEach.{CheckEach}
 use Rattle.cli_tasks.specs.declared.task.CheckWords.{CheckWords}
 use Rattle.cli_tasks.specs.declared.task.Each.{Each}
@@ -30,9 +34,10 @@ use Rattle.cli_commands.specs.Checking.{ShowsRefused}
 use Rattle.cli_commands.specs.Fit.{ShowsUnfit}
 use Rattle.cli_commands.specs.Lists.{IsFailureOfAnswers, IsFailureOfTrust}
 use Rattle.cli_commands.specs.Rereading.{Sayings}
+use Rattle.cli_commands.specs.Stamping.{ShowsNoStampQuestions}
 use Rattle.cli_files.specs.Lines.{AreAll, AreTold, none, next, EndsFiles, IsAsked, IsCut, IsFailureOfList}
 use Rattle.cli_files.specs.Lines.{IsLine, TellsNotAll}
-use Rattle.cli_files.specs.Lines.{check_of, fit_of, questions_of}
+use Rattle.cli_files.specs.Lines.{FailsAbout, check_of, fit_of, questions_of, stamp_questions_of}
 
 pub read_fails : (path : Bor (List ℕ)) (f : Failure) → IsFailureToRead path f → status_of f ≡ status.Failed
 read_fails path f (inl e) = cc
@@ -120,6 +125,28 @@ module _ {F : Type 0} (holds : F → Option (List ℕ)) (says : Sayings F) where
       λ used. stopped_not_usage words.file why
       (let same : status_of (failure_of words.file why) ≡ status_of f = cc in same ∙ used)
 
+  malformed_not_usage : (form : Form) (octets : List ℕ) (f : Failure) → IsMalformed form octets f
+      → status_of f ≢ status.Usage
+  malformed_not_usage form octets f m = λ is. let e = m.malformed in let no : ⊥ = cc in no
+
+  stamp_not_usage : (trust path : Bor (List ℕ)) (f : Failure)
+      → ShowsNoStampQuestions holds (stamp_questions_of trust path) f → status_of f ≢ status.Usage
+  stamp_not_usage trust path f (inl fails) = not_usage f (trust_fails trust f fails)
+  stamp_not_usage trust path f (inr (inl fails)) = not_usage f (inr (read_fails path f fails))
+  stamp_not_usage trust path f (inr (inr (inl (octets, held, inl (by, inl lacks))))) =
+      malformed_not_usage _ octets f lacks
+  stamp_not_usage trust path f (inr (inr (inl (octets, held, inl (by, inr (given, rule, encodes, lacks, e)))))) =
+      λ is. let no : ⊥ = cc in no
+  stamp_not_usage trust path f (inr (inr (inl (octets, held, inr (never, lacks))))) =
+      malformed_not_usage _ octets f lacks
+  stamp_not_usage trust path f (inr (inr (inr (token, held, inl (fault, is, e))))) = λ is. let no : ⊥ = cc in no
+  stamp_not_usage trust path f (inr (inr (inr (token, held, inr (is, e))))) = λ is. let no : ⊥ = cc in no
+
+  about_not_usage : (trust : Bor (List ℕ)) (a : About) (path : Bor (List ℕ)) (f : Failure)
+      → FailsAbout holds says trust a path f → status_of f ≢ status.Usage
+  about_not_usage trust (about.Signed buffer) path f fails = asking_not_usage (questions_of trust buffer path) f fails
+  about_not_usage trust about.Stamps path f fails = stamp_not_usage trust path f fails
+
   check_line : (e : CheckEach) (path : Bor (List ℕ)) (line : List ℕ) (ends : Status)
       → IsLine holds says (check_of e) path line ends
       → ends ≢ status.Usage
@@ -137,7 +164,7 @@ module _ {F : Type 0} (holds : F → Option (List ℕ)) (says : Sayings F) where
       → ends ≢ status.Usage
   asked_line e path line ends (inl (done, asked)) = λ used. let no : ⊥ = cc in no
   asked_line e path line ends (inr (f, fails, of, told)) =
-      λ used. asking_not_usage (questions_of e path) f fails (of ∙ used)
+      λ used. about_not_usage e.trust e.about path f fails (of ∙ used)
 
   lines_not_usage : (IsLineOf : Bor (List ℕ) → List ℕ → Status → Type 0)
       → ((path : Bor (List ℕ)) (line : List ℕ) (ends : Status) → IsLineOf path line ends → ends ≢ status.Usage)

@@ -14,16 +14,17 @@ use Rattle.cli_failures.specs.declared.status.Status.TheVariants as status
 use Rattle.cli_failures.specs.Failures.{failure_text, status_of}
 use Rattle.cli_failures.specs.Output.{Begins, IsLost}
 use Rattle.cli_failures.specs.Statuses.{code_of}
+use Rattle.cli_tasks.specs.declared.task.About.{About}
+use Rattle.cli_tasks.specs.declared.task.About.TheVariants as about
 use Rattle.cli_tasks.specs.declared.task.TextTask.{TextTask}
 use Rattle.cli_tasks.specs.declared.task.QuestionsEach.{QuestionsEach}
 use Rattle.check_questions.specs.QuestionsText.{question_lines}
-use Rattle.cli_commands.specs.Asking.{AsksNot, ShowsQuestions}
 use Rattle.cli_commands.specs.Lists.{IsAnswersOf}
 use Rattle.cli_commands.specs.Rereading.{Sayings}
 use Rattle.cli_commands.specs.Tasks.{MakesText, MakesNoText}
 use Rattle.cli_failures.proofs.Taking.{appends_both, begins_behind, begins_front}
 use Rattle.cli_files.specs.Names.{heading_of, line_of}
-use Rattle.cli_files.specs.Lines.{AreTold, first_line, IsAsked, IsHeaded, next, questions_of, Says}
+use Rattle.cli_files.specs.Lines.{AreTold, FailsAbout, first_line, IsAsked, IsHeaded, next, Says, ShowsAbout}
 use Rattle.cli_files.specs.Lines.{IsSaid, IsWorse}
 
 -- what is known stays the same where nothing is printed
@@ -114,21 +115,22 @@ said_lost octets r f name before after (Ok ends) is lost = lost
 said_lost octets r f name before after (Err e) is (lost, begun) =
     (lost, (failure_text f, status_of f, rw is (refl, refl), begun))
 
+-- a text of questions begins with the first line
+begins_so : {F : Type 0} (holds : F → Option (List ℕ)) (a : About) (text : List ℕ) → ShowsAbout holds a text
+    → (asked : List ℕ) × (text ≡ first_line ++ asked)
+begins_so holds (about.Signed buffer) text (trust, file, listed, ((signers, qs, are, is), known)) =
+    (question_lines qs, is)
+begins_so holds about.Stamps text (trust, token, qs, listed, held, are, is) = (question_lines qs, is)
+
 -- what is printed of a file by `questions`, by what the function that makes it returned
 pub headed_by :
     {F T : Type 0} (bytes : T → List ℕ) (holds : F → Option (List ℕ)) (says : Sayings F) (e : QuestionsEach)
     (path : Bor (List ℕ)) (r : Result T Failure) (text : List ℕ) (ends : Status) → IsHeaded bytes r path.now text ends
-    → IfOk r (λ v. ShowsQuestions holds (bytes v)) → IfErr r (AsksNot holds says (questions_of e path))
+    → IfOk r (λ v. ShowsAbout holds e.about (bytes v)) → IfErr r (FailsAbout holds says e.trust e.about path)
     → IsAsked holds says e path text ends
-headed_by bytes holds says e path (Ok v) text ends (done, heads)
-    (trust, file, listed, ((signers, qs, are, is), known)) fails = inl (
-      done,
-      (
-        question_lines qs,
-        subst (λ (bs : List ℕ). ShowsQuestions holds bs) is (trust, file, listed, ((signers, qs, are, is), known)),
-        heads (question_lines qs) is,
-      ),
-    )
+headed_by bytes holds says e path (Ok v) text ends (done, heads) shows fails =
+    let (asked, is) = begins_so holds e.about (bytes v) shows in
+    inl (done, (asked, subst (λ (bs : List ℕ). ShowsAbout holds e.about bs) is shows, heads asked is))
 headed_by bytes holds says e path (Err f) text ends (of, is) asks fails = inr (f, fails, sym of, is)
 
 module _ {T : Type 0} (octets : T → List ℕ) (r : Result T Failure) (name : List ℕ) where

@@ -2,11 +2,11 @@
 -- known, and `says` what it may say of itself. Begin here.
 --
 -- `check` and `fit` print a line for each file, in the order of the files: its name, a colon and a space, and what the
--- command for that file alone says. `questions` prints one text: its first line once, and for each file a comment with
--- its name and the questions that the command for that file alone prints, or a comment with the line of a file that
--- fails. The command ends with the worst of the statuses with which the commands for each file alone end. So it goes on
--- after a file that fails. If a list fails, its line stands alone. If the output fails, or memory runs out, the command
--- stops behind a beginning of that.
+-- command for that file alone says. `questions` and `stamp questions` print one text: its first line once, and for each
+-- file a comment with its name and the questions that the command for that file alone prints, or a comment with the
+-- line of a file that fails. The command ends with the worst of the statuses with which the commands for each file
+-- alone end. So it goes on after a file that fails. If a list fails, its line stands alone. If the output fails, or
+-- memory runs out, the command stops behind a beginning of that.
 use Rattle.std.specs.Prelude.{◌≡◌, ◌≤◌, ◌⊎◌, ℕ, List, [], ◌∷◌, ◌++◌, codes, map, take, Option, Result, MatchResult}
 use Rattle.std.specs.Borrow.{Bor}
 use Rattle.std.specs.Io.KnownBytes.{Appends, Keeps}
@@ -18,6 +18,8 @@ use Rattle.cli_failures.specs.Failures.{failure_text, status_of}
 use Rattle.cli_failures.specs.Files.{IsHeld}
 use Rattle.cli_failures.specs.Output.{Begins, IsLost}
 use Rattle.cli_failures.specs.Statuses.{code_of}
+use Rattle.cli_tasks.specs.declared.task.About.{About}
+use Rattle.cli_tasks.specs.declared.task.About.TheVariants as about
 use Rattle.cli_tasks.specs.declared.task.CheckEach.{CheckEach}
 use Rattle.cli_tasks.specs.declared.task.Each.{Each}
 use Rattle.cli_tasks.specs.declared.task.Each.TheVariants as each
@@ -25,6 +27,7 @@ use Rattle.cli_tasks.specs.declared.task.FitEach.{FitEach}
 use Rattle.cli_tasks.specs.declared.task.Many.{Many}
 use Rattle.cli_tasks.specs.declared.task.QuestionsEach.{QuestionsEach}
 use Rattle.cli_tasks.specs.declared.task.QuestionsWords.{QuestionsWords}
+use Rattle.cli_tasks.specs.declared.task.StampQuestionsWords.{StampQuestionsWords}
 use Rattle.cli_tasks.specs.declared.task.Several.{Several}
 use Rattle.cli_tasks.specs.declared.task.Several.TheVariants as several
 use Rattle.cli_tasks.specs.declared.task.TextTask.{TextTask}
@@ -32,6 +35,7 @@ use Rattle.cli_tasks.specs.declared.task.TextTask.TheVariants as text
 use Rattle.cli_commands.specs.Asking.{AsksNot, ShowsQuestions}
 use Rattle.cli_commands.specs.Lists.{IsFailureOfAnswers, IsFailureOfTrust, IsTrustOf}
 use Rattle.cli_commands.specs.Rereading.{Sayings}
+use Rattle.cli_commands.specs.Stamping.{ShowsNoStampQuestions, ShowsStampQuestions}
 use Rattle.cli_commands.specs.Tasks.{MakesText, MakesNoText}
 use Rattle.cli_files.specs.Names.{heading_of, line_of}
 use Rattle.cli_files.specs.Paths.{ListsNone, end_of, path_of_name, names_of}
@@ -51,9 +55,24 @@ check_of e path = text.Check (record {
 abbrev pub fit_of : FitEach → (path : Bor (List ℕ)) → TextTask
 fit_of e path = text.Fit (record { file = path; content = e.content; sha1 = e.sha1 })
 
--- the same for `questions`
-abbrev pub questions_of : QuestionsEach → (path : Bor (List ℕ)) → QuestionsWords
-questions_of e path = record { trust = e.trust; buffer = e.buffer; file = path }
+-- the questions of one of the files alone, of which so many octets may be kept, if it holds a SignedData
+abbrev pub questions_of : (trust : Bor (List ℕ)) → (buffer : Option ℕ) → (path : Bor (List ℕ)) → QuestionsWords
+questions_of trust buffer path = record { trust = trust; buffer = buffer; file = path }
+
+-- if it holds a stamp
+abbrev pub stamp_questions_of : (trust path : Bor (List ℕ)) → StampQuestionsWords
+stamp_questions_of trust path = record { trust = trust; stamp = path }
+
+-- the command for that file alone prints this
+abbrev pub ShowsAbout : {F : Type 0} → (holds : F → Option (List ℕ)) → About → (text : List ℕ) → Type 0
+ShowsAbout holds (about.Signed buffer) text = ShowsQuestions holds text
+ShowsAbout holds about.Stamps text = ShowsStampQuestions holds text
+
+-- or fails so
+abbrev pub FailsAbout : {F : Type 0} → (holds : F → Option (List ℕ)) → (says : Sayings F) → (trust : Bor (List ℕ))
+    → About → (path : Bor (List ℕ)) → Failure → Type 0
+FailsAbout holds says trust (about.Signed buffer) path f = AsksNot holds says (questions_of trust buffer path) f
+FailsAbout holds says trust about.Stamps path f = ShowsNoStampQuestions holds (stamp_questions_of trust path) f
 
 -- what a task says, and how it ends: it is done and gives a text, or it fails
 abbrev pub Says : {F : Type 0} → (holds : F → Option (List ℕ)) → (says : Sayings F) → TextTask → (said : List ℕ)
@@ -77,9 +96,9 @@ abbrev pub IsAsked : {F : Type 0} → (holds : F → Option (List ℕ)) → (say
     → (path : Bor (List ℕ))
     → (text : List ℕ) → Status → Type 0
 IsAsked holds says e path text ends =
-    ((ends ≡ status.Done) × ((asked : List ℕ) × ShowsQuestions holds (first_line ++ asked)
+    ((ends ≡ status.Done) × ((asked : List ℕ) × ShowsAbout holds e.about (first_line ++ asked)
     × (text ≡ heading_of path.now ++ asked)))
-    ⊎ ((f : Failure) × AsksNot holds says (questions_of e path) f × (status_of f ≡ ends)
+    ⊎ ((f : Failure) × FailsAbout holds says e.trust e.about path f × (status_of f ≡ ends)
     × (text ≡ codes "# " ++ line_of path.now (failure_text f)))
 
 -- the worse of two statuses: one of the two, and none is greater

@@ -1,4 +1,4 @@
-//! `questions` of several files.
+//! `questions` and `stamp questions` of several files.
 ghost use Rattle.std.specs.Prelude.{◌≡◌, ◌++◌, ℕ, List, IfErr, IfOk, OnOk};
 ghost use Rattle.std.specs.Io.KnownBytes.{Appends};
 ghost use Rattle.cli_failures.specs.declared.status.Status.{Status};
@@ -6,16 +6,16 @@ ghost use Rattle.cli_failures.specs.Output.{Begins, IsLost};
 ghost use Rattle.cli_tasks.specs.declared.task.Each.TheVariants as asked;
 ghost use Rattle.cli_commands.specs.Asking.{AsksNot, ShowsQuestions};
 ghost use Rattle.cli_commands.specs.Lists.{IsTrustOf};
-ghost use Rattle.cli_files.specs.Lines.{IsHeaded, TellsAll, TellsNotAll, first_line};
+ghost use Rattle.cli_files.specs.Lines.{FailsAbout, IsHeaded, ShowsAbout, TellsAll, TellsNotAll, first_line};
 ghost use Rattle.cli_files.specs.Names.{heading_of};
 
 use crate::lines::put_failure;
 use crate::names::heading_of;
 use crate::worst::worse;
-use cli_commands::{Describes, ask_by, trust_in};
+use cli_commands::{Describes, ask_by, stamp_questions_by, trust_in};
 use cli_failures::output::put;
 use cli_failures::{Failure, Status};
-use cli_tasks::{QuestionsEach, QuestionsWords};
+use cli_tasks::{About, QuestionsEach, QuestionsWords};
 use cmsproof_api::{Pass, QuestionsFault, Trust};
 use std::alloc::Global;
 use std::io::Write;
@@ -53,15 +53,41 @@ where
     let mut passing = Pass::new();
     let mut worst = Status::Done;
     for path in paths {
-        let words = QuestionsWords {
-            trust: each.trust,
-            buffer: each.buffer,
-            file: path,
-        };
-        let said = questions_by(rt, &words, &trust, &mut passing);
+        let said = asked_about(rt, each, path, &trust, &mut passing);
         worst = worse(worst, put_asked(rt.alloc(), path, &said, out)?);
     }
     Ok(worst)
+}
+
+/// The text of the questions of the file of this path, under a list that was read.
+///
+/// Errors: those of the command for that file alone after its list was read.
+fn asked_about<'a, R: Files + AllocGlobal>(
+    rt: &R,
+    each: &QuestionsEach<'a>,
+    path: &'a str,
+    trust: &Trust,
+    passing: &mut Pass,
+) -> Result<Vec<u8>, Failure<'a>>
+where
+    R::File: Describes,
+    // If the list is that of a file, the text and the failure are those of the command for the file alone.
+    ensures asked { IsTrustOf R.File.remaining trust.now
+        → IfOk result (λ text. ShowsAbout R.File.remaining each.now.about text.items) }
+    ensures refused { IsTrustOf R.File.remaining trust.now
+        → IfErr result (FailsAbout R.File.remaining R.File.says each.now.trust each.now.about path.entry) }
+{
+    match each.about {
+        About::Stamps => stamp_questions_by(rt, path, trust),
+        About::Signed(buffer) => {
+            let words = QuestionsWords {
+                trust: each.trust,
+                buffer,
+                file: path,
+            };
+            questions_by(rt, &words, trust, passing)
+        }
+    }
 }
 
 /// The text of the questions of the file of these words, under a list that was read.

@@ -4,7 +4,7 @@
 mod task;
 
 pub use task::{
-    AttachWords, CheckEach, CheckWords, CompareWords, Each, FitEach, FitWords, ListWords, Many,
-    MatchWords, MigrateWords, QuestionsEach, QuestionsWords, RequestWords, Several, Stamped, Task,
-    TextTask,
+    About, AttachWords, CheckEach, CheckWords, CompareWords, Each, FitEach, FitWords, ListWords,
+    Many, MatchWords, MigrateWords, QuestionsEach, QuestionsWords, RequestWords, Several,
+    StampQuestionsWords, StampWords, Stamped, Task, TextTask,
 };

@@ -34,6 +34,10 @@ pub enum TextTask<'a> {
     Compare(CompareWords<'a>),
     /// To attach a token to a signer of a file.
     Attach(AttachWords<'a>),
+    /// To say by when a file existed, by a stamp that stands beside it.
+    CheckStamp(StampWords<'a>),
+    /// To print what a verifier must be asked about such a stamp.
+    AskStamp(StampQuestionsWords<'a>),
 }
 
 /// What a request asks a stamp for.
@@ -147,6 +151,30 @@ pub struct AttachWords<'a> {
     pub out: &'a str,
 }
 
+/// The stamp that is checked, the file that it should stamp, the lists that it is checked with, and what is allowed.
+#[derive(Clone, Copy, Debug, PartialEq, Eq)]
+pub struct StampWords<'a> {
+    /// The path of the file that holds the trust list.
+    pub trust: &'a str,
+    /// The path of the file that holds the answers list.
+    pub answers: &'a str,
+    /// Whether SHA-1 may be the digest algorithm of the token's signer or of its imprint.
+    pub sha1: bool,
+    /// The path of the file that holds the token, or a response with one.
+    pub stamp: &'a str,
+    /// The path of the file that it should stamp.
+    pub data: &'a str,
+}
+
+/// The stamp whose questions are printed, and who is trusted.
+#[derive(Clone, Copy, Debug, PartialEq, Eq)]
+pub struct StampQuestionsWords<'a> {
+    /// The path of the file that holds the trust list.
+    pub trust: &'a str,
+    /// The path of the file that holds the token, or a response with one.
+    pub stamp: &'a str,
+}
+
 /// What a command asks of each of several files.
 #[derive(Debug, Drop)]
 pub struct Many<'a> {
@@ -209,11 +237,20 @@ pub struct FitEach<'a> {
     pub sha1: bool,
 }
 
-/// Who is trusted, whatever the file is whose questions are printed.
+/// Who is trusted, whatever the file is whose questions are printed, and what each file holds.
 #[derive(Clone, Copy, Debug, PartialEq, Eq)]
 pub struct QuestionsEach<'a> {
     /// The path of the file that holds the trust list.
     pub trust: &'a str,
-    /// How many octets of a SignedData may be kept while it is read, if the words say.
-    pub buffer: Option<u64>,
+    /// What each file holds.
+    pub about: About,
+}
+
+/// What the files hold whose questions are printed.
+#[derive(Clone, Copy, Debug, PartialEq, Eq)]
+pub enum About {
+    /// SignedData, of each of which so many octets may be kept while it is read, if the words say.
+    Signed(Option<u64>),
+    /// Time-stamp tokens, or responses with them.
+    Stamps,
 }

@@ -1,7 +1,9 @@
 -- The files that a command takes if it takes several, and what it asks of each.
-use Rattle.std.specs.Prelude.{◌≡◌, ℕ, List, Some, map, option_map, codes}
+use Rattle.std.specs.Prelude.{◌≡◌, ℕ, Bool, true, false, List, Some, map, option_map, codes}
 use Rattle.clap.specs.Matches.{first_value, matched_of, raw_values}
 use Rattle.clap.specs.declared.parser.matches.Found.{Found}
+use Rattle.cli_tasks.specs.declared.task.About.{About}
+use Rattle.cli_tasks.specs.declared.task.About.TheVariants as about
 use Rattle.cli_tasks.specs.declared.task.CheckEach.{CheckEach}
 use Rattle.cli_tasks.specs.declared.task.Each.{Each}
 use Rattle.cli_tasks.specs.declared.task.Each.TheVariants as each
@@ -12,11 +14,12 @@ use Rattle.cli_tasks.specs.declared.task.Several.{Several}
 use Rattle.cli_tasks.specs.declared.task.Several.TheVariants as several
 use Rattle.cli_words.specs.Words.{IsBufferIn, IsFlagIn}
 
--- the files are those that the words name, in their order, or those of the list that the words name
-abbrev pub IsSeveralIn : Found → Several → Type 0
-IsSeveralIn given (several.Words paths) = option_map raw_values (matched_of given (codes "FILE"))
+-- the files are those that the words name in the places of this name, in their order, or those of the list that the
+-- words name
+abbrev pub IsSeveralIn : (place : List ℕ) → Found → Several → Type 0
+IsSeveralIn place given (several.Words paths) = option_map raw_values (matched_of given place)
     ≡ Some (map (λ p. p.now) paths.items)
-IsSeveralIn given (several.Listed words) = (first_value given (codes "files-from") ≡ Some words.list.now)
+IsSeveralIn place given (several.Listed words) = (first_value given (codes "files-from") ≡ Some words.list.now)
     × IsFlagIn given (codes "null") words.null
 
 -- the values that each file is checked with are those of the arguments of their names
@@ -32,10 +35,15 @@ pub record IsFitEachIn (given : Found) (words : FitEach) : Type 0 where
   pub content : option_map (λ s. s.now) words.content ≡ first_value given (codes "content")
   pub sha1 : IsFlagIn given (codes "sha1") words.sha1
 
+-- the same for what the files hold: how many octets of a SignedData may be kept
+abbrev pub IsAboutIn : Found → About → Type 0
+IsAboutIn given (about.Signed buffer) = IsBufferIn given buffer
+IsAboutIn given about.Stamps = Unit {0}
+
 -- the same for who is trusted, whatever the file is
 pub record IsQuestionsEachIn (given : Found) (words : QuestionsEach) : Type 0 where
   pub trust : first_value given (codes "trust") ≡ Some words.trust.now
-  pub buffer : IsBufferIn given words.buffer
+  pub about : IsAboutIn given words.about
 
 -- the same for what a command asks of each file
 abbrev pub IsEachIn : Found → Each → Type 0
@@ -43,9 +51,24 @@ IsEachIn given (each.Check words) = IsCheckEachIn given words
 IsEachIn given (each.Fit words) = IsFitEachIn given words
 IsEachIn given (each.Questions words) = IsQuestionsEachIn given words
 
--- the same for what a command asks of several files
-abbrev pub IsManyIn : Found → Many → Type 0
-IsManyIn given many = IsEachIn given many.each × IsSeveralIn given many.files
+-- whether what is asked of each file is asked of a stamp
+abbrev pub is_about_stamps : About → Bool
+is_about_stamps (about.Signed buffer) = false
+is_about_stamps about.Stamps = true
+
+abbrev pub is_each_of_stamp : Each → Bool
+is_each_of_stamp (each.Questions words) = is_about_stamps words.about
+is_each_of_stamp _ = false
+
+-- the name of the places of the files, in this group of commands
+abbrev pub place_of : (stamps : Bool) → List ℕ
+place_of true = codes "STAMP"
+place_of false = codes "FILE"
+
+-- the same for what a command asks of several files, in this group of commands
+abbrev pub IsManyIn : (stamps : Bool) → Found → Many → Type 0
+IsManyIn stamps given many = IsEachIn given many.each × IsSeveralIn (place_of stamps) given many.files
+    × (is_each_of_stamp many.each ≡ stamps)
 
 -- the command that asks this of each file
 abbrev pub each_command_of : Each → List ℕ

@@ -16,6 +16,8 @@ use Rattle.cli_tasks.specs.declared.task.MatchWords.{MatchWords}
 use Rattle.cli_tasks.specs.declared.task.MigrateWords.{MigrateWords}
 use Rattle.cli_tasks.specs.declared.task.QuestionsWords.{QuestionsWords}
 use Rattle.cli_tasks.specs.declared.task.RequestWords.{RequestWords}
+use Rattle.cli_tasks.specs.declared.task.StampQuestionsWords.{StampQuestionsWords}
+use Rattle.cli_tasks.specs.declared.task.StampWords.{StampWords}
 use Rattle.cli_tasks.specs.declared.task.Stamped.{Stamped}
 use Rattle.cli_tasks.specs.declared.task.Stamped.TheVariants as stamped
 use Rattle.cli_tasks.specs.declared.task.Task.{Task}
@@ -128,6 +130,19 @@ pub record IsAttachIn (given : Found) (words : AttachWords) : Type 0 where
   pub file : first_value given (codes "FILE") ≡ Some words.file.now
   pub out : first_value given (codes "OUT") ≡ Some words.out.now
 
+-- the same for a stamp that is checked
+pub record IsStampIn (given : Found) (words : StampWords) : Type 0 where
+  pub trust : first_value given (codes "trust") ≡ Some words.trust.now
+  pub answers : first_value given (codes "answers") ≡ Some words.answers.now
+  pub sha1 : IsFlagIn given (codes "sha1") words.sha1
+  pub stamp : first_value given (codes "STAMP") ≡ Some words.stamp.now
+  pub stamped : first_value given (codes "DATA") ≡ Some words.data.now
+
+-- the same for a stamp whose questions are printed
+pub record IsStampQuestionsIn (given : Found) (words : StampQuestionsWords) : Type 0 where
+  pub trust : first_value given (codes "trust") ≡ Some words.trust.now
+  pub stamp : first_value given (codes "STAMP") ≡ Some words.stamp.now
+
 -- the same for a file that is shown as KIND says
 abbrev pub IsShownIn : Found → TextTask → Type 0
 IsShownIn given (text.ShowRequest path) = (first_value given (codes "KIND") ≡ Some (codes "request"))
@@ -154,13 +169,15 @@ IsTextTaskIn given (text.Migrate words) = IsMigrateIn given words
 IsTextTaskIn given (text.Check words) = IsCheckIn given words
 IsTextTaskIn given (text.Compare words) = IsCompareIn given words
 IsTextTaskIn given (text.Attach words) = IsAttachIn given words
+IsTextTaskIn given (text.CheckStamp words) = IsStampIn given words
+IsTextTaskIn given (text.AskStamp words) = IsStampQuestionsIn given words
 
 -- the same for every task
 abbrev pub IsTaskIn : Found → Task → Type 0
 IsTaskIn given (task.Questions words) = IsQuestionsIn given words
 IsTaskIn given (task.Text t) = IsTextTaskIn given t
 
--- the command that asks for a task whose text is made before it is printed
+-- the command that asks for a task whose text is made before it is printed; of those about stamps, behind `stamp`
 abbrev pub text_command_of : TextTask → List ℕ
 text_command_of (text.Request words) = codes "request"
 text_command_of (text.ShowRequest path) = codes "show"
@@ -174,8 +191,20 @@ text_command_of (text.Migrate words) = codes "migrate"
 text_command_of (text.Check words) = codes "check"
 text_command_of (text.Compare words) = codes "compare"
 text_command_of (text.Attach words) = codes "attach"
+text_command_of (text.CheckStamp words) = codes "check"
+text_command_of (text.AskStamp words) = codes "questions"
+
+-- whether it stands behind `stamp`
+abbrev pub is_of_stamp : TextTask → Bool
+is_of_stamp (text.CheckStamp words) = true
+is_of_stamp (text.AskStamp words) = true
+is_of_stamp _ = false
 
 -- the command that asks for a task
 abbrev pub command_of : Task → List ℕ
 command_of (task.Questions words) = codes "questions"
 command_of (task.Text t) = text_command_of t
+
+abbrev pub is_behind_stamp : Task → Bool
+is_behind_stamp (task.Questions words) = false
+is_behind_stamp (task.Text t) = is_of_stamp t

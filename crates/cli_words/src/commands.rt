@@ -1,10 +1,13 @@
 use crate::arguments::with_words;
+use crate::grammar::ABOUT_STAMPS;
 use crate::help::{
     ATTACH_LINES, CERTIFICATE_LINES, CHECK_LINES, COMPARE_LINES, FIT_LINES, MATCH_LINES,
-    MIGRATE_LINES, QUESTIONS_LINES, REQUEST_LINES, SHOW_LINES,
+    MIGRATE_LINES, QUESTIONS_LINES, REQUEST_LINES, SHOW_LINES, STAMP_CHECK_LINES, STAMP_LINES,
+    STAMP_QUESTIONS_LINES,
 };
 use crate::vocabulary::{
     ATTACH, CERTIFICATE, CHECK, COMPARE, FIT, MATCH, MIGRATE, QUESTIONS, REQUEST, SHOW,
+    STAMP_CHECK, STAMP_QUESTIONS,
 };
 use clap::Command;
 use std::alloc::{AllocError, Global};
@@ -21,10 +24,14 @@ pub enum Named {
     Attach,
     Compare,
     Migrate,
+    /// The group of the commands about stamps, which have words of their own.
+    Stamp,
+    StampCheck,
+    StampQuestions,
 }
 
 /// The commands, in the order of the help.
-pub static ALL: [Named; 10] = [
+pub static ALL: [Named; 11] = [
     Named::Request,
     Named::Show,
     Named::Certificate,
@@ -32,10 +39,14 @@ pub static ALL: [Named; 10] = [
     Named::Matching,
     Named::Check,
     Named::Questions,
+    Named::Stamp,
     Named::Attach,
     Named::Compare,
     Named::Migrate,
 ];
+
+/// Those about stamps.
+pub static STAMPS: [Named; 2] = [Named::StampCheck, Named::StampQuestions];
 
 /// The words of one command. Each command is a function of its own, since a proof of all in one takes minutes.
 pub fn command<'a>(alloc: Global, named: &Named) -> Result<Command<'a>, AllocError> {
@@ -50,6 +61,9 @@ pub fn command<'a>(alloc: Global, named: &Named) -> Result<Command<'a>, AllocErr
         Named::Attach => attach(alloc),
         Named::Compare => compare(alloc),
         Named::Migrate => migrate(alloc),
+        Named::Stamp => Ok(stamp(alloc)),
+        Named::StampCheck => stamp_check(alloc),
+        Named::StampQuestions => stamp_questions(alloc),
     }
 }
 
@@ -142,4 +156,26 @@ fn migrate<'a>(alloc: Global) -> Result<Command<'a>, AllocError> {
         )
         .after_help(MIGRATE_LINES);
     with_words(alloc, command, MIGRATE.as_slice())
+}
+
+fn stamp<'a>(alloc: Global) -> Command<'a> {
+    Command::new(alloc, "stamp")
+        .about(ABOUT_STAMPS)
+        .after_help(STAMP_LINES)
+}
+
+fn stamp_check<'a>(alloc: Global) -> Result<Command<'a>, AllocError> {
+    let command = Command::new(alloc, "check")
+        .about(
+            "Says by when the file DATA existed, if the time-stamp token in STAMP is accepted (RFC 3161 2.4.2).",
+        )
+        .after_help(STAMP_CHECK_LINES);
+    with_words(alloc, command, STAMP_CHECK.as_slice())
+}
+
+fn stamp_questions<'a>(alloc: Global) -> Result<Command<'a>, AllocError> {
+    let command = Command::new(alloc, "questions")
+        .about("Prints what a verifier must be asked of the time-stamp token in STAMP.")
+        .after_help(STAMP_QUESTIONS_LINES);
+    with_words(alloc, command, STAMP_QUESTIONS.as_slice())
 }

@@ -1,5 +1,5 @@
-use crate::commands::{ALL, command};
-use crate::help::STATUSES;
+use crate::commands::{ALL, STAMPS, command};
+use crate::help::{STAMP_LINES, STATUSES};
 use clap::Command;
 use std::alloc::{AllocError, Global};
 
@@ -12,8 +12,13 @@ const ABOUT: &str =
     "Makes requests for time-stamps (RFC 3161); shows what is in requests, responses, time-stamps,\n\
      certificates and CMS SignedData; says whether a content and its signed attributes belong\n\
      together, whether a response answers a request, by when the signatures of a file existed, and\n\
-     whether two signatures sign the same; prints what a verifier must be asked about a file; attaches\n\
-     time-stamp tokens; and brings trust lists to their newest version.";
+     whether two signatures sign the same; prints what a verifier must be asked about a file; judges a\n\
+     time-stamp that stands beside a file; attaches time-stamp tokens; and brings trust lists to their\n\
+     newest version.";
+
+/// What the commands about stamps do.
+pub const ABOUT_STAMPS: &str =
+    "Says by when a file existed, by a time-stamp token or response that stands beside it (RFC 3161).";
 
 /// What the program takes on its command line.
 pub fn command_line<'a>(alloc: Global) -> Result<Command<'a>, AllocError> {
@@ -22,6 +27,26 @@ pub fn command_line<'a>(alloc: Global) -> Result<Command<'a>, AllocError> {
         line = line.subcommand(command(alloc, named)?)?;
     }
     Ok(line)
+}
+
+/// What the program takes behind `stamp`.
+pub fn stamp_line<'a>(alloc: Global) -> Result<Command<'a>, AllocError> {
+    let mut line = stamps(alloc)?;
+    for named in STAMPS.as_slice() {
+        line = line.subcommand(command(alloc, named)?)?;
+    }
+    Ok(line)
+}
+
+/// The commands about stamps, with none yet.
+fn stamps<'a>(alloc: Global) -> Result<Command<'a>, AllocError> {
+    let line = Command::new(alloc, "stamp").bin_name("cmsproof stamp")?;
+    Ok(
+        line.about(ABOUT_STAMPS)
+            .after_help(STAMP_LINES)
+            .subcommand_required(true)
+            .arg_required_else_help(true),
+    )
 }
 
 /// The program, with no command yet.

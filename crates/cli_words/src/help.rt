@@ -14,13 +14,14 @@ Exit status:
 For one file that is read, `-` names standard input; a file of that name is written ./- instead. A
 file to write must not be one to read, except that attach's OUT may be FILE.
 
-`check`, `fit` and `questions` take several FILEs, or with --files-from a list of their names, where
-`-` is a file of that name. They read the other lists once, go on after a file that fails, and end
-with the greatest of the statuses. `check` and `fit` print a line for each file on standard output,
-`FILE: ` and what is printed for it alone. `questions` prints one text, with a comment before the
-questions of each file, `# FILE`, or `# FILE: ` and the line of one that fails. In FILE and in these
-lines each octet that isn't one of ASCII from space to tilde, a backslash, and a space behind a
-colon is `\\x` and two digits. Without --files-from, -0 changes nothing.
+`check`, `fit` and `questions` take several FILEs, and `stamp questions` several STAMPs, or with
+--files-from a list of their names, where `-` is a file of that name. They read the other lists
+once, go on after a file that fails, and end with the greatest of the statuses. `check` and `fit`
+print a line for each file on standard output, `FILE: ` and what is printed for it alone.
+`questions` prints one text, with a comment before the questions of each file, `# FILE`, or
+`# FILE: ` and the line of one that fails. In FILE and in these lines each octet that isn't one of
+ASCII from space to tilde, a backslash, and a space behind a colon is `\\x` and two digits. Without
+--files-from, -0 changes nothing.
 
 An option that is the name of a file too is refused, `usage WORD`, and so is `-`: a shell can have
 put it in the place of `*`. Write ./* for *, or -- before it.
@@ -34,6 +35,7 @@ Example:
   cmsproof match request.tsq response.tsr token.tok
   cmsproof questions --trust trusted.txt signed.p7s > questions.txt
   cmsproof check --trust trusted.txt --answers answers.txt signed.p7s
+  cmsproof stamp check --trust trusted.txt --answers answers.txt response.tsr document.pdf
   cmsproof attach --signer 1 --token token.tok signed.p7s stamped.p7s
   cmsproof compare signed.p7s stamped.p7s
   cmsproof migrate trusted.txt trusted-2.txt";
@@ -259,6 +261,74 @@ TRUST is read and judged before FILE is opened. If the output fails, the line is
 Examples:
   cmsproof questions --trust trusted.txt signed.p7s > questions.txt
   cmsproof questions --trust trusted.txt signed.p7s stamped.p7s | cmsproof-verify > answers.txt";
+
+/// What the commands about stamps are.
+pub const STAMP_LINES: &str = "\
+The commands are `stamp check` and `stamp questions`; `cmsproof stamp check --help` says what each
+takes and prints.
+
+Examples:
+  cmsproof stamp questions --trust trusted.txt response.tsr > questions.txt
+  cmsproof stamp check --trust trusted.txt --answers answers.txt response.tsr document.pdf";
+
+/// What `stamp check` prints.
+pub const STAMP_CHECK_LINES: &str = "\
+STAMP is a time-stamp token (RFC 3161 2.4.2), or a time-stamp response with one, which is told by
+its form; nothing else of a response counts. Prints `accepted TIME` if a trusted authority made the
+token for the octets of DATA. TIME is the token's genTime, a GeneralizedTime in UTC, as
+20240131235959Z: by then DATA existed.
+
+TRUST is a trust list, as the help of `migrate` says, and only its entries `tsa` count; ANSWERS says
+which signatures are good, as the help of `check` says. It is made from what `stamp questions`
+prints.
+
+Otherwise one line is printed. For the lists, as by `check`: `trust ..`, `answers ..` (status 2).
+For STAMP and DATA, the first of these that fails (status 1):
+  malformed FAULT           STAMP is no whole element of DER, or no response (status 2)
+  refused P1 Status         the response's status is neither granted nor grantedWithMods
+  refused P2 NoToken        the response has no token
+  refused K1 FAULT, K1 NotSignedData  the token isn't a CMS SignedData in DER
+  refused K2 ContentType    its content isn't a TSTInfo by its type
+  refused K3 NoContent      it has no content
+  refused K4 OneSigner      it doesn't have exactly one signer
+  refused K5 RULE           its signer fails this one of S1 to S6
+  refused K6 FAULT          its content isn't a TSTInfo in DER
+  refused K7 CriticalExtension  its TSTInfo has a critical extension
+  refused K8 ImprintAlgorithm   the imprint's algorithm isn't known, or is SHA-1 without --sha1
+  refused K9 ImprintDiffers     the imprint isn't the digest of DATA
+  refused K10 UnknownTsa    no certificate listed as `tsa` is the one that its signer names
+  refused K11 NotNamed      its signer's attributes name none of those
+  refused K12 Purpose       none of those is for time-stamping alone
+  refused K13 Period        none of those is valid and listed at its time
+  refused K14 SignatureFails    its signature isn't good under the key of any of those
+DATA is opened and read only if the token passes K1 to K8. If it can't be read, the line is
+`failed X1 ReadFailed`; if it has more than 2^40 octets, `failed X5 ContentTooLong`; both on the
+standard error (status 4).
+
+Examples:
+  cmsproof stamp check --trust trusted.txt --answers answers.txt response.tsr document.pdf
+  cmsproof stamp check --trust trusted.txt --answers answers.txt token.tok - < document.pdf";
+
+/// What `stamp questions` prints.
+pub const STAMP_QUESTIONS_LINES: &str = "\
+The text is one of questions, as the help of `questions` says. If the token in STAMP has one signer,
+who has signed attributes, there is a line for each entry of the list in the role `tsa` that its
+identifier matches. STAMP is a token or a response, as the help of `stamp check` says.
+
+Of several STAMPs there is one text, as the help of `cmsproof` says. The answers to it serve for all
+of them.
+
+Otherwise one line is printed: `trust ..` for the list, as by `questions`, and for STAMP:
+  malformed FAULT           STAMP is no whole element of DER, or no response, or its token no
+                            CMS ContentInfo (status 2)
+  refused P1 Status         the response's status is neither granted nor grantedWithMods
+  refused P2 NoToken        the response has no token
+  refused Q2 NotSignedData  the token is another kind of CMS content
+TRUST is read and judged before STAMP is opened. No signature is checked.
+
+Examples:
+  cmsproof stamp questions --trust trusted.txt response.tsr > questions.txt
+  cmsproof stamp questions --trust trusted.txt *.tsr | cmsproof-verify > answers.txt";
 
 /// What `attach` writes and prints.
 pub const ATTACH_LINES: &str = "\

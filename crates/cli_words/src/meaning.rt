@@ -6,14 +6,14 @@ ghost use Rattle.clap.specs.declared.parser.matches.Found.{Found};
 ghost use Rattle.clap.specs.Values.{kind_of};
 ghost use Rattle.cli_failures.specs.Causes.{Names};
 ghost use Rattle.cli_words.specs.Words.{asks_for_help, command_of, text_command_of, IsHelp, IsTaskIn, IsTextTaskIn};
-ghost use Rattle.cli_words.specs.Words.{IsWords};
-ghost use Rattle.cli_words.specs.Several.{IsManyIn, each_command_of};
+ghost use Rattle.cli_words.specs.Words.{IsWords, is_behind_stamp, is_of_stamp};
+ghost use Rattle.cli_words.specs.Several.{IsManyIn, each_command_of, place_of};
 
-use crate::grammar::command_line;
-use crate::several::{each_in, several_in};
+use crate::grammar::{command_line, stamp_line};
+use crate::several::{each_in, several_in, stamp_each_in};
 use crate::words::{
     attach_words, check_words, compare_words, fit_words, match_words, migrate_words,
-    questions_words, request_words, shown, value,
+    questions_words, request_words, shown, stamp_questions_words, stamp_words, value,
 };
 use clap::ArgMatches;
 use clap::error::ErrorKind;
@@ -21,6 +21,9 @@ use cli_failures::Failure;
 use cli_tasks::{Each, Many, Several, Task, TextTask};
 use std::alloc::Global;
 use std::convert::AsStr;
+
+/// What stands before the commands about stamps by themselves.
+const STAMP: &str = "stamp";
 
 /// Standard input, in the place of the path of a file that is read.
 const STANDARD_INPUT: &str = "-";
@@ -36,24 +39,37 @@ pub enum Meaning<'a> {
     Help(String),
 }
 
-/// What the words ask of several files, if they name several, or a list of them.
-fn many_in<'a>(alloc: Global, matches: &ArgMatches<'a>) -> Result<Option<Many<'a>>, Failure<'a>>
+/// The name of the places of the files, in the group of commands about stamps or in the other.
+fn place_of(stamps: bool) -> &'static str
+    ensures { result.now ≡ place_of stamps }
+{
+    if stamps { "STAMP" } else { "FILE" }
+}
+
+/// What the words ask of several files, or stamps, if they name several, or a list of them.
+fn many_in<'a>(
+    alloc: Global,
+    stamps: bool,
+    matches: &ArgMatches<'a>,
+) -> Result<Option<Many<'a>>, Failure<'a>>
     ensures command { IfOk result (λ many. IfSome many (λ m.
         subcommand_name_of matches.now ≡ Some (each_command_of m.each))) }
     // The values are those of the arguments that the parser found for this command.
     ensures words { IfOk result (λ many. IfSome many (λ m. (given : Found)
-        × (option_map (λ p. p.1) (subcommand_rows_of matches.now) ≡ Some (rows_of given)) × IsManyIn given m)) }
+        × (option_map (λ p. p.1) (subcommand_rows_of matches.now) ≡ Some (rows_of given)) × IsManyIn stamps given m)) }
 {
     let Some((command, given)) = matches.subcommand() else {
         return Ok(None);
     };
-    match several_in(alloc, given)? {
-        Some(files) => Ok(Some(Many {
-            each: each_in(command, given)?,
-            files,
-        })),
-        None => Ok(None),
+    let Some(files) = several_in(alloc, place_of(stamps), given)? else {
+        return Ok(None);
+    };
+    if stamps {
+        let each = stamp_each_in(command, given)?;
+        return Ok(Some(Many { each, files }));
     }
+    let each = each_in(command, given)?;
+    Ok(Some(Many { each, files }))
 }
 
 /// The task that the words name.
@@ -62,6 +78,7 @@ fn task_in<'a>(matches: &ArgMatches<'a>) -> Result<Task<'a>, Failure<'a>>
     // The values of the task are those of the arguments that the parser found for this command.
     ensures words { IfOk result (λ task. (given : Found)
         × (option_map (λ p. p.1) (subcommand_rows_of matches.now) ≡ Some (rows_of given)) × IsTaskIn given task) }
+    ensures group { IfOk result (λ task. is_behind_stamp task ≡ false) }
 {
     match matches.subcommand() {
         Some(("questions", given)) => Ok(Task::Questions(questions_words(given)?)),
@@ -75,6 +92,7 @@ fn task_in<'a>(matches: &ArgMatches<'a>) -> Result<Task<'a>, Failure<'a>>
 fn text_task_in<'a>(command: &str, given: &ArgMatches<'a>) -> Result<TextTask<'a>, Failure<'a>>
     ensures command { IfOk result (λ task. command.now ≡ text_command_of task) }
     ensures words { IfOk result (IsTextTaskIn (found_of given.now)) }
+    ensures group { IfOk result (λ task. is_of_stamp task ≡ false) }
 {
     match command {
         "request" => Ok(TextTask::Request(request_words(given)?)),
@@ -86,6 +104,37 @@ fn text_task_in<'a>(command: &str, given: &ArgMatches<'a>) -> Result<TextTask<'a
         "attach" => Ok(TextTask::Attach(attach_words(given)?)),
         "compare" => Ok(TextTask::Compare(compare_words(given)?)),
         "migrate" => Ok(TextTask::Migrate(migrate_words(given)?)),
+        // The parser knows no other command.
+        _ => Err(Failure::Usage("command")),
+    }
+}
+
+/// The task that the words name behind `stamp`.
+fn stamp_task_in<'a>(matches: &ArgMatches<'a>) -> Result<Task<'a>, Failure<'a>>
+    ensures command { IfOk result (λ task. subcommand_name_of matches.now ≡ Some (command_of task)) }
+    ensures words { IfOk result (λ task. (given : Found)
+        × (option_map (λ p. p.1) (subcommand_rows_of matches.now) ≡ Some (rows_of given)) × IsTaskIn given task) }
+    ensures group { IfOk result (λ task. is_behind_stamp task ≡ true) }
+{
+    match matches.subcommand() {
+        Some((command, given)) => Ok(Task::Text(stamp_text_task_in(command, given)?)),
+        // The parser demands a command.
+        None => Err(Failure::Usage("command")),
+    }
+}
+
+/// The task of this command about stamps.
+fn stamp_text_task_in<'a>(
+    command: &str,
+    given: &ArgMatches<'a>,
+) -> Result<TextTask<'a>, Failure<'a>>
+    ensures command { IfOk result (λ task. command.now ≡ text_command_of task) }
+    ensures words { IfOk result (IsTextTaskIn (found_of given.now)) }
+    ensures group { IfOk result (λ task. is_of_stamp task ≡ true) }
+{
+    match command {
+        "check" => Ok(TextTask::CheckStamp(stamp_words(given)?)),
+        "questions" => Ok(TextTask::AskStamp(stamp_questions_words(given)?)),
         // The parser knows no other command.
         _ => Err(Failure::Usage("command")),
     }
@@ -116,14 +165,36 @@ fn meaning_of_error<'a>(alloc: Global, error: &clap::Error) -> Result<Meaning<'a
     }
 }
 
-/// What the words ask for; the first word is the program's name.
+/// What the words ask for; the first word is the program's name. Behind the word `stamp` stand commands of their own.
 pub fn meaning_of<'a, S: AsStr>(alloc: Global, words: &'a [S]) -> Result<Meaning<'a>, Failure<'a>> {
-    match command_line(alloc)?.try_get_matches_from(words) {
-        Ok(matches) => match many_in(alloc, &matches)? {
-            Some(many) => unambiguous_many(many),
-            None => unambiguous(task_in(&matches)?),
-        },
-        Err(error) => meaning_of_error(alloc, &error),
+    match words {
+        [_, group, ..] if group.as_str() == STAMP => meaning_by(alloc, true, &words[1..]),
+        _ => meaning_by(alloc, false, words),
+    }
+}
+
+/// The same by the commands about stamps, or by the others. The first word is the name of what takes them.
+fn meaning_by<'a, S: AsStr>(
+    alloc: Global,
+    stamps: bool,
+    words: &'a [S],
+) -> Result<Meaning<'a>, Failure<'a>> {
+    let line = if stamps {
+        stamp_line(alloc)?
+    } else {
+        command_line(alloc)?
+    };
+    let matches = match line.try_get_matches_from(words) {
+        Ok(matches) => matches,
+        Err(error) => return meaning_of_error(alloc, &error),
+    };
+    if let Some(many) = many_in(alloc, stamps, &matches)? {
+        return unambiguous_many(many);
+    }
+    if stamps {
+        unambiguous(stamp_task_in(&matches)?)
+    } else {
+        unambiguous(task_in(&matches)?)
     }
 }
 
@@ -220,6 +291,13 @@ fn inputs_of_text<'a>(task: &TextTask<'a>) -> [Option<&'a str>; 4] {
         TextTask::Match(words) => [Some(words.request), Some(words.response), None, None],
         TextTask::Compare(words) => [Some(words.first_file), Some(words.second_file), None, None],
         TextTask::Attach(words) => [Some(words.token), Some(words.file), None, None],
+        TextTask::CheckStamp(words) => [
+            Some(words.trust),
+            Some(words.answers),
+            Some(words.stamp),
+            Some(words.data),
+        ],
+        TextTask::AskStamp(words) => [Some(words.trust), Some(words.stamp), None, None],
         _ => [None, None, None, None],
     }
 }

@@ -1,21 +1,22 @@
 //! The files that a command takes if it takes several, and what it asks of each.
-ghost use Rattle.std.specs.Prelude.{◌≡◌, IfOk, IfSome};
+ghost use Rattle.std.specs.Prelude.{◌≡◌, true, false, IfOk, IfSome};
 ghost use Rattle.clap.specs.Matches.{found_of};
 ghost use Rattle.cli_words.specs.Several.{IsCheckEachIn, IsEachIn, IsFitEachIn, IsQuestionsEachIn, IsSeveralIn};
-ghost use Rattle.cli_words.specs.Several.{each_command_of};
+ghost use Rattle.cli_words.specs.Several.{each_command_of, is_about_stamps, is_each_of_stamp};
 
 use crate::words::{buffer_octets, value};
 use clap::ArgMatches;
 use cli_failures::Failure;
-use cli_tasks::{CheckEach, Each, FitEach, ListWords, QuestionsEach, Several};
+use cli_tasks::{About, CheckEach, Each, FitEach, ListWords, QuestionsEach, Several};
 use std::alloc::Global;
 
-/// The files, if they are in a list, or if there are two or more.
+/// The files in the places of this name, if there are two or more, or those that are in a list.
 pub fn several_in<'a>(
     alloc: Global,
+    place: &'static str,
     given: &ArgMatches<'a>,
 ) -> Result<Option<Several<'a>>, Failure<'a>>
-    ensures { IfOk result (λ files. IfSome files (IsSeveralIn (found_of given.now))) }
+    ensures { IfOk result (λ files. IfSome files (IsSeveralIn place.now (found_of given.now))) }
 {
     if let Some(list) = given.get_str("files-from") {
         return Ok(Some(Several::Listed(ListWords {
@@ -23,7 +24,7 @@ pub fn several_in<'a>(
             null: given.get_flag("null"),
         })));
     }
-    match given.get_strs("FILE") {
+    match given.get_strs(place) {
         Some(paths) if paths.len() > 1 => {
             let mut words = Vec::new(alloc);
             words.extend_from_slice(paths)?;
@@ -37,6 +38,7 @@ pub fn several_in<'a>(
 pub fn each_in<'a>(command: &str, given: &ArgMatches<'a>) -> Result<Each<'a>, Failure<'a>>
     ensures command { IfOk result (λ each. command.now ≡ each_command_of each) }
     ensures words { IfOk result (IsEachIn (found_of given.now)) }
+    ensures group { IfOk result (λ each. is_each_of_stamp each ≡ false) }
 {
     match command {
         "check" => Ok(Each::Check(check_each(given)?)),
@@ -45,6 +47,31 @@ pub fn each_in<'a>(command: &str, given: &ArgMatches<'a>) -> Result<Each<'a>, Fa
         // The parser takes several files for no other command.
         _ => Err(Failure::Usage("FILE")),
     }
+}
+
+/// The same behind `stamp`.
+pub fn stamp_each_in<'a>(command: &str, given: &ArgMatches<'a>) -> Result<Each<'a>, Failure<'a>>
+    ensures command { IfOk result (λ each. command.now ≡ each_command_of each) }
+    ensures words { IfOk result (IsEachIn (found_of given.now)) }
+    ensures group { IfOk result (λ each. is_each_of_stamp each ≡ true) }
+{
+    match command {
+        "questions" => Ok(Each::Questions(stamps_each(given)?)),
+        // The parser takes several stamps for no other command.
+        _ => Err(Failure::Usage("STAMP")),
+    }
+}
+
+/// Who is trusted, whatever the stamp is whose questions are printed.
+fn stamps_each<'a>(given: &ArgMatches<'a>) -> Result<QuestionsEach<'a>, Failure<'a>>
+    ensures words { IfOk result (IsQuestionsEachIn (found_of given.now)) }
+    ensures group { IfOk result (λ words. is_about_stamps words.about ≡ true) }
+{
+    let listed = value(given, "trust")?;
+    Ok(QuestionsEach {
+        trust: listed,
+        about: About::Stamps,
+    })
 }
 
 /// The lists that each file is checked with, and what is allowed.
@@ -72,9 +99,10 @@ fn fit_each<'a>(given: &ArgMatches<'a>) -> FitEach<'a>
 
 /// Who is trusted, whatever the file is whose questions are printed.
 fn questions_each<'a>(given: &ArgMatches<'a>) -> Result<QuestionsEach<'a>, Failure<'a>>
-    ensures { IfOk result (IsQuestionsEachIn (found_of given.now)) }
+    ensures words { IfOk result (IsQuestionsEachIn (found_of given.now)) }
+    ensures group { IfOk result (λ words. is_about_stamps words.about ≡ false) }
 {
     let trust = value(given, "trust")?;
-    let buffer = buffer_octets(given)?;
-    Ok(QuestionsEach { trust, buffer })
+    let about = About::Signed(buffer_octets(given)?);
+    Ok(QuestionsEach { trust, about })
 }

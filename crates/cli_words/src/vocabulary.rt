@@ -52,6 +52,14 @@ const TRUST: Word = Word {
     help: "The trust list, as --trust trusted.txt (no default)",
 };
 
+/// The list of what a verifier found good, of `check` and `stamp check`.
+const ANSWERS: Word = Word {
+    name: "answers",
+    takes: Takes::Text("ANSWERS"),
+    required: true,
+    help: "The answers list, as --answers answers.txt (no default)",
+};
+
 /// The content that is handed in, of `fit` and `check`.
 const CONTENT: Word = Word {
     name: "content",
@@ -214,12 +222,7 @@ pub static MATCH: [Word; 3] = [
 /// The words of `check`, in the order of its help.
 pub static CHECK: [Word; 8] = [
     TRUST,
-    Word {
-        name: "answers",
-        takes: Takes::Text("ANSWERS"),
-        required: true,
-        help: "The answers list, as --answers answers.txt (no default)",
-    },
+    ANSWERS,
     CONTENT,
     Word {
         name: "sha1",
@@ -311,5 +314,49 @@ pub static MIGRATE: [Word; 2] = [
         takes: Takes::Place,
         required: true,
         help: "The file to write, as trusted-2.txt; one that is there is replaced",
+    },
+];
+
+/// The words of `stamp check`, in the order of its help.
+pub static STAMP_CHECK: [Word; 5] = [
+    TRUST,
+    ANSWERS,
+    Word {
+        name: "sha1",
+        takes: Takes::Nothing,
+        required: false,
+        help: "Allows SHA-1 as a digest algorithm of the token's signer and of its imprint (by default it is refused)",
+    },
+    Word {
+        name: "STAMP",
+        takes: Takes::Place,
+        required: true,
+        help: "The stamp to read, as document.pdf.tsr or token.tok (no default)",
+    },
+    Word {
+        name: "DATA",
+        takes: Takes::Place,
+        required: true,
+        help: "The file that was stamped, as document.pdf or /dev/stdin (no default); it is read once, in pieces, and \
+               may have up to 2^40 octets",
+    },
+];
+
+/// The words of `stamp questions`, in the order of its help.
+pub static STAMP_QUESTIONS: [Word; 4] = [
+    TRUST,
+    Word {
+        name: "files-from",
+        takes: Takes::List("STAMP", "LIST"),
+        required: false,
+        help: "Reads the names of the stamps from LIST, a line for each, in place of STAMP, as --files-from names.txt \
+               or --files-from - (by default the stamps are named on the command line)",
+    },
+    NULL,
+    Word {
+        name: "STAMP",
+        takes: Takes::Places("files-from"),
+        required: false,
+        help: "The stamps to read, as document.pdf.tsr or token.tok (no default)",
     },
 ];

@@ -4,13 +4,13 @@ ghost use Rattle.cli_tasks.specs.declared.task.Stamped.{Stamped};
 ghost use Rattle.cli_failures.specs.Causes.{Names};
 ghost use Rattle.cli_words.specs.Words.{IsNumberIn, IsSignerIn, IsStampedIn, IsRequestIn, IsFitIn, IsMatchIn};
 ghost use Rattle.cli_words.specs.Words.{IsMigrateIn, IsQuestionsIn, IsBufferIn, IsCheckIn, IsCompareIn, IsAttachIn};
-ghost use Rattle.cli_words.specs.Words.{IsShownIn};
+ghost use Rattle.cli_words.specs.Words.{IsShownIn, IsStampIn, IsStampQuestionsIn};
 
 use clap::ArgMatches;
 use cli_failures::Failure;
 use cli_tasks::{
     AttachWords, CheckWords, CompareWords, FitWords, MatchWords, MigrateWords, QuestionsWords,
-    RequestWords, Stamped, TextTask,
+    RequestWords, StampQuestionsWords, StampWords, Stamped, TextTask,
 };
 
 /// The most octets that the words may allow to be kept of a file, 2^30. Decision 132 of `docs/DECISIONS.md`.
@@ -155,6 +155,32 @@ pub fn attach_words<'a>(given: &ArgMatches<'a>) -> Result<AttachWords<'a>, Failu
         token: value(given, "token")?,
         file: value(given, "FILE")?,
         out: value(given, "OUT")?,
+    })
+}
+
+/// The stamp that is checked, the file that it should stamp, the lists, and what is allowed.
+pub fn stamp_words<'a>(given: &ArgMatches<'a>) -> Result<StampWords<'a>, Failure<'a>>
+    ensures { IfOk result (IsStampIn (found_of given.now)) }
+{
+    let answers = value(given, "answers")?;
+    Ok(StampWords {
+        trust: value(given, "trust")?,
+        answers,
+        sha1: given.get_flag("sha1"),
+        stamp: value(given, "STAMP")?,
+        data: value(given, "DATA")?,
+    })
+}
+
+/// The stamp whose questions are printed, and the trust list.
+pub fn stamp_questions_words<'a>(
+    given: &ArgMatches<'a>,
+) -> Result<StampQuestionsWords<'a>, Failure<'a>>
+    ensures { IfOk result (IsStampQuestionsIn (found_of given.now)) }
+{
+    Ok(StampQuestionsWords {
+        trust: value(given, "trust")?,
+        stamp: value(given, "STAMP")?,
     })
 }
 

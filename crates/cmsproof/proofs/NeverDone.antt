@@ -50,6 +50,7 @@ never_done failure.Different ends = cc
 never_done failure.Collision ends = cc
 never_done (failure.Uncompared why) ends = uncompared why.rule ends
 never_done (failure.Unattached why) ends = cc
+never_done (failure.Unstamped why) ends = cc
 never_done (failure.Trust fault) ends = cc
 never_done (failure.Answers fault) ends = cc
 never_done (failure.Open path) ends = cc

@@ -7,6 +7,10 @@
 //! signer, `answers` says whether a response answers a request, and `compare` whether a signer of one file and a signer
 //! of another sign the same.
 //!
+//! `check_stamp` judges a token by the digest of what it stamps. `Stamp::read` says what a token states, and so by
+//! which algorithm that is digested; `judge_stamp` and `judge_stamp_of` judge it, by a digest or over a source.
+//! `granted_token` gives the token of a response, and `token_questions` what a verifier will be asked about one.
+//!
 //! For many files, `check_stream_with` and `check_stream_by` take what serves for one file after another: a `Pass`, the
 //! window through which the files pass, as `questions_stream` does, and a `Checker`, the trust list and the policy with
 //! what is kept of the list.
@@ -18,11 +22,14 @@
 pub use check_fit::{
     DeviceFault, FileRule, Policy, Refused, SignerRule, TokenRefused, TokenRule, fits, signer_fits,
 };
-pub use check_questions::{QuestionsFault, questions};
+pub use check_questions::{QuestionsFault, questions, token_questions};
 pub use check_stream::{
     StreamQuestionsFault, check_stream, check_stream_by, check_stream_with, questions_stream,
 };
-pub use check_verdict::{Accepted, Checker, check, check_signer, check_token};
+pub use check_verdict::{
+    Accepted, Checker, Stamp, check, check_signer, check_stamp, check_token, judge_stamp,
+    judge_stamp_of,
+};
 pub use cms_compare::{CompareFault, CompareRule, Compared, Which, compare};
 pub use cms_stream::{Pass, listed_algorithms};
 pub use cms_types::{CmsFault, SignedData, Signer, Signers};
@@ -37,5 +44,5 @@ pub use list_answers::{
     Answers, AnswersFault, AnswersRule, AskFault, FusedVerifier, Question, Verifier,
 };
 pub use trust_lists::{Entry, Role, Trust, TrustFault, TrustRule};
-pub use tsp_requester::{AttachFault, MatchFault, answers, attach};
+pub use tsp_requester::{AttachFault, MatchFault, answers, attach, granted_token};
 pub use tsp_types::{MakeFault, Request, Response, TstInfo};

@@ -37,9 +37,9 @@ loop-path-preserved g c =
             ends = c.in_ok-put_asked.field-0;
             says = headed_by
                 (λ (v : _). v.items) g.R.File.Read.remaining g.R.File.Describes.says c.args.each.now path
-                c.questions_by-said.result text
-                c.in_ok-put_asked.field-0 said (c.questions_by-said.ensures.asked c.in_ok-trust.ensures.found)
-                (c.questions_by-said.ensures.refused c.in_ok-trust.ensures.found);
+                c.asked_about-said.result text
+                c.in_ok-put_asked.field-0 said (c.asked_about-said.ensures.asked c.in_ok-trust.ensures.found)
+                (c.asked_about-said.ensures.refused c.in_ok-trust.ensures.found);
             takes = took;
             worse = c.worse-worst.ensures;
           }),
@@ -56,10 +56,10 @@ returns-in_err-put_asked-clause-refused g c =
     (record { ref_ptr = (0, 0); now = [] }) c.loop-path.path-index headed (g.O.Write.contents c.loop-path.out)
     (g.O.Write.contents c.put_asked.new.out) c.loop-path.worst ends text c.loop-path-test.true told
     (headed_by
-    (λ (v : _). v.items) g.R.File.Read.remaining g.R.File.Describes.says c.args.each.now path c.questions_by-said.result
+    (λ (v : _). v.items) g.R.File.Read.remaining g.R.File.Describes.says c.args.each.now path c.asked_about-said.result
     text ends said
-    (c.questions_by-said.ensures.asked c.in_ok-trust.ensures.found)
-    (c.questions_by-said.ensures.refused c.in_ok-trust.ensures.found)) cut in
+    (c.asked_about-said.ensures.asked c.in_ok-trust.ensures.found)
+    (c.asked_about-said.ensures.refused c.in_ok-trust.ensures.found)) cut in
     rw (p.1, p.2) (inr (
       lost,
       (

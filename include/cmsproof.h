@@ -30,7 +30,7 @@
  *   A call that judges (check, fit, compare, match) tells its verdict by a line, whatever the verdict is: with `room` 0 it makes
  *   no line, and returns the status of the verdict.
  *   A call that makes a text (questions, request, token, attach, show) returns CMSPROOF_DONE only with the whole text. With
- *   `room` 0 it says the length alone. If it is refused, all of these but `cmsproof_questions` have the line that says why as
+ *   `room` 0 it says the length alone. If it is refused, all of these but those of questions have the line that says why as
  *   their text: it is written if `*length` is at most `room`, and the status stays that of the refusal.
  *   So what such a call wrote is a token, a file or a request only if the status is CMSPROOF_DONE: look before you keep it. Without
  *   memory for a refusal's line, `*length` is 0; with NO_MEMORY the text is as it was, or the line `failed memory`.
@@ -143,10 +143,25 @@ cmsproof_status cmsproof_check(cmsproof_trust *trust, cmsproof_answers *answers,
                                const uint8_t *content, size_t content_length, bool content_given, bool sha1, char *text,
                                size_t room, size_t *length, cmsproof_answer *answer);
 
-/* Whether one time-stamp token is valid for octets that were stamped, and its time: rules K1 to K14. No command does this, and
- * no line is made. Statuses: DONE, only if it is accepted; REFUSED; NO_LIST. */
+/* Whether one time-stamp token is valid for octets that were stamped, and its time: rules K1 to K14. No line is made.
+ * Statuses: DONE, only if it is accepted; REFUSED; NO_LIST. */
 cmsproof_status cmsproof_check_token(cmsproof_trust *trust, cmsproof_answers *answers, const uint8_t *token, size_t token_length,
                                      const uint8_t *stamped, size_t stamped_length, bool sha1, cmsproof_answer *answer);
+
+/* Whether a stamp is valid for the octets of a file that it stands beside, and its time, as `cmsproof stamp check` says it. The
+ * stamp is a token, or a response with one; nothing else of a response counts. Both are in memory, or mapped there by the caller.
+ * Statuses: DONE, only if it is accepted; REFUSED, with K1 to K14, or P1 or P2 of a response without a token; MALFORMED, with the
+ * fault of a stamp that is neither; NO_ROOM; NO_MEMORY (of the line); NO_LIST. `answer` has the whole verdict also with NO_ROOM and
+ * NO_MEMORY. */
+cmsproof_status cmsproof_stamp_check(cmsproof_trust *trust, cmsproof_answers *answers, const uint8_t *stamp, size_t stamp_length,
+                                     const uint8_t *data, size_t data_length, bool sha1, char *text, size_t room, size_t *length,
+                                     cmsproof_answer *answer);
+
+/* The questions of a stamp, as `cmsproof stamp questions` prints them.
+ * Statuses: DONE, and `text` has the questions; REFUSED, with P1, P2 or Q2 in `answer`, or MALFORMED, with the fault; NO_ROOM;
+ * NO_MEMORY; NO_LIST. If it is refused, no text is made. */
+cmsproof_status cmsproof_stamp_questions(cmsproof_trust *trust, const uint8_t *stamp, size_t stamp_length, char *text, size_t room,
+                                         size_t *length, cmsproof_answer *answer);
 
 /* Whether the content and the signed attributes of each signer of a file belong together, as `cmsproof fit` says it. File and
  * content are handed in as for `cmsproof_check`. Statuses: DONE, with CMSPROOF_FITS and how many signers there are in `signer`;

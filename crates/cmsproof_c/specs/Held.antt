@@ -7,6 +7,7 @@ use Rattle.library_answers.specs.Numbers.{nothing}
 use Rattle.library_calls.specs.Checked.{terms_under, IsChecked}
 use Rattle.library_calls.specs.CheckedTokens.{IsTokenChecked}
 use Rattle.library_calls.specs.Questions.{IsQuestioned}
+use Rattle.library_calls.specs.Stamps.{IsStampChecked, IsStampQuestioned}
 
 -- the number of entries, with status 1; without a list 0, and status 8
 abbrev pub CountsEntries : (held : Option (List EntryValue)) → (count status : ℕ) → Type 0
@@ -39,6 +40,19 @@ abbrev pub IsTokenCheck : (list : Option (List EntryValue)) → (asked : Option 
 IsTokenCheck (Some list) (Some asked) token stamped sha1 said status =
     IsTokenChecked (terms_under list asked sha1) token stamped said status
 IsTokenCheck list asked token stamped sha1 said status = (status ≡ 8) × (said ≡ nothing)
+
+-- the same for a stamp
+abbrev pub IsStampCheck : (list : Option (List EntryValue)) → (asked : Option (List Asked)) → (stamp stamped : List ℕ)
+    → (sha1 : Bool) → (said : Answer) (status : ℕ) (before : List ℕ) (size : ℕ) (after : List ℕ) → Type 0
+IsStampCheck (Some list) (Some asked) stamp stamped sha1 said status before size after =
+    IsStampChecked (terms_under list asked sha1) stamp stamped said status before size after
+IsStampCheck list asked stamp stamped sha1 said status before size after = SaysNoList said status before size after
+
+-- with a list what is said of a stamp's questions; without one nothing
+abbrev pub AsksStamp : (list : Option (List EntryValue)) → (stamp : List ℕ) → (said : Answer)
+    (status : ℕ) (before : List ℕ) (size : ℕ) (after : List ℕ) → Type 0
+AsksStamp (Some list) stamp said status before size after = IsStampQuestioned list stamp said status before size after
+AsksStamp None stamp said status before size after = SaysNoList said status before size after
 
 -- with a list what is said of the file's questions; without one nothing
 abbrev pub AsksFile : (list : Option (List EntryValue)) → (octets : List ℕ) → (said : Answer)

@@ -11,6 +11,7 @@ mod lists;
 mod parts;
 mod questions;
 mod requests;
+mod stamp;
 mod token;
 mod trust;
 mod trust_handle;
@@ -27,6 +28,7 @@ pub use requests::{
     cmsproof_attach, cmsproof_request, cmsproof_request_of, cmsproof_request_of_signature,
     cmsproof_token,
 };
+pub use stamp::{cmsproof_stamp_check, cmsproof_stamp_questions};
 pub use token::cmsproof_check_token;
 pub use trust::{
     cmsproof_trust_count, cmsproof_trust_free, cmsproof_trust_read, cmsproof_trust_share,

@@ -9,6 +9,7 @@ ghost use Rattle.library_answers.specs.Failures.{failure_status, IsLine, IsMade,
 
 use crate::answer::{
     Answer, IS_MALFORMED, REFUSES, WRITTEN, kind_number, refused_answer, signer_rule_number,
+    token_answer,
 };
 use crate::text::{
     DONE, FAILED, MALFORMED, NO_MEMORY, REFUSED, Told, USAGE, put, tell_line, tell_text,
@@ -126,6 +127,7 @@ pub fn failure_answer(failure: &Failure) -> Answer
         Failure::Collision => Answer::ruled(COLLISION, 0, 0),
         Failure::Uncompared(fault) => uncompared_answer(*fault),
         Failure::Unattached(fault) => attach_answer(*fault),
+        Failure::Unstamped(rule) => token_answer(*rule),
         _ => Answer::nothing(),
     }
 }
@@ -144,7 +146,7 @@ fn status_number(status: Status) -> u32
 }
 
 /// The status of a call that fails.
-fn failure_status(failure: &Failure) -> u32
+pub fn failure_status(failure: &Failure) -> u32
     ensures { result ≡ failure_status failure.now }
 {
     match failure {

@@ -10,7 +10,7 @@ pub use answer::{
     Answer, IS_MALFORMED, REFUSES, WRITTEN, accepted_answer, device_answer, refused_answer,
     token_answer,
 };
-pub use failing::{failure_answer, tell_failure, tell_made, tell_unmade};
+pub use failing::{failure_answer, failure_status, tell_failure, tell_made, tell_unmade};
 pub use text::{
     DONE, FAILED, MALFORMED, NO_LIST, NO_MEMORY, REFUSED, Told, USAGE, tell_line, tell_verdict,
 };

@@ -7,7 +7,7 @@ use Rattle.check_questions.specs.declared.fault.QuestionsFault.{QuestionsFault}
 use Rattle.check_questions.specs.declared.fault.QuestionsFault.TheVariants as fault
 use Rattle.check_questions.specs.FileQuestions.{AreQuestionsOf}
 use Rattle.check_questions.specs.QuestionsText.{questions_text}
-use Rattle.check_questions.specs.Written.{IsWritten, IsWrittenWith, EncodesNothing}
+use Rattle.check_questions.specs.Written.{IsTokenWritten, IsWritten, IsWrittenWith, EncodesNothing}
 use Rattle.check_questions.specs.Written as written
 use Rattle.library_answers.specs.declared.answer.Answer.{Answer}
 use Rattle.library_answers.specs.Failures.{IsMade}
@@ -20,6 +20,13 @@ pub unasked : (trust : List EntryValue) (octets : List ℕ) (why : QuestionsFaul
 unasked trust octets (fault.Malformed f) tells taken taken' count count' (found, kept) = found
 unasked trust octets fault.NotSignedData tells taken taken' count count' (another, kept) = another
 unasked trust octets fault.WriteFailed tells taken taken' count count' written = tt
+
+pub token_unasked : (trust : List EntryValue) (token : List ℕ) (why : QuestionsFault) (tells : Type 0)
+    (taken taken' : List ℕ) (count count' : ℕ)
+    → IsTokenWritten trust token (Err why) tells taken taken' count count' → IsUnasked token why
+token_unasked trust token (fault.Malformed f) tells taken taken' count count' (found, kept) = found
+token_unasked trust token fault.NotSignedData tells taken taken' count count' (another, kept) = another
+token_unasked trust token fault.WriteFailed tells taken taken' count count' written = tt
 
 -- if a text is to be written, only writing fails
 pub write_failed : (text : List ℕ) (why : QuestionsFault) (tells : Type 0) (taken taken' : List ℕ) (count count' : ℕ)

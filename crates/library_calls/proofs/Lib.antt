@@ -7,3 +7,5 @@ pub mod Moments
 pub mod Requested
 pub mod Stamped
 pub mod Told
+pub mod StampsHeld
+pub mod StampsSaid

@@ -9,3 +9,4 @@ pub mod Matching
 pub mod Questions
 pub mod Requests
 pub mod Shown
+pub mod Stamps

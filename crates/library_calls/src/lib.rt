@@ -12,6 +12,7 @@ mod matching;
 mod questions;
 mod request;
 mod show;
+mod stamp;
 mod token;
 
 pub use attach::tell_attached;
@@ -24,4 +25,5 @@ pub use matching::{tell_match, tell_token};
 pub use questions::tell_questions;
 pub use request::{tell_request, tell_request_of, tell_request_of_signature};
 pub use show::tell_shown;
+pub use stamp::{tell_stamp_check, tell_stamp_questions};
 pub use token::tell_token_check;

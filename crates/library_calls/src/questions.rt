@@ -1,13 +1,13 @@
 ghost use Rattle.std.specs.Prelude.{◌≡◌, ◌↔◌, List, IfOk, IfErr, MatchResult};
 ghost use Rattle.cms_types.specs.SignedDataValue.{EncodesAnotherType};
 ghost use Rattle.trust_lists.specs.Asking.{Asked};
-ghost use Rattle.check_questions.specs.FileQuestions.{AreQuestionsOf};
+ghost use Rattle.check_questions.specs.FileQuestions.{AreQuestionsOf, AreQuestionsOfToken};
 ghost use Rattle.check_questions.specs.QuestionsText.{questions_text};
 ghost use Rattle.check_questions.specs.Written.{EncodesNothing};
 ghost use Rattle.library_calls.specs.Questions.{IsUnasked, IsMalformed, IsQuestioned, unasked_numbers};
 ghost use Rattle.library_calls.specs.Questions.{unasked_status};
 
-use check_questions::{QuestionsFault, questions};
+use check_questions::{QuestionsFault, questions, token_questions};
 use devices::FromWrite;
 use library_answers::{
     Answer, IS_MALFORMED, MALFORMED, NO_MEMORY, REFUSED, REFUSES, Told, tell_made,
@@ -34,8 +34,25 @@ fn text_of(alloc: Global, list: &Trust, octets: &[u8]) -> Result<Vec<u8>, Questi
     }
 }
 
+/// The same for a token by itself.
+pub(crate) fn token_text(
+    alloc: Global,
+    list: &Trust,
+    token: &[u8],
+) -> Result<Vec<u8>, QuestionsFault>
+    ensures asked { IfOk result (λ v. (qs : List Asked) × AreQuestionsOfToken list.now token.now qs
+        × (v.items ≡ questions_text qs)) }
+    ensures refused { IfErr result (IsUnasked token.now) }
+{
+    let mut sink = FromWrite::new(Vec::new(alloc));
+    match token_questions(token, list, &mut sink) {
+        Ok(()) => Ok(sink.into_inner()),
+        Err(fault) => Err(fault),
+    }
+}
+
 /// Why there are no questions, in numbers.
-fn fault_answer(fault: QuestionsFault) -> Answer
+pub(crate) fn fault_answer(fault: QuestionsFault) -> Answer
     ensures { result ≡ unasked_numbers fault }
 {
     match fault {
@@ -46,7 +63,7 @@ fn fault_answer(fault: QuestionsFault) -> Answer
 }
 
 /// The status of a file without questions.
-fn fault_status(fault: QuestionsFault) -> u32
+pub(crate) fn fault_status(fault: QuestionsFault) -> u32
     ensures { result ≡ unasked_status fault }
 {
     match fault {

@@ -12,7 +12,7 @@ use library_answers::{
 use list_answers::Answers;
 
 /// The verdict about a token under these lists.
-fn token_verdict(
+pub(crate) fn token_verdict(
     list: &mut HeldTrust,
     asked: &mut Answers,
     token: &[u8],

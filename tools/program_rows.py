@@ -23,7 +23,7 @@ from oracle.rows import Bad, Row, blobs_of, number, octets_of
 FOLDER = pathlib.Path(__file__).resolve().parent.parent / "crates" / "vectors_run"
 AREAS = ("commands", "files")
 # the files of rows that vectors_run does not read, and how many rows each has: it may not open its own standard input
-ALONE = {"commands/standard_input.rows": "1"}
+ALONE = {"commands/standard_input.rows": "5"}
 
 
 class Untold(Exception):
@@ -125,27 +125,30 @@ def run(row, place):
     return outcome.said(told) + "".join(made)
 
 
-def put_lists(row, place):
-    """Makes the lists and the content of a row. The answers are those of the file's questions, without those with a silent word."""
+def put_trust(row, place):
+    """Makes the trust list of a row."""
     place.put("trusted.txt", ("cmsproof trust " + text_of(row.text("trust"), row.blobs)).encode())
-    place.put("signed.p7s", row.octets("of" if "of" in row.values else "file"))
-    asked = place.run(words_of("questions+--trust+trusted.txt+signed.p7s")).printed.splitlines(keepends=True)
+
+
+def put_answers(row, place, asking):
+    """Makes the answers list of the questions that these words print, without those with a silent word."""
+    asked = place.run(words_of(asking)).printed.splitlines(keepends=True)
     silent = row.values.get("silent", "")
     lines = [line for line in asked if line.startswith("30") and silent not in line.rstrip("\n").split(" ")]
     place.put("answers.txt", "".join(["cmsproof answers 1\n", *lines]).encode())
+
+
+def put_lists(row, place):
+    """Makes the lists and the content of a row."""
+    put_trust(row, place)
+    place.put("signed.p7s", row.octets("of" if "of" in row.values else "file"))
+    put_answers(row, place, "questions+--trust+trusted.txt+signed.p7s")
     if "content" in row.values:
         place.put("content.txt", row.octets("content"))
 
 
-def checked(row, place, octets):
-    """The outcome of a check of these octets, or of a question about them, from a file or from a pipe."""
-    asks = row.kind == "ask"
-    words = words_of("questions+--trust+trusted.txt" if asks else "check+--trust+trusted.txt+--answers+answers.txt")
-    words += words_of("--content+content.txt") if "content" in row.values else []
-    words += words_of(row.values.get("words", ""))
-    if not row.flag("piped"):
-        place.put("signed.p7s", octets)
-        return place.run([*words, "signed.p7s"])
+def piped(place, words, octets):
+    """The outcome of words whose last file is a pipe with these octets."""
     reader, writer = os.pipe()
     try:
         if os.write(writer, octets) != len(octets):
@@ -154,6 +157,18 @@ def checked(row, place, octets):
         return place.run([*words, f"/proc/self/fd/{reader}"], (reader,))
     finally:
         os.close(reader)
+
+
+def checked(row, place, octets):
+    """The outcome of a check of these octets, or of a question about them, from a file or from a pipe."""
+    asks = row.kind == "ask"
+    words = words_of("questions+--trust+trusted.txt" if asks else "check+--trust+trusted.txt+--answers+answers.txt")
+    words += words_of("--content+content.txt") if "content" in row.values else []
+    words += words_of(row.values.get("words", ""))
+    if row.flag("piped"):
+        return piped(place, words, octets)
+    place.put("signed.p7s", octets)
+    return place.run([*words, "signed.p7s"])
 
 
 def check(row, place):
@@ -168,6 +183,22 @@ def ask(row, place):
     row.takes("trust file words piped")
     put_lists(row, place)
     return checked(row, place, row.octets("file")).said()
+
+
+def stamp(row, place):
+    """What `stamp check` says of a stamp over data, or of a path where none are."""
+    row.takes("trust stamp data silent words piped")
+    put_trust(row, place)
+    place.put("stamp", row.octets("stamp"))
+    put_answers(row, place, "stamp+questions+--trust+trusted.txt+stamp")
+    words = words_of("stamp+check+--trust+trusted.txt+--answers+answers.txt")
+    words += [*words_of(row.values.get("words", "")), "stamp"]
+    if "data" not in row.values:
+        return place.run([*words, "nowhere"]).said()
+    if row.flag("piped"):
+        return piped(place, words, row.octets("data")).said()
+    place.put("data", row.octets("data"))
+    return place.run([*words, "data"]).said()
 
 
 def cuts(row, place):
@@ -302,7 +333,7 @@ def untold(why):
 
 KINDS = {
     "commands": {
-        **{"run": run, "check": check, "ask": ask, "cuts": cuts, "lengths": lengths},
+        **{"run": run, "check": check, "ask": ask, "stamp": stamp, "cuts": cuts, "lengths": lengths},
         "task": untold("the task that words ask for is not printed"),
     },
     "files": {

@@ -168,13 +168,18 @@ def token_of(octets: bytes) -> Optional[tuple[SignedData, TstInfo]]:
         return None
 
 
-def answering(asked: Request, given: Response) -> None:
-    """P1 to P7."""
+def granted(given: Response) -> bytes:
+    """P1 and P2: the token of a response."""
     if given.status not in (b"\0", b"\1"):
         raise Refused("P1")
     if given.token is None:
         raise Refused("P2")
-    token = token_of(given.token)
+    return given.token
+
+
+def answering(asked: Request, given: Response) -> None:
+    """P1 to P7."""
+    token = token_of(granted(given))
     if token is None or len(token[0].signers) != 1:
         raise Refused("P3")
     signed, stamp = token
@@ -195,6 +200,56 @@ def certificates(signed: SignedData) -> Iterator[Certificate]:
             yield whole(element.whole(), forms.certificate)
         except Fault:
             pass
+
+
+# ---- a stamp by itself: a token, or a response that has one
+
+
+class Unread(Exception):
+    """Octets that cannot be had: the line of the failure."""
+
+
+def stamp_token(octets: bytes) -> bytes:
+    """The token of a stamp: of a response, a SEQUENCE that begins with one, the token in it; else the one whole element that the octets
+    are."""
+    if begins_as_response(octets):
+        return granted(whole(octets, forms.response))
+    return der.only(octets).whole()
+
+
+def begins_as_response(octets: bytes) -> bool:
+    """Whether octets begin with a SEQUENCE that begins with one: a token's first part is an OBJECT IDENTIFIER (RFC 5652 3)."""
+    try:
+        return Cursor(octets).take(der.SEQUENCE).body()[:1] == bytes([der.SEQUENCE])
+    except Fault:
+        return False
+
+
+def stamp_check(octets: bytes, data: Callable[[], bytes], terms: Terms) -> Said:
+    """`stamp check`; `data` reads what should be stamped, and raises `Unread` where it cannot."""
+    try:
+        moment = rules.stamped_at(stamp_token(octets), data, terms)
+    except Fault as fault:
+        return malformed(fault)
+    except Refused as rule:
+        return f"refused {rule}\n", 1
+    except Unread as failure:
+        return f"{failure}\n", 4
+    return f"accepted {der.time_text(moment)}\n", 0
+
+
+def stamp_questions(octets: bytes, terms: Terms) -> Said:
+    """`stamp questions`."""
+    try:
+        token = stamp_token(octets)
+        read_signed_data(token)
+    except Fault as fault:
+        return malformed(fault)
+    except NotSignedData:
+        return "refused Q2 NotSignedData\n", 1
+    except Refused as rule:
+        return f"refused {rule}\n", 1
+    return "".join(line + "\n" for line in ["cmsproof questions 1", *token_questions(token, terms)]), 0
 
 
 # ---- a token attached, and two files compared

@@ -3,7 +3,7 @@ those pages and the RFCs, over the readings of forms.py, and apart from the prog
 from __future__ import annotations
 
 import hashlib
-from typing import Iterable, Optional
+from typing import Callable, Iterable, Optional
 
 from oracle import der, forms, identifiers
 from oracle.der import Element, Fault
@@ -74,12 +74,16 @@ def digest(name: str, octets: bytes) -> bytes:
     return hashlib.new(name, octets).digest()
 
 
-def has_digest(imprint: Imprint, octets: bytes, sha1: bool) -> Optional[bool]:
-    """Whether an imprint is the digest of octets, None where its algorithm is not known or not allowed."""
+def imprint_name(imprint: Imprint, sha1: bool) -> Optional[str]:
+    """The name of an imprint's digest algorithm, None where it is not known or not allowed."""
     name = digest_name(imprint.alg)
-    if name is None or name == "sha1" and not sha1:
-        return None
-    return imprint.digest == digest(name, octets)
+    return None if name == "sha1" and not sha1 else name
+
+
+def has_digest(imprint: Imprint, octets: bytes, sha1: bool) -> bool:
+    """Whether an imprint is the digest of octets, by an algorithm that is known and allowed."""
+    name = imprint_name(imprint, sha1)
+    return name is not None and imprint.digest == digest(name, octets)
 
 
 # ---- a signer and a content
@@ -228,32 +232,36 @@ def token_signer(token: bytes, sha1: bool) -> tuple[Signer, bytes]:
     return signed.signers[0], signed.content
 
 
-def stamp_of(content: bytes, stamped: bytes, sha1: bool) -> TstInfo:
-    """K6 to K9: the TSTInfo of a token."""
+def stamp_of(content: bytes, sha1: bool) -> TstInfo:
+    """K6 to K8: the TSTInfo of a token, which is told without what it stamps."""
     try:
         stamp = whole(content, forms.tst_info)
     except Fault as fault:
         raise Refused("K6", fault)
     if any(e.critical for e in stamp.extensions):
         raise Refused("K7")
-    same = has_digest(stamp.imprint, stamped, sha1)
-    if same is None:
+    if imprint_name(stamp.imprint, sha1) is None:
         raise Refused("K8")
-    if not same:
-        raise Refused("K9")
     return stamp
 
 
-def token_moment(token: bytes, stamped: bytes, terms: Terms) -> str:
-    """The moment with which a token passes: K1 to K14."""
+def stamped_at(token: bytes, stamped: Callable[[], bytes], terms: Terms) -> str:
+    """The moment with which a token passes, K1 to K14; what it should stamp is asked for only once K1 to K8 hold."""
     signer, content = token_signer(token, terms.sha1)
-    moment = stamp_of(content, stamped, terms.sha1).time
+    stamp = stamp_of(content, terms.sha1)
+    if not has_digest(stamp.imprint, stamped(), terms.sha1):
+        raise Refused("K9")
     entries = left("K10", terms.of("tsa", signer.sid))
     entries = left("K11", [e for e in entries if names(signer.signed or [], e.certificate, True)])
     entries = left("K12", [e for e in entries if stamping_only(e.certificate)])
-    entries = left("K13", [e for e in entries if holds(e, moment)])
+    entries = left("K13", [e for e in entries if holds(e, stamp.time)])
     left("K14", terms.vouched(entries, signer))
-    return moment
+    return stamp.time
+
+
+def token_moment(token: bytes, stamped: bytes, terms: Terms) -> str:
+    """The moment with which a token passes for octets that are there."""
+    return stamped_at(token, lambda: stamped, terms)
 
 
 def tokens_of(signer: Signer) -> list[bytes]:

@@ -16,7 +16,7 @@ from unittest import mock
 TOP = Path(__file__).resolve().parent.parent.parent
 sys.path.insert(0, str(TOP / "tools"))
 from oracle import answers, der, expected, forms, identifiers, lists, openssl_judge, openssl_lines, rules  # noqa: E402
-from oracle import openssl_signed, rules_rows  # noqa: E402
+from oracle import openssl_signed, rules_rows, stamps_rows  # noqa: E402
 from trying import verdicts  # noqa: E402
 
 REAL = TOP / "data" / "real"
@@ -433,6 +433,14 @@ class Rules(unittest.TestCase):
         told = int(said.getvalue().splitlines()[-1].split()[0])
         self.assertGreaterEqual(told, 380)
 
+    def test_the_rows_of_stamps(self):
+        said = io.StringIO()
+        with contextlib.redirect_stdout(said):
+            status = stamps_rows.main()
+        self.assertEqual(status, 0, said.getvalue())
+        told = int(said.getvalue().splitlines()[-1].split()[0])
+        self.assertGreaterEqual(told, 190)
+
     def test_lists(self):
         digits = CERTIFICATE.hex()
         for text, fault in (
@@ -534,6 +542,20 @@ def no_length(cursor, first):
     )
 
 
+STAMP_TOKEN, STAMPED_AT = expected.stamp_token, rules.stamped_at
+
+
+def data_first(token, stamped, terms):
+    """A token that is judged once it is read what it should stamp."""
+    octets = stamped()
+    return STAMPED_AT(token, lambda: octets, terms)
+
+
+def asked_of_anything(stamp, terms):
+    """The questions of a stamp, of which nothing is refused."""
+    return "".join(line + "\n" for line in ["cmsproof questions 1", *expected.token_questions(stamp, terms)]), 0
+
+
 # what is made wrong: an object, a name there, and what is in its place
 WRONG = [
     (der, "is_boolean", lambda contents: len(contents) == 1),
@@ -558,6 +580,8 @@ WRONG = [
     (rules, "names", lambda attributes, certificate, must: True),
     (rules, "matches", lambda sid, certificate: True),
     (rules, "has_digest", lambda imprint, octets, sha1: True),
+    (rules, "imprint_name", lambda imprint, sha1: rules.digest_name(imprint.alg)),
+    (rules, "stamp_of", lambda content, sha1: forms.whole(content, forms.tst_info)),
     (rules, "key_id", lambda certificate: None),
     (rules.Terms, "vouched", lambda terms, entries, signer: entries),
     (rules, "left", lambda code, entries: entries),
@@ -567,6 +591,12 @@ WRONG = [
     (expected, "file_of", lambda octets, content, read: (read(octets), content or read(octets).content)),
     (expected, "certificates", lambda signed: iter(())),
     (expected, "token_questions", lambda token, terms: []),
+    (expected, "granted", lambda given: given.token or b""),
+    (expected, "stamp_token", lambda stamp: stamp),
+    (expected, "stamp_token", lambda stamp: expected.granted(forms.whole(stamp, forms.response))),
+    (expected, "stamp_token", lambda stamp: STAMP_TOKEN(der.Cursor(stamp).take().whole())),
+    (expected, "stamp_questions", asked_of_anything),
+    (rules, "stamped_at", data_first),
 ]
 
 

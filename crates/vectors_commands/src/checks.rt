@@ -91,22 +91,27 @@ fn checked_at(rt: &HostRuntime, row: &Row<'_>, path: &str) -> Result<String, Bad
 
 /// Makes the lists and the content of a row.
 fn put_lists(rt: &HostRuntime, row: &Row<'_>) -> Result<(), Bad> {
-    let list = row.spelled(row.text("trust")?, "\\n")?;
-    let list = format!(in row.alloc; "cmsproof trust {list}")?;
-    put(rt, "trusted.txt", list.as_bytes())?;
+    put(rt, "trusted.txt", trust_list(row)?.as_bytes())?;
     let asked = row.value("of").or(row.value("file")).unwrap_or("-");
     put(rt, "signed.p7s", &row.made(asked)?)?;
-    put_answers(rt, row)?;
+    let answers = answers_to(rt, row, "questions+--trust+trusted.txt+signed.p7s")?;
+    put(rt, "answers.txt", answers.as_bytes())?;
     if row.value("content").is_some() {
         put(rt, "content.txt", &row.octets("content")?)?;
     }
     Ok(())
 }
 
-/// Makes the answers list of the questions that are asked of the file, without those that have the word `silent=`.
-fn put_answers(rt: &HostRuntime, row: &Row<'_>) -> Result<(), Bad> {
+/// The trust list that a row has as `trust=`, without its first two words.
+pub fn trust_list(row: &Row<'_>) -> Result<String, Bad> {
+    let list = row.spelled(row.text("trust")?, "\\n")?;
+    Ok(format!(in row.alloc; "cmsproof trust {list}")?)
+}
+
+/// The answers list of the questions that these words print, without those that have the word `silent=`.
+pub fn answers_to(rt: &HostRuntime, row: &Row<'_>, asking: &str) -> Result<String, Bad> {
     let silent = row.value("silent").unwrap_or("");
-    let asked = outcome_of(rt, "questions+--trust+trusted.txt+signed.p7s")?;
+    let asked = outcome_of(rt, asking)?;
     let mut text = row.word("cmsproof answers 1\n")?;
     for line in asked.printed.as_str().lines() {
         if line.starts_with("30") && !has_part(line, ' ', silent) {
@@ -114,7 +119,7 @@ fn put_answers(rt: &HostRuntime, row: &Row<'_>) -> Result<(), Bad> {
             text.push_str("\n")?;
         }
     }
-    put(rt, "answers.txt", text.as_bytes())
+    Ok(text)
 }
 
 fn clear(rt: &HostRuntime) -> Result<(), Bad> {

@@ -5,6 +5,7 @@ mod checks;
 mod folder;
 mod outcome;
 mod runs;
+mod stamps;
 
 use vectors::{Bad, Judge, Row};
 
@@ -22,6 +23,7 @@ impl Judge for OfCommands<'_> {
             "task" => runs::said_of_task(row),
             "check" => checks::said_of_check(self.rt, row),
             "ask" => checks::said_of_ask(self.rt, row),
+            "stamp" => stamps::said_of_stamp(self.rt, row),
             "cuts" => checks::said_of_cuts(self.rt, row),
             "lengths" => runs::said_of_lengths(self.rt, row),
             _ => Err(Bad::Text("a kind of row that is not known")),

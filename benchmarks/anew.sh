@@ -21,3 +21,4 @@ part benchmarks/lists.py "$program"
 part benchmarks/streaming.py "$program" 1 512
 part benchmarks/library.py --loop 80
 part benchmarks/checking.py "$program" 1 300 3000
+part benchmarks/stamps.py "$program"

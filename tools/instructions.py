@@ -81,6 +81,8 @@ JOBS = {
     "migrate": ("cmsproof", ["migrate", "fifty.txt", "migrate.out"]),
     **{f"fit-{name}": ("cmsproof", ["fit", "--sha1", f"{name}.p7s"]) for name in measured_files.DIGEST_OIDS},
     "fit-content": ("cmsproof", ["fit", "--content", "content", "detached.p7s"]),
+    # (refused by K9, once it has been read)
+    "stamp-content": ("cmsproof", ["stamp", "check", "--trust", "few.txt", "--answers", "large.answers", "token.tok", "content"]),
     "check-large": ("cmsproof", check_of("few", "large", "large.p7s")),
     "check-pipe": ("cmsproof", check_of("few", "large", "/dev/stdin", "<large.p7s")),
     "library": ("library_job", ["fifty.txt", "small.answers", SMALL[2], "token.tok", "unstamped.p7s"]),

@@ -132,12 +132,20 @@ class Token:
     """A time-stamp token, whose one signer names a certificate."""
 
     def __init__(
-        self, at="20240115100000Z", of=b"abc", names=None, imprint=None, extensions=b"", certificates=b"", spoiled=False
+        self,
+        at="20240115100000Z",
+        of=b"abc",
+        names=None,
+        imprint=None,
+        extensions=b"",
+        certificates=b"",
+        spoiled=False,
+        alg="sha256",
     ):
         stamp = sequence(
             number(1),
             oid("2.999.3"),
-            imprint_of(sha(of) if imprint is None else imprint),
+            imprint_of(sha(of, alg) if imprint is None else imprint, alg),
             number(9),
             element(0x18, at.encode()),
             element(0xA1, extensions) if extensions else b"",
@@ -165,9 +173,9 @@ def stamped(*tokens, of=None, **rest):
     return signed_data([(of or signer()).stamped(*map(stamps, tokens))], **rest)
 
 
-def imprint_of(digest):
-    """A MessageImprint (RFC 3161 2.4.1) by SHA-256, with the parameters NULL."""
-    return sequence(sequence(oid(DIGEST_OIDS["sha256"]), element(5)), octets(digest))
+def imprint_of(digest, alg="sha256"):
+    """A MessageImprint (RFC 3161 2.4.1), with the parameters NULL."""
+    return sequence(sequence(oid(DIGEST_OIDS[alg]), element(5)), octets(digest))
 
 
 def request_of(digest, cert=False):

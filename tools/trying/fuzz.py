@@ -33,6 +33,13 @@ from trying.hostile_runs import Runs, fault_of_form  # noqa: E402
 TOP = Path(__file__).resolve().parent.parent.parent
 FOLDERS = "data/real", "crates/real_files/data"
 OCTETS = bytes.fromhex("00017f80818283848586feff0203040506080a0c0d131617181e1f30313680a0a1a2a3a4a5")
+STAMP_CHECK = ["stamp", "check", "--trust", "trust", "--answers", "answers", "in", "data"]
+# whose questions are asked of files of a kind
+ASKED = {
+    "p7s": [expected.questions],
+    "tok": [expected.questions, expected.stamp_questions],
+    "tsr": [expected.stamp_questions],
+}
 LENGTHS = [
     bytes.fromhex(h)
     for h in ("00", "7f", "80", "8100", "8180", "81ff", "820000", "82ffff", "83010000", "84ffffffff", "85", "ff")
@@ -49,6 +56,27 @@ def read_files(folders):
                     octets = file.read()
                 found.setdefault(octets, (name, kind))
     return [(name, kind, octets) for octets, (name, kind) in found.items()]
+
+
+def signatures_of(files):
+    """The signatures of all signers of the files."""
+    found = set()
+    for _, kind, octets in files:
+        try:
+            found |= {signer.signature for signer in forms.read_signed_data(octets).signers} if kind == "p7s" else set()
+        except (der.Fault, forms.NotSignedData):
+            pass
+    return sorted(found)
+
+
+def stamped_by(octets, signatures):
+    """That of the signatures which a token or a response stamps; no octets of others."""
+    try:
+        content = forms.read_signed_data(expected.stamp_token(octets)).content
+        imprint = forms.whole(content or b"", forms.tst_info).imprint
+    except (der.Fault, forms.NotSignedData, rules.Refused):
+        return b""
+    return next((signature for signature in signatures if rules.has_digest(imprint, signature, True)), b"")
 
 
 # ---- mutations of octets
@@ -182,10 +210,13 @@ class Fuzz:
         for _, kind, octets in files:
             self.known |= openssl_judge.opaque_parts(octets) or set()
         self.tried, self.read, self.findings = 0, 0, 0
+        self.signatures = signatures_of(files)
         trust = [octets for _, kind, octets in files if kind == "trust"] or [b"cmsproof trust 2\n"]
         self.trust = trust[0]
         self.runs.put("trust", self.trust)
+        self.data = b""
         self.terms = rules.Terms(lists.entries_of(self.trust), self.answered())
+        self.sha1 = rules.Terms(self.terms.trust, self.terms.answers, True)
         lines = ["cmsproof answers 1", *sorted(self.terms.answers)]
         self.runs.put("answers", "".join(line + "\n" for line in lines).encode())
         self.put_partners()
@@ -194,8 +225,8 @@ class Fuzz:
         """All questions of the files: as if each signature held."""
         lines, asking = set(), rules.Terms(lists.entries_of(self.trust), [])
         for _, kind, octets in self.files:
-            if kind in ("p7s", "tok"):
-                text, status = expected.questions(octets, asking)
+            for ask in ASKED.get(kind, ()):
+                text, status = ask(octets, asking)
                 lines.update(text.splitlines()[1:] if status == 0 else [])
         return lines
 
@@ -216,10 +247,18 @@ class Fuzz:
         )
         yield ["fit", "--sha1", "in"], expected.fits(octets, sha1=True)
         yield ["questions", "--trust", "trust", "in"], expected.questions(octets, self.terms)
+        yield from self.stamp(octets)
+
+    def stamp(self, octets):
+        """What is said of octets as a stamp, of what was stamped as the file was made."""
+        yield STAMP_CHECK, expected.stamp_check(octets, lambda: self.data, self.terms)
+        yield STAMP_CHECK[:2] + ["--sha1"] + STAMP_CHECK[2:], expected.stamp_check(octets, lambda: self.data, self.sha1)
+        yield ["stamp", "questions", "--trust", "trust", "in"], expected.stamp_questions(octets, self.terms)
 
     def response(self, octets):
         yield ["show", "response", "in"], expected.reads(octets, forms.response)
         yield ["match", "request", "in"], expected.matched(self.pair[0], octets)[:2]
+        yield from self.stamp(octets)
 
     def request(self, octets):
         yield ["show", "request", "in"], expected.reads(octets, forms.request)
@@ -234,8 +273,10 @@ class Fuzz:
 
     def one(self, chance, number):
         name, kind, octets = chance.choice(self.files)
+        self.data = stamped_by(octets, self.signatures)
         octets = mutated_octets(chance, octets) if kind == "trust" else mutated(chance, octets, self.donors)
         self.runs.put("in", octets)
+        self.runs.put("data", self.data)
         for words, (line, status) in self.kinds[kind](octets):
             answer = self.runs.run(words)
             self.tried += 1

@@ -9,17 +9,21 @@ import subprocess
 
 from oracle import expected, lists, rules
 from samples.building import request_of, sha
-from trying.hostile_inputs import CHECK, FILE, REQUEST, RESPONSE, SIGNER, TERMS, TRUST, migrated
+from trying.hostile_inputs import CHECK, FILE, REQUEST, RESPONSE, SIGNER, STAMP_CHECK, STAMP_QUESTIONS, TERMS, TRUST, migrated
 
 ACCEPTED = "accepted 20240115100000Z\n"
 DIGEST = sha(b"abc").hex()
 QUESTIONS = expected.questions(FILE, TERMS)[0]
+OF_STAMP = expected.stamp_questions(RESPONSE, TERMS)[0]
 # words with their input files, and what they print where all is well; None is some text
 PRINTING = [
     (CHECK + ["file"], ACCEPTED),
     (["questions", "--trust", "trust", "file"], QUESTIONS),
     (["fit", "file"], "fits 1\n"),
     (["match", "request", "response"], "answers\n"),
+    (STAMP_CHECK + ["token", "content"], ACCEPTED),
+    (STAMP_CHECK + ["response", "file"], "refused K9 ImprintDiffers\n"),
+    (STAMP_QUESTIONS + ["response"], OF_STAMP),
     (["compare", "unstamped", "file"], "same\n"),
     (["cert", "signer"], None),
     (["show", "signed", "file"], None),
@@ -49,6 +53,13 @@ READING = [
     (["fit", "--content", "?", "detached"], "X1"),
     (["questions", "--trust", "?", "file"], "read"),
     (["questions", "--trust", "trust", "?"], "read"),
+    (["stamp", "check", "--trust", "?", "--answers", "answers", "token", "content"], "read"),
+    (["stamp", "check", "--trust", "trust", "--answers", "?", "token", "content"], "read"),
+    (STAMP_CHECK + ["?", "content"], "read"),
+    (STAMP_CHECK + ["token", "?"], "X1"),
+    (STAMP_CHECK + ["response", "?"], "X1"),
+    (["stamp", "questions", "--trust", "?", "token"], "read"),
+    (STAMP_QUESTIONS + ["?"], "read"),
     (["match", "?", "response"], "read"),
     (["match", "request", "?"], "read"),
     (["match", "?", "response", "out"], "read"),
@@ -414,6 +425,18 @@ WORDS = [
             ["compare", "file"],
             ["match", "request"],
             ["migrate", "trust"],
+            ["stamp"],
+            ["stamp", ""],
+            ["stamp", "frob", "token"],
+            ["stamp", "check"],
+            ["stamp", "check", "token", "content"],
+            STAMP_CHECK + ["token"],
+            STAMP_CHECK + ["token", "content", "file"],
+            STAMP_CHECK + ["--content", "content", "token", "content"],
+            ["stamp", "questions", "token"],
+            STAMP_QUESTIONS,
+            STAMP_QUESTIONS + ["--answers", "answers", "token"],
+            ["stamp", "request", "--digest", DIGEST, "out"],
             *(["attach", "--signer", number, "--token", "token", "file", "out"] for number in BAD_NUMBERS),
             *(["compare", "--first", number, "file", "file"] for number in BAD_NUMBERS),
         )

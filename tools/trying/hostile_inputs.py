@@ -44,6 +44,9 @@ TERMS_ALL = rules.Terms(lists.entries_of(TRUST_ALL), LINES_ALL)
 REQUEST = request_of(sha(b"abc"), cert=True)
 RESPONSE = sequence(sequence(number(0)), made.WITH_TSA.octets)
 STAMP = forms.read_signed_data(TOKEN).content
+BY_SHA_1 = building.Token(alg="sha1")
+LINES_SHA_1 = [BY_SHA_1.signer.question(building.key(2))]
+ANSWERS_SHA_1 = ("cmsproof answers 1\n" + LINES_SHA_1[0] + "\n").encode()
 CERTIFICATES = [("cert", SIGNER), ("cert of an authority", AUTHORITY), ("cert with a key identifier", KEYED)]
 
 
@@ -75,7 +78,23 @@ def migrated(text):
     return (fault, 2, None) if fault else ("", 0, lists.written(entries))
 
 
+def stamp_with_lists(trust, answers):
+    """What `stamp check` says of the response with these lists."""
+    entries, fault = lists.trust(trust)
+    if fault:
+        return fault, 2
+    lines, fault = lists.answers(answers)
+    return (fault, 2) if fault else expected.stamp_check(RESPONSE, lambda: b"abc", rules.Terms(entries, lines))
+
+
+def missing():
+    """What is read of the file `missing`."""
+    raise expected.Unread("failed open missing")
+
+
 CHECK = ["check", "--trust", "trust", "--answers", "answers"]
+STAMP_CHECK = ["stamp", *CHECK]
+STAMP_QUESTIONS = ["stamp", "questions", "--trust", "trust"]
 BUFFER = CHECK + ["--buffer"]
 QUESTIONS = ["questions", "--trust", "trust"]
 ATTACH = ["attach", "--signer", "1", "--token"]
@@ -133,6 +152,36 @@ COMMANDS = [
         ["check", "--trust", "trust", "--answers", "in", "file"],
         lambda o: check_with_lists(TRUST, o),
     ),
+    ("stamp check, token", TOKEN, STAMP_CHECK + ["in", "content"], lambda o: expected.stamp_check(o, lambda: b"abc", TERMS)),
+    (
+        "stamp check, response",
+        RESPONSE,
+        STAMP_CHECK + ["in", "content"],
+        lambda o: expected.stamp_check(o, lambda: b"abc", TERMS),
+    ),
+    ("stamp check, other data", TOKEN, STAMP_CHECK + ["in", "file"], lambda o: expected.stamp_check(o, lambda: FILE, TERMS)),
+    ("stamp check without data", RESPONSE, STAMP_CHECK + ["in", "missing"], lambda o: expected.stamp_check(o, missing, TERMS)),
+    ("stamp check, data", b"abc", STAMP_CHECK + ["token", "in"], lambda o: expected.stamp_check(TOKEN, lambda: o, TERMS)),
+    (
+        "stamp check --sha1",
+        BY_SHA_1.octets,
+        ["stamp", "check", "--trust", "trust", "--answers", "answers-sha1", "--sha1", "in", "content"],
+        lambda o: expected.stamp_check(o, lambda: b"abc", rules.Terms(TERMS.trust, LINES_SHA_1, True)),
+    ),
+    (
+        "stamp check, trust list",
+        TRUST_2,
+        ["stamp", "check", "--trust", "in", "--answers", "answers", "response", "content"],
+        lambda o: stamp_with_lists(o, ANSWERS),
+    ),
+    (
+        "stamp check, answers list",
+        ANSWERS,
+        ["stamp", "check", "--trust", "trust", "--answers", "in", "response", "content"],
+        lambda o: stamp_with_lists(TRUST, o),
+    ),
+    ("stamp questions, token", TOKEN, STAMP_QUESTIONS + ["in"], lambda o: expected.stamp_questions(o, TERMS)),
+    ("stamp questions, response", RESPONSE, STAMP_QUESTIONS + ["in"], lambda o: expected.stamp_questions(o, TERMS)),
 ]
 BESIDE = {
     "trust": TRUST,
@@ -145,6 +194,7 @@ BESIDE = {
     "file": FILE,
     "trust-all": TRUST_ALL,
     "answers-all": ANSWERS_ALL,
+    "answers-sha1": ANSWERS_SHA_1,
     "detached": DETACHED,
     "signer": SIGNER,
     "stamp": STAMP,

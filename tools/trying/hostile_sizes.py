@@ -9,7 +9,7 @@ from oracle.der import element, number, octets, oid, sequence
 from samples import building
 from samples.building import attribute, extension, request_of, sha, signed_data, stamp_attribute, stamps
 from samples.signed_files import PLAIN, TOKEN
-from trying.hostile_inputs import ANSWERS, AUTHORITY, CHECK, SIGNER, TRUST
+from trying.hostile_inputs import ANSWERS, AUTHORITY, CHECK, SIGNER, STAMP_CHECK, STAMP_QUESTIONS, TRUST
 from trying.hostile_runs import measured
 
 DEPTH, COUNT, STACK = 100_000, 1_000_000, 512 << 10
@@ -55,6 +55,11 @@ def request_with(end):
     return sequence(der.only(request_of(sha(b"abc"))).body(), end)
 
 
+def granted_nested(depth):
+    """A response with so many elements, one in the other, in the place of its token."""
+    return sequence(sequence(number(0)), nested(depth))
+
+
 KEEPING = CHECK + ["--buffer", str(64 << 20)]
 # name, the octets of `in` of a size, words, and what they print; None where a text of that size is printed
 NESTED = [
@@ -81,6 +86,10 @@ NESTED = [
         ["match", "request", "in"],
         "refused P3 TokenMalformed\n",
     ),
+    ("a stamp", nested, STAMP_CHECK + ["in", "content"], "malformed M6 Tag at %d\n"),
+    ("a token in a stamp", granted_nested, STAMP_CHECK + ["in", "content"], "refused K1 M6 Tag at %d\n"),
+    ("a token in a stamp, asked", granted_nested, STAMP_QUESTIONS + ["in"], "malformed M6 Tag at %d\n"),
+    ("a certificate of a stamp", lambda n: response_with(nested(n)), STAMP_CHECK + ["in", "content"], ACCEPTED),
 ]
 MANY = [
     ("unsigned attributes", lambda n: stamped_with(*[SMALL] * n), KEEPING + ["in"], ACCEPTED),
@@ -102,6 +111,21 @@ MANY = [
         ["match", "wanting", "in"],
         "refused P7 CertMissing\n",
     ),
+    ("certificates of a stamp", lambda n: response_with(b"\x30\0" * n), STAMP_CHECK + ["in", "content"], ACCEPTED),
+    ("certificates of a stamp, asked", lambda n: response_with(b"\x30\0" * n), STAMP_QUESTIONS + ["in"], None),
+    (
+        "extensions of a stamp",
+        lambda n: building.Token(extensions=extensions(n)).octets,
+        STAMP_CHECK + ["in", "content"],
+        "refused K14 SignatureFails\n",
+    ),
+    (
+        "texts of a stamp",
+        lambda n: sequence(sequence(number(1), sequence(b"\x0c\1a" * n)), TOKEN.octets),
+        STAMP_CHECK + ["in", "content"],
+        ACCEPTED,
+    ),
+    ("octets of DATA", lambda n: b"a" * (100 * n), STAMP_CHECK + ["token", "in"], "refused K9 ImprintDiffers\n"),
     (
         "attributes beside a new token",
         lambda n: signed_data([PLAIN.stamped(*[SMALL] * n)]),
@@ -164,6 +188,12 @@ LINES = [
     ("a bad line behind comments", lambda n: TRUST + b"#\n" * n + b"bad", MIGRATE, "trust L2 Line at line %d\n"),
     ("lines of an answers list", lambda n: ANSWERS + b"- - - - -\n" * n, IN_ANSWERS, ACCEPTED),
     ("answers, the wanted one last", lambda n: ANSWERS[:19] + b"00 01 02 03 04\n" * n + ANSWERS[19:], IN_ANSWERS, ACCEPTED),
+    (
+        "entries that are tried of a stamp",
+        lambda n: TRUST + b"tsa %s\n" % hexes(AUTHORITY) * n,
+        ["stamp", "check", "--trust", "in", "--answers", "answers", "token", "content"],
+        ACCEPTED,
+    ),
     ("octets of one line", lambda n: TRUST + b"signer " + b"30" * n, MIGRATE, "trust L3 Certificate at line 4\n"),
 ]
 
@@ -176,6 +206,9 @@ def line_of(printed, name, size):
         "a file": lambda n: len(der.header(0x30, len(nested(n - 1)))),
         "signers of `fit`": lambda n: n,
         "a bad line behind comments": lambda n: n + 4,
+        "a stamp": lambda n: len(nested(n)) - len(nested(n - 2)),
+        "a token in a stamp": lambda n: len(nested(n)) - len(nested(n - 1)),
+        "a token in a stamp, asked": lambda n: len(nested(n)) - len(nested(n - 1)),
     }[name](size)
 
 

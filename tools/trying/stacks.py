@@ -22,7 +22,7 @@ from pathlib import Path
 sys.path.insert(0, str(Path(__file__).resolve().parent.parent))
 from trying import hostile_devices, hostile_sizes  # noqa: E402
 from trying.failing import write_long  # noqa: E402
-from trying.hostile_inputs import CHECK, QUESTIONS, write  # noqa: E402
+from trying.hostile_inputs import CHECK, QUESTIONS, STAMP_CHECK, STAMP_QUESTIONS, write  # noqa: E402
 
 STEP, MOST = 4, 1024
 NAMES = ["f%03d" % number for number in range(256)]
@@ -47,6 +47,10 @@ ROWS = {
     "`questions` of two files and of 256": [QUESTIONS + ["file", "unstamped"], QUESTIONS + NAMES],
     "`check` of one file, also through a pipe": [CHECK + [name] for name in ("file", "signers", "cut", PIPE)],
     "`check` of two files and of 256": [CHECK + ["file", "unstamped"], CHECK + NAMES],
+    "`stamp check`, also of data through a pipe": [
+        STAMP_CHECK + words for words in (["token", "content"], ["response", "content"], ["token", PIPE])
+    ],
+    "`stamp questions` of one file and of 256": [STAMP_QUESTIONS + ["response"], STAMP_QUESTIONS + NAMES],
     "`check --content`": [CHECK + ["--content", "content", name] for name in ("detached", "long-detached")],
 }
 

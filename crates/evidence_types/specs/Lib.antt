@@ -1,0 +1,11 @@
+pub mod EvidenceTable
+pub mod StampValue
+pub mod EvidenceValue
+pub mod FilledReading
+pub mod StampReading
+pub mod EvidenceReading
+pub mod EvidenceFields
+pub mod Laws
+pub mod EvidenceVectors
+pub mod EvidenceRows
+pub mod EvidenceFaultRows

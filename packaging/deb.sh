@@ -60,7 +60,7 @@ echo 'activate-noawait ldconfig' > "$shared/DEBIAN/triggers"
 
 texts "$dev" libcmsproof-dev
 development "$dev/usr" "$dev/$places"
-install -m 644 "$top/docs/LIBRARY.md" "$top/docs/check.c" "$top/docs/Check.java" "$dev/usr/share/doc/libcmsproof-dev"
+install -m 644 "$top/docs/LIBRARY.md" "$top/docs/check.c" "$top/docs/stamp.c" "$top/docs/Check.java" "$dev/usr/share/doc/libcmsproof-dev"
 
 package "$one" cmsproof "$one/usr/bin/cmsproof" "$one/usr/lib/cmsproof/cmsproof/libcmsproof.so.1"
 package "$shared" libcmsproof1 "$shared/$places/libcmsproof.so.1"

@@ -8,14 +8,15 @@ import sys
 import unittest
 from pathlib import Path
 
-from making import INSTALLED, PROGRAM, REAL, TOP, folder_of, need_tools
+from making import ACCEPTED, INSTALLED, PROGRAM, REAL, TOP, folder_of, need_tools
+from oracle import der, forms, identifiers
 
 need_tools()
 
 NEEDED = ("cc", "ar", "ld", "objcopy", "nm", "readelf")
 SOURCES = TOP / "tools" / "tests" / "library"
-# the program that the document names
-CHECK = TOP / "docs" / "check.c"
+# the programs that the document names
+CHECK, STAMP = TOP / "docs" / "check.c", TOP / "docs" / "stamp.c"
 SANITIZED = ["-fsanitize=address,undefined", "-fno-sanitize-recover=all"]
 
 
@@ -85,6 +86,37 @@ class Library(unittest.TestCase):
                 self.assertIn(str(other), done.stderr)
         with open("/dev/full", "wb") as full:
             done = subprocess.run([program, *good], stdout=full, stderr=subprocess.PIPE, check=False)
+        self.assertEqual(done.returncode, 4)
+
+    def stamped(self, name):
+        """The token of a real file's one signer by itself, and beside it the signature's octets, which it stamps."""
+        (signer,) = forms.read_signed_data((REAL / name).read_bytes()).signers
+        wanted = der.oid_contents(identifiers.TIME_STAMP_TOKEN)
+        (token,) = [value.whole() for of, values in signer.unsigned if of == wanted for value in values]
+        for place, octets in ("stamp", token), ("data", signer.signature), ("other", signer.signature + b"x"):
+            (self.folder / place).write_bytes(octets)
+        asked = run(PROGRAM, "stamp", "questions", "--trust", REAL / "trust.txt", self.folder / "stamp")
+        (self.folder / "answers").write_bytes(run(INSTALLED / "cmsproof-verify", input=asked))
+        return [self.folder / place for place in ("answers", "stamp", "data")]
+
+    def test_the_program_of_stamps(self):
+        program, trust, good = self.program(STAMP), REAL / "trust.txt", self.stamped("rsa_attached_ts.p7s")
+        answers, stamp, data = good
+        for under, line, status in ((data, ACCEPTED, 0), (self.folder / "other", "refused K9 ImprintDiffers", 1)):
+            command = [PROGRAM, "stamp", "check", "--trust", trust, "--answers", answers, stamp, under]
+            for words in command, [program, trust, answers, stamp, under]:
+                done = subprocess.run(words, capture_output=True, text=True, check=False)
+                self.assertEqual((done.returncode, done.stdout, done.stderr), (status, line + "\n", ""))
+        # what cannot be read is no stamp that is refused, nor data of no octets
+        (self.folder / "long").write_bytes(bytes(1 << 26))
+        for place in range(4):
+            for other in (REAL / "none", self.folder, self.folder / "long"):
+                words = [program, *[trust, *good][:place], other, *[trust, *good][place + 1 :]]
+                done = subprocess.run(words, capture_output=True, text=True, check=False)
+                self.assertEqual((done.returncode, done.stdout, len(done.stderr.splitlines())), (4, "", 1))
+                self.assertIn(str(other), done.stderr)
+        with open("/dev/full", "wb") as full:
+            done = subprocess.run([program, trust, *good], stdout=full, stderr=subprocess.PIPE, check=False)
         self.assertEqual(done.returncode, 4)
 
     def test_what_programs_were_built_on_is_there(self):

@@ -16,7 +16,7 @@ from unittest import mock
 TOP = Path(__file__).resolve().parent.parent.parent
 sys.path.insert(0, str(TOP / "tools"))
 from oracle import answers, der, expected, forms, identifiers, lists, openssl_judge, openssl_lines, rules  # noqa: E402
-from oracle import openssl_signed, rules_rows, stamps_rows  # noqa: E402
+from oracle import openssl_signed, real_stamps, rules_rows, stamps_rows  # noqa: E402
 from trying import verdicts  # noqa: E402
 
 REAL = TOP / "data" / "real"
@@ -504,6 +504,13 @@ class OpenSsl(unittest.TestCase):
                 less, status = expected.check(octets, rules.Terms(asking.trust, set(vouched) - {one}), content)
                 self.assertRegex(less, "^refused signer [12] (S9|token 1 K14) SignatureFails\n$")
                 self.assertEqual(status, 1)
+
+    def test_the_stamps_of_real_files(self):
+        with tempfile.TemporaryDirectory() as folder:
+            compared = real_stamps.Compared(real_stamps.Judges(Path(folder), REAL / "trust.txt", None, False))
+            for found in real_stamps.found_in([FOREIGN], []):
+                compared.take(found)
+        self.assertEqual((dict(compared.table), compared.faults), ({("accepted", "OK"): 6}, 0))
 
     def test_the_moments_of_tokens(self):
         for name, place, verdict in verdicts.EXPECTED:

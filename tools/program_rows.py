@@ -131,8 +131,11 @@ def put_trust(row, place):
 
 
 def put_answers(row, place, asking):
-    """Makes the answers list of the questions that these words print, without those with a silent word."""
-    asked = place.run(words_of(asking)).printed.splitlines(keepends=True)
+    """Makes the answers list of the questions that these words print, without those with a silent word; of none where they are untold."""
+    try:
+        asked = place.run(words_of(asking)).printed.splitlines(keepends=True)
+    except Untold:
+        asked = []
     silent = row.values.get("silent", "")
     lines = [line for line in asked if line.startswith("30") and silent not in line.rstrip("\n").split(" ")]
     place.put("answers.txt", "".join(["cmsproof answers 1\n", *lines]).encode())

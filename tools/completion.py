@@ -104,10 +104,19 @@ def of_program(program: Path) -> Iterator[Command]:
             others = tuple(pair for pair in commands if pair[0] != "help")
             yield Command(("cmsproof", "help"), about, (), (*others, ("help", about)), False)
         else:
-            text = shown(program, name)
-            first = re.search(r"^Arguments:\n  <(\w+)> +(.*)$", text, re.M)
-            values = choices_in(first[2]) if first else ()
-            yield Command(("cmsproof", name), about, tuple(options_in(text)), tuple((value, "") for value in values))
+            yield of_command(program, name, about)
+
+
+def of_command(program: Path, name: str, about: str) -> Command:
+    """A command of the program. One that stands before others, as `stamp`, has the options of all of them."""
+    text = shown(program, name)
+    others = [pair for pair in commands_in(text) if pair[0] != "help"]
+    if others:
+        options = {one.name: one for other, _ in others for one in options_in(shown(program, name, other))}
+        return Command(("cmsproof", name), about, tuple(options.values()), tuple(others))
+    first = re.search(r"^Arguments:\n  <(\w+)> +(.*)$", text, re.M)
+    values = choices_in(first[2]) if first else ()
+    return Command(("cmsproof", name), about, tuple(options_in(text)), tuple((value, "") for value in values))
 
 
 # ---- the tools

@@ -11,6 +11,7 @@ _cmsproof_options() {
     'cmsproof match') echo '--help' ;;
     'cmsproof check') echo '--trust --answers --content --sha1 --buffer --files-from --null --help' ;;
     'cmsproof questions') echo '--trust --buffer --files-from --null --help' ;;
+    'cmsproof stamp') echo '--trust --answers --sha1 --help --files-from --null' ;;
     'cmsproof attach') echo '--signer --token --help' ;;
     'cmsproof compare') echo '--first --second --help' ;;
     'cmsproof migrate') echo '--help' ;;
@@ -27,9 +28,10 @@ _cmsproof_options() {
 # _cmsproof_firsts PLACE: what the first other word of a command can be.
 _cmsproof_firsts() {
     case $1 in
-    'cmsproof') echo 'request show cert fit match check questions attach compare migrate help' ;;
+    'cmsproof') echo 'request show cert fit match check questions stamp attach compare migrate help' ;;
     'cmsproof show') echo 'request response signed tst' ;;
-    'cmsproof help') echo 'request show cert fit match check questions attach compare migrate help' ;;
+    'cmsproof stamp') echo 'check questions' ;;
+    'cmsproof help') echo 'request show cert fit match check questions stamp attach compare migrate help' ;;
     'cmsproof-archive') echo 'report evidence' ;;
     esac
 }
@@ -53,6 +55,9 @@ _cmsproof_values() {
     'cmsproof questions --trust') echo files ;;
     'cmsproof questions --buffer') echo '' ;;
     'cmsproof questions --files-from') echo files ;;
+    'cmsproof stamp --trust') echo files ;;
+    'cmsproof stamp --answers') echo files ;;
+    'cmsproof stamp --files-from') echo files ;;
     'cmsproof attach --signer') echo '' ;;
     'cmsproof attach --token') echo files ;;
     'cmsproof compare --first') echo '' ;;
@@ -127,6 +132,7 @@ _cmsproof() {
     'cmsproof match') place=$tool\ ${COMP_WORDS[1]} ;;
     'cmsproof check') place=$tool\ ${COMP_WORDS[1]} ;;
     'cmsproof questions') place=$tool\ ${COMP_WORDS[1]} ;;
+    'cmsproof stamp') place=$tool\ ${COMP_WORDS[1]} ;;
     'cmsproof attach') place=$tool\ ${COMP_WORDS[1]} ;;
     'cmsproof compare') place=$tool\ ${COMP_WORDS[1]} ;;
     'cmsproof migrate') place=$tool\ ${COMP_WORDS[1]} ;;

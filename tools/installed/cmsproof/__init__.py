@@ -5,8 +5,8 @@
     print(verdict.accepted, verdict.moment, verdict.line)
 
 `check` is what the commands `cmsproof questions`, `cmsproof-verify` and `cmsproof check` are together, and says the same line.
-`fit`, `compare`, `match`, `attach`, `request` and `show` are the commands of these names, and `request_of_signature` is
-`request --of`. A refusal is a value, a `Verdict` with
+`fit`, `compare`, `match`, `attach`, `request` and `show` are the commands of these names, `request_of_signature` is
+`request --of`, and `stamp.check` judges a time-stamp by itself. A refusal is a value, a `Verdict` with
 `accepted` False, or a `Result` with `done` False. Exceptions are for wrong use, for files that cannot be read or that
 change meanwhile, for lists that are none (`ListRefused`), and for memory that is refused (`MemoryError`). These modules are
 tested, and nothing about them is proved.
@@ -22,6 +22,7 @@ from cmsproof.verdicts import Unexpected, Verdict
 from cmsproof.verifiers import Verifier, cryptography_verifier
 
 if TYPE_CHECKING:
+    from cmsproof import stamp
     from cmsproof.commands import attach, compare, fit, match, request, request_of_signature, show
     from cmsproof.results import Result
     from cmsproof.tokens import check_token
@@ -45,6 +46,7 @@ __all__ = [
     "request",
     "request_of_signature",
     "show",
+    "stamp",
 ]
 
 # what is read once it is asked for, and its module
@@ -56,10 +58,12 @@ LATER = {
 
 
 def __getattr__(name: str) -> Any:
+    if name == "stamp":
+        return import_module("cmsproof.stamp")
     if name not in LATER:
         raise AttributeError(f"module {__name__!r} has no attribute {name!r}")
     return getattr(import_module(f"{__name__}.{LATER[name]}"), name)
 
 
 def __dir__() -> list[str]:
-    return sorted({*globals(), *LATER})
+    return sorted({*globals(), *LATER, "stamp"})

@@ -9,7 +9,7 @@ from typing import TYPE_CHECKING, Any, Iterable
 
 from cmsproof import ListRefused, TrustList
 from cmsproof.octets import File
-from cmsproof_tools import descriptors
+from cmsproof_tools import descriptors, stamps
 from cmsproof_tools.checking import Unread, Work, content_named, outcomes_of, outcomes_of_several
 from cmsproof_tools.descriptors import path_of
 from cmsproof_tools.issuer_words import asked_of, names_issuers
@@ -146,11 +146,16 @@ def names_of(tool: str, given: argparse.Namespace, pairs: Pairs) -> tuple[list[s
             below = list(files_under(name, lambda skipped, kind: tell(tool, f"{shown(skipped)}: skipped: it is {kind}")))
             if not below:
                 tell(tool, f"{shown(name)}: no file is in it")
+            if given.stamps:
+                # (what a stamp is of stands in the same folder)
+                below = [one for one in below if one in pairs.named or not stamps.belongs(one)]
             walked += below
             names += below
         else:
             names += names_in("-", given.null) if name == "-" else [name]
     names += [name for path in given.files_from for name in names_in(path, given.null)]
+    if given.stamps:
+        names = stamps.without_belonging(names, pairs.named.__contains__)
     if pairs.named:
         known = set(names)
         names += [name for name in pairs.named if name not in known]
@@ -176,7 +181,8 @@ def check_outputs(parser: Words, given: argparse.Namespace, names: list[str], pa
     lists = [*states, given.known, given.content, *given.files_from, *given.pairs_from]
     in_folders = [found for folder in given.crl_dir for found in directly_in(folder)]
     issuers = [*given.issuer, *given.tsa_issuer, *given.intermediate, *given.crl, *in_folders, *given.ocsp, *given.trusted_list]
-    read = [*lists, *issuers, given.scheme_operator, *names, *filter(None, map(pairs.content_of, names))]
+    beside = [one for name in names for one in stamps.judged_with(name)] if given.stamps else []
+    read = [*lists, *issuers, given.scheme_operator, *names, *filter(None, map(pairs.content_of, names)), *beside]
     if given.log is not None:
         check_kept(given.log, [given.trust, given.write_trust, *read])
     if given.write_trust is not None:

@@ -75,7 +75,8 @@ def add_contents(parser: Words) -> None:
     parser.add_argument("--pairs-from", action="append", default=[], metavar="FILE", help=listed)
     parser.add_argument("--sha1", action="store_true", help="allow SHA-1 as a digest of contents and stamped signatures")
     parser.add_argument("--partial", action="store_true", help="allow signatures that do not cover the whole file, with a note")
-    parser.add_argument("--stamps", action="store_true", help="allow time-stamps in files that have no accepted signature")
+    stamps = "allow time-stamps without an accepted signature, in a file, or beside it as FILE.tsr or FILE.tst"
+    parser.add_argument("--stamps", action="store_true", help=stamps)
 
 
 def add_state(parser: Words) -> None:

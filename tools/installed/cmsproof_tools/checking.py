@@ -19,6 +19,7 @@ from cmsproof_tools.found import Found, Unfound
 from cmsproof_tools.outcomes import Outcome
 from cmsproof_tools.pairs import Pairs
 from cmsproof_tools.running import DONE, FAILED, MALFORMED, REFUSED, Started, module, shown
+from cmsproof_tools.stamps import may_have
 from cmsproof_tools.texts import answers_of, lines_asked
 
 if TYPE_CHECKING:
@@ -38,7 +39,7 @@ class Work(NamedTuple):
     """What is the same for all files: the trust list, as the library has it and as it was read, the content, if one is named,
     whether SHA-1 is allowed and refusals are explained, the files that are open already, which contents stand beside their
     signatures and are themselves among the files, whether a signature may cover a part of its file alone, whether a time-stamp
-    needs no signature beside it, and by what a state notes what is said.
+    needs no signature beside it and may stand beside its file, and by what a state notes what is said.
 
     The descriptor of a file that cannot be opened is the error, and so is a content that cannot be read.
     """
@@ -211,7 +212,10 @@ def explained(work: Work, outcome: Outcome, found: Found) -> Outcome:
             from cmsproof_tools.lines import parts_of
 
             parts = parts_of(outcome.status, outcome.line) or {}
-            text = module("explaining").explanation(found.signed, work.trust.text, parts, outcome.line, outcome.converted)
+            is_stamp = found.kind in STAMPS
+            text = module("explaining").explanation(
+                found.signed, work.trust.text, parts, outcome.line, outcome.converted, is_stamp
+            )
             return outcome._replace(explanation=text)
     except Exception:  # an explanation is read by an own reader, of octets that anybody can write
         pass
@@ -225,6 +229,8 @@ def with_cure(work: Work, outcome: Outcome, code: str) -> Outcome:
 
 # what a valid time-stamp is said to be, which is not `accepted`: it says when octets were there, and not whose they are
 STAMPED = "stamped "
+# the kinds of what is found that are time-stamps
+STAMPS = ("token", "stamp")
 # of how many octets a file is short
 SHORT = 1 << 16
 # what is said of a file that is not signed
@@ -233,17 +239,19 @@ UNSIGNED = ("refused F1 ", "refused C2 ", "malformed ")
 
 def verdict_of(work: Work, found: Found, content: Union[Buffer, None], judge: Judge) -> cmsproof.Verdict:
     """What the library says of a signature, or of a time-stamp over a content."""
-    if found.kind == "token" and content is not None:
-        return cmsproof.check_token(found.signed, content, trust=work.trust, verifier=judge, sha1=work.sha1)
+    if found.kind in STAMPS and content is not None:
+        return cmsproof.stamp.check(found.signed, content, trust=work.trust, verifier=judge, sha1=work.sha1)
     return cmsproof.check(found.signed, trust=work.trust, content=content, verifier=judge, sha1=work.sha1)
 
 
 class Reading(NamedTuple):
-    """A file that is judged, the one beside it that is its content, and when its reading began, in nanoseconds since 1970."""
+    """A file that is judged, the one beside it that is its content, and when its reading began, in nanoseconds since 1970; and the other
+    files by which it is judged, as stamps, or None for one that cannot be read."""
 
     file: File
     beside: Union[File, None]
     begun: int
+    others: tuple[Union[File, None], ...] = ()
 
 
 class Draft(NamedTuple):
@@ -259,7 +267,11 @@ class Draft(NamedTuple):
 
 def may_wait(reading: Reading, outcomes: list[Outcome]) -> bool:
     """Whether a file's records may be made later: its octets are a copy, and few. (What a container has may be longer than the file.)"""
-    if len(reading.file.octets) > SHORT or (reading.beside is not None and len(reading.beside.octets) > SHORT):
+    if (
+        len(reading.file.octets) > SHORT
+        or reading.others
+        or (reading.beside is not None and len(reading.beside.octets) > SHORT)
+    ):
         return False
     return not any(outcome.container for outcome in outcomes)
 
@@ -301,7 +313,7 @@ def outcome_by(work: Work, reading: Reading, found: Found, judge: Judge, verdict
     content = found.content if beside is None else beside.octets
     if (other := again_in_der(found, verdict.code)) is not None:
         return outcome_of(work, reading, other, name)
-    line = verdict.line.replace("accepted ", STAMPED, 1) if found.kind == "token" else verdict.line
+    line = verdict.line.replace("accepted ", STAMPED, 1) if found.kind in STAMPS else verdict.line
     said = Outcome(
         name,
         STATUSES[verdict.verdict],
@@ -367,7 +379,10 @@ def outcomes_of(work: Work, name: str, read: Union[Reading, None] = None) -> lis
             return outcomes_in(work, name, read)
         begun = time_ns()
         with open_file(work, name) as file, content_beside(work, name) as beside:
-            return outcomes_in(work, name, Reading(file, beside, begun))
+            reading = Reading(file, beside, begun)
+            if work.stamps and may_have(name):
+                return list(module("stamping").outcomes_in(work, name, reading))
+            return outcomes_in(work, name, reading)
     except Exception as error:
         return [failed(name, error)]
 
@@ -379,8 +394,10 @@ def outcomes_in(work: Work, name: str, reading: Reading) -> list[Outcome]:
 
 
 def short(work: Work, name: str) -> Union[Reading, None]:
-    """A short file that has no content beside it, of which a copy is read; None of any other, and where anything fails."""
+    """A short file that has no content and no stamp beside it, of which a copy is read; None of any other, and where anything fails."""
     try:
+        if work.stamps and may_have(name):
+            return None
         begun = time_ns()
         with open_file(work, name, SHORT) as file:
             if type(file.octets) is not bytes or len(file.octets) > SHORT:

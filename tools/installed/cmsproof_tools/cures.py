@@ -508,10 +508,32 @@ ROWS = (
         "11",
         "F15 StampAlone",
         "a time-stamp is good, and no signature of the file is accepted. Anybody gets a stamp for any "
-        "octets: it says when they were there, and not whose they are",
+        "octets: it says when they were there, and not whose they are. With `--stamps`: FILE, which `FILE.tsr` or "
+        "`FILE.tst` would stamp, is missing",
         "`--stamps`, if you ask for the moment alone: the line is then `stamped TIME`",
     ),
 )
+
+
+# What helps where a stamp is over a file, or over what a PDF or an ASiC has of it, and not over a signature; and the other cause that a
+# rule then has.
+AS_MADE = (
+    "get the stamp as the authority made it, its response or the token, in DER; a new stamp of the file, made by "
+    "`cmsproof request FILE`, says a later time"
+)
+RIGHT_ONE = "have an authority that does it right stamp the file, which then has a later time, or get the stamp as the authority made it"
+OF_STAMPS: dict[str, tuple[str, str]] = {
+    **{f"M{number}": ("", AS_MADE) for number in range(1, 16)},
+    "K1": ("the token is not a ContentInfo in DER, or is one of another type", AS_MADE),
+    **dict.fromkeys(("K2", "K3", "K4", "K6", "K7", "K11"), ("", RIGHT_ONE)),
+    "K5": ("", "`--sha1` allows that; else " + RIGHT_ONE),
+    "K9": (
+        "its imprint is not the digest of the file, or of what of it the stamp is over: the file was changed since, or the stamp is that "
+        "of another file, or of a signature",
+        "find the file as it was, or its own stamp; a new one, made by `cmsproof request FILE`, says a later time",
+    ),
+    "P1": ("", "`cmsproof show response` says why; ask the authority again"),
+}
 
 
 def known_cures() -> dict[str, Cure]:
@@ -524,7 +546,10 @@ def plain(text: str) -> str:
     return text.replace("`", "")
 
 
-def said_of(code: str) -> str:
-    """The cause and the cure of a code in one line; no text of one that is not known."""
+def said_of(code: str, of_stamp: bool = False) -> str:
+    """The cause and the cure of a code in one line, of that of a stamp of a file what is known of such; no text of one that is not known."""
     cure = known_cures().get(code)
-    return "" if cure is None else plain(f"Cause: {cure.when}. Cure: {cure.cure} (REFUSALS.md, section {cure.section}).")
+    if cure is None:
+        return ""
+    cause, helps = OF_STAMPS.get(code, ("", "")) if of_stamp else ("", "")
+    return plain(f"Cause: {cause or cure.when}. Cure: {helps or cure.cure} (REFUSALS.md, section {cure.section}).")

@@ -141,7 +141,7 @@ def grounds_of(
         return grounds_text(
             tuple((role, noting.keys.get((role, one.key), ()), digest_of(one.digest)) for role, one in roles), ()
         )
-    if found.kind == "token":
+    if found.kind != "signed":
         holds = tuple(("tsa", noting.keys.get(("tsa", one.key), ()), digest_of(one.digest)) for one in vouched)
         return grounds_text(holds, (Decided(0, 0, sums_of([one for _, listed, _ in holds for one in listed]), ()),))
     try:

@@ -16,7 +16,7 @@ from cmsproof_tools.certificates import Certificate
 from cmsproof_tools.cures import known_cures, plain, said_of
 from cmsproof_tools.listing import is_by_issuers, is_for_no_time
 from cmsproof_tools.running import shown
-from cmsproof_tools.signed_parts import IN_CONTENT, TST_INFO, content_type_of, parts_of, some, spans
+from cmsproof_tools.signed_parts import IN_CONTENT, TST_INFO, content_type_of, parts_of, some, token_of_stamp
 from cmsproof_tools.texts import TrustEntry, in_order, is_moment, trust_entries
 
 TOKEN = "1.2.840.113549.1.9.16.2.14"
@@ -202,10 +202,10 @@ def of_parties(octets: Buffer, trusted: bytes, parts: dict[str, str]) -> str:
     return of_certificate(trusted, "tsa", signers[0].sid, times, code)
 
 
-def of_code(code: str, line: str) -> str:
+def of_code(code: str, line: str, of_stamp: bool = False) -> str:
     """The cause and the cure of a code, and of the fault behind it that the line has."""
     behind = known_cures().get(found[1]) if (found := BEHIND.search(line)) else None
-    return said_of(code) + (f" Behind it: {plain(behind.when)}." if behind else "")
+    return said_of(code, of_stamp) + (f" Behind it: {plain(behind.when)}." if behind else "")
 
 
 def token_fault(token: bytes) -> str:
@@ -231,9 +231,7 @@ def of_response(octets: Buffer) -> str:
     whole = bytes(octets)
     if len(whole) > LONGEST or cmsproof.show("response", whole).get("token") != "present":
         return ""
-    ((_, _, begin, end),) = some(whole, 0, len(whole), 1)
-    _, _, _, after = next(spans(whole, begin, end))
-    fault = token_fault(whole[after:end])
+    fault = token_fault(bytes(token_of_stamp(whole)))
     return f" Of the token in the response: {fault}." if fault else " The token in the response has its form."
 
 
@@ -244,9 +242,24 @@ def of_token(octets: Buffer, converted: str) -> str:
     return TOKEN_ALONE + (f". What `match` (P3) and `attach` (A3) do not take of it: {fault}" if fault else "")
 
 
-def explanation(octets: Buffer, trusted: bytes, parts: dict[str, str], line: str = "", converted: str = "") -> str:
+def of_file_stamp(octets: Buffer, trusted: bytes, parts: dict[str, str], line: str) -> str:
+    """What explains the refusal of a stamp of a file, or of what a container has of it, which is no signature."""
+    code = parts.get("code", "")
+    try:
+        if code in ("K10", "K13"):
+            return of_parties(token_of_stamp(octets), trusted, parts).replace("the signature stamped", "the file stamped")
+    except (ValueError, IndexError, KeyError):
+        pass  # octets that anybody can write: what holds of the code is said
+    return of_code(code, line, True)
+
+
+def explanation(
+    octets: Buffer, trusted: bytes, parts: dict[str, str], line: str = "", converted: str = "", of_stamp: bool = False
+) -> str:
     """What explains a refusal with these parts of a line: of each code the cause and the cure, in one line. `converted` is what was done
-    to get the octets."""
+    to get the octets, and `of_stamp` says that they are a stamp of a file."""
+    if of_stamp:
+        return of_file_stamp(octets, trusted, parts, line)
     code = parts.get("code", "")
     if code[:1] in ("S", "C") and content_type_of(octets) == TST_INFO:
         return plain(of_token(octets, converted))

@@ -9,6 +9,7 @@ from typing import Callable, Iterator, Union
 from cmsproof.octets import Buffer, File
 from cmsproof_tools.containers.twofold import called_as, other_kind
 from cmsproof_tools.found import BEGINNING, Found, Unfound
+from cmsproof_tools.signed_parts import is_response
 
 # what such a file is called that ends the process which takes too long to read it (keeping.bounded)
 ENDING = ("pdf", "asic")
@@ -75,6 +76,13 @@ def as_one(name: str, found: Union[Found, Unfound], octets: Buffer) -> Union[Fou
     return found
 
 
+def stamping(found: Union[Found, Unfound]) -> Union[Found, Unfound]:
+    """What was found, or a refusal where a container has a whole response in the place of a token, as no standard of containers has it."""
+    if isinstance(found, Unfound) or found.kind != "token" or not is_response(found.signed):
+        return found
+    return Unfound(found.part, "F1", "a response of an authority, and not the token in it (RFC 3161 2.4.2)", found.container)
+
+
 def covering(found: Union[Found, Unfound], partial: bool) -> Union[Found, Unfound]:
     """What was found, or a refusal where the signature does not cover the whole file, unless that is allowed: then it is a note."""
     if isinstance(found, Unfound) or not found.uncovered:
@@ -95,7 +103,7 @@ def found_in(name: str, file: File, partial: bool = False) -> Iterator[Union[Fou
     # (an empty file too, of which the checker says what it is)
     alone = first[:1] in (b"", b"\x30") and first != b"\x30\x80"
     for found in [Found("", file.octets)] if alone else in_container(file.octets):
-        yield covering(as_one(name, found, file.octets), partial)
+        yield covering(stamping(as_one(name, found, file.octets)), partial)
 
 
 def found_apart(name: str, file: File, partial: bool = False) -> Iterator[Union[Found, Unfound]]:

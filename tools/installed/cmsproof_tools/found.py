@@ -20,7 +20,7 @@ class Found(NamedTuple):
     container  the kind of file that it was found in, as "pdf": "" is a file in DER
     converted  what was done to get `signed` or `content`, as "BER to DER": "" is nothing
     notes      what a reader should know, each for one line
-    kind       "signed", or "token" for a time-stamp over `content`
+    kind       "signed", or of a time-stamp over `content` "token", and "stamp" for one beside its file, which may be a response
     covers     what of the file the signature covers, for a reader
     uncovered  what of the file it does not cover: "" is nothing. Such a signature is refused unless the user allows it
     """

@@ -76,6 +76,11 @@ OTHERS = [
 ]
 
 
+def says_stamp(kind: str) -> bool:
+    """Whether this is said of a file that is a time-stamp by itself, a token or a response."""
+    return kind in (f"it is {STAMP}", f"it is {SHOWN['response']}")
+
+
 def kind_of(beginning: bytes) -> str:
     """What a file with this beginning is, and what to do with it; no text where that is not known."""
     return next((f"it looks like {text}" for pattern, text in KINDS if pattern.search(beginning)), "")

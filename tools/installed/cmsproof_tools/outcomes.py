@@ -8,13 +8,13 @@ from cmsproof_tools.running import FAILED, one_line, shown, shown_apart
 
 
 # what the line of JSON has only where there is something to say
-SAID_IF_THERE = ("kind", "explanation", "container", "converted", "covers", "content")
+SAID_IF_THERE = ("kind", "explanation", "container", "converted", "covers", "content", "stamp")
 
 
 class Outcome(NamedTuple):
     """What is said of a file: status and line of `check`, how many questions there were, the faults of signatures, what kind of
     file it is if that is a cause, what explains a refusal, which part of the file it is about, what is to be noted of it, and how it
-    was found: in which container, converted how, covering what of it, with which file beside it as its content;
+    was found: in which container, converted how, covering what of it, with which file beside it as its content, or as its stamp;
     and what a state keeps of it, a Record, or what one is made of.
     """
 
@@ -31,6 +31,7 @@ class Outcome(NamedTuple):
     converted: str = ""
     covers: str = ""
     content: str = ""
+    stamp: str = ""
     record: Any = None
 
     @property

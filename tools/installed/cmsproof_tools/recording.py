@@ -12,10 +12,9 @@ from cmsproof_tools.texts import question_of
 
 def record_of(work: Work, noting: Noting, draft: Draft) -> Record:
     """What a state keeps of a part of a file."""
-    (file, beside, begun), found, content, line, lines = draft
-    mark = steady(file.found, begun)
-    if beside is not None and work.content is None:
-        mark = joined([mark, steady(beside.found, begun)])
+    (file, beside, begun, others), found, content, line, lines = draft
+    of_beside = [] if beside is None or work.content is not None else [beside]
+    mark = joined(["" if one is None else steady(one.found, begun) for one in (file, *of_beside, *others)])
     octets = file.octets if found is None else found.signed
     known = file.found.st_size, int(file.found.st_mtime), mark, hashlib.sha256(octets).digest()
     if found is None:
@@ -25,7 +24,7 @@ def record_of(work: Work, noting: Noting, draft: Draft) -> Record:
     if usual and content is None:
         return (*known, b"", usual)
     vouched = [question_of(0, question) for question in lines]
-    if work.content is not None:
+    if work.content is not None and found.kind != "stamp":
         summed = noting.content
     elif content is None:
         summed = b""

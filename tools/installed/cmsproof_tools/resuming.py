@@ -11,6 +11,7 @@ from cmsproof_tools.checking import Work
 from cmsproof_tools.outcomes import Outcome
 from cmsproof_tools.rows import Row, mark_now, seen_here
 from cmsproof_tools.running import DONE, tell
+from cmsproof_tools.stamps import judged_with
 from cmsproof_tools.state import State
 from cmsproof_tools.telling import Told
 from cmsproof_tools.texts import time_in
@@ -50,9 +51,9 @@ class Resume:
         return [name for name in names if name in meant]
 
     def mark_of(self, name: str) -> str:
-        """What says that a file, and the one beside it that is its content, are the same as before."""
+        """What says that a file, and those beside it that are its content and its stamps, are the same as before."""
         content = self.work.pairs.content_of(name) if self.work.content is None else None
-        return mark_now(name, content)
+        return mark_now(name, content, *(judged_with(name) if self.work.stamps else []))
 
     def due(self, names: list[str]) -> list[str]:
         """The files that are to be judged; the others are counted."""

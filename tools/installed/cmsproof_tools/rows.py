@@ -109,13 +109,15 @@ def steady(found: os.stat_result, begun: int) -> str:
 def seen_here(mark: str, here: str) -> str:
     """The mark of files as this machine sees them, if another one, where a file system has another device number, saw the same;
     "" if not."""
-    numbers = [[number for place, number in enumerate(one.split(" ")) if place != 3] for one in f"{mark}; {here}".split("; ")]
-    half = len(numbers) // 2
-    return here if mark and here and numbers[:half] == numbers[half:] else ""
+    there, seen = [
+        [[number for place, number in enumerate(one.split(" ")) if place != 3] for one in both.split("; ")]
+        for both in (mark, here)
+    ]
+    return here if mark and here and there == seen else ""
 
 
 def joined(marks: list[str]) -> str:
-    """The mark of a file and of its content beside it; "" if one has none."""
+    """The mark of a file and of those beside it, its content and its stamps; "" if one has none."""
     return "; ".join(marks) if all(marks) else ""
 
 

@@ -84,6 +84,27 @@ def parts_of(octets: Buffer, whole: int) -> list[Span]:
     return some(octets, begin, end, IN_SIGNED)
 
 
+def is_response(octets: Buffer) -> bool:
+    """Whether a stamp is a response of an authority, whose first part is a SEQUENCE, its status, and not a token, whose first part is an
+    object identifier (RFC 3161 2.4.2)."""
+    try:
+        ((identifier, _, begin, _),) = some(octets, 0, len(octets), 1)
+        return identifier == der.SEQUENCE and octets[begin] == der.SEQUENCE
+    except (ValueError, IndexError):
+        return False
+
+
+def token_of_stamp(octets: Buffer) -> Buffer:
+    """The token of a stamp, which it is, or has as a response. Raises ValueError where there is none."""
+    if not is_response(octets):
+        return octets
+    ((_, _, begin, end),) = some(octets, 0, len(octets), 1)
+    _, _, _, after = next(spans(octets, begin, end))
+    if after == end:
+        raise ValueError("a response without a token")
+    return octets[after:end]
+
+
 def content_type_of(octets: Buffer) -> str:
     """The type of the content of a SignedData (RFC 5652 5.2), or no text where that cannot be read."""
     try:

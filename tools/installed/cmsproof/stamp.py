@@ -43,13 +43,15 @@ def element_at(octets: bytes, at: int, end: int) -> tuple[int, int, int]:
 def token_in(stamp: bytes) -> Union[bytes, Said]:
     """The token of a stamp, or why it has none. A response begins with its status, a SEQUENCE, and a token with an object identifier."""
     try:
-        identifier, begin, end = element_at(stamp, 0, len(stamp))
+        _, begin, end = element_at(stamp, 0, len(stamp))
         is_whole = end == len(stamp)
     except ValueError:
         is_whole = False
-    if not is_whole:
+        begin = 0
+    is_response = begin > 0 and stamp[:1] == stamp[begin : begin + 1] == b"\x30"
+    if not is_whole and not is_response:
         return Said(str(show("signed", stamp)["line"]))
-    if identifier != 0x30 or stamp[begin : begin + 1] != b"\x30":
+    if not is_response:
         return stamp
     shown = show("response", stamp)
     if "line" in shown:

@@ -16,7 +16,7 @@ from cmsproof_tools.running import ACKNOWLEDGED, DONE, MALFORMED, REFUSED, USAGE
 # a line: a code, a space, and a name as `shown` writes it, in which each backslash begins an escape
 LINE = re.compile(r"([A-Z][1-9][0-9]*) ((?:[^\\]|\\(?:[\\nrt]|x[0-9a-f]{2}|u[0-9a-f]{4}|U[0-9a-f]{8}))+)")
 # by which letters the codes of a file's line begin, if it is refused or malformed; and the one of a line that says `failed`
-KINDS, NEVER = "CFKMPS", ("F2",)
+KINDS, NEVER = "CFKMPS", ("F2", "P3", "P4", "P5", "P6", "P7")
 
 
 def acknowledged(line: str) -> tuple[str, str]:

@@ -97,7 +97,9 @@ def alone(work: Work, outcome: Outcome, first: str) -> Outcome:
     if not says_stamp(outcome.kind):
         return outcome
     refusal = Unfound(
-        outcome.part, "F15", f"a time-stamp, and {shown(os.path.basename(first))}, which it would stamp, is not there"
+        outcome.part,
+        "F15",
+        f"a time-stamp, and no regular file {shown(os.path.basename(first))}, which it would stamp, is beside it",
     )
     said = outcome._replace(status=refusal.status, line=refusal.line, kind="", notes=(*outcome.notes, refusal.reason))
     return with_cure(work, said, refusal.code)

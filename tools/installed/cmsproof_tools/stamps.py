@@ -54,7 +54,13 @@ def belongs(name: str) -> bool:
 
 
 def without_belonging(names: list[str], keeps: Callable[[str], bool]) -> list[str]:
-    """The names but those of stamps whose files are named too, with which they are judged; and what is to be kept."""
-    found = {name: stamped_by(name) for name in names if not keeps(name) and belongs(name) and is_regular(name)}
-    named = set(found.values()).intersection(names) if found else set()
-    return [name for name in names if name not in found or found[name] not in named] if found else names
+    """The names but those of stamps whose files are named too, and have a line: with these they are judged. What is to be kept stays."""
+    named = {first for name in names if (first := stamped_by(name)) is not None}.intersection(names)
+
+    def is_left_out(name: str) -> bool:
+        first = stamped_by(name)
+        if first is None or first not in named or keeps(name):
+            return False
+        return is_regular(first) and is_regular(name) and not is_left_out(first)
+
+    return [name for name in names if not is_left_out(name)] if named else names

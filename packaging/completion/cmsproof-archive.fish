@@ -37,7 +37,7 @@ complete -c cmsproof-archive -n '__cmsproof_archive_at -' -l no-pairs -d 'No fil
 complete -c cmsproof-archive -n '__cmsproof_archive_at -' -l pairs-from -r -F -d 'A list of files and their contents, with a TAB between'
 complete -c cmsproof-archive -n '__cmsproof_archive_at -' -l sha1 -d 'Allow SHA-1 as a digest of contents and stamped signatures'
 complete -c cmsproof-archive -n '__cmsproof_archive_at -' -l partial -d 'Allow signatures that do not cover the whole file, with a note'
-complete -c cmsproof-archive -n '__cmsproof_archive_at -' -l stamps -d 'Allow time-stamps in files that have no accepted signature'
+complete -c cmsproof-archive -n '__cmsproof_archive_at -' -l stamps -d 'Allow time-stamps without an accepted signature, in a file, or beside it as FILE.tsr or FILE.tst'
 complete -c cmsproof-archive -n '__cmsproof_archive_at -' -l jobs -x -d 'Files that are checked at a time'
 complete -c cmsproof-archive -n '__cmsproof_archive_at -' -l json -d 'A line of JSON for each file, and a last one about all'
 complete -c cmsproof-archive -n '__cmsproof_archive_at -' -l explain -d 'A second line for each refusal'

@@ -10,7 +10,7 @@ from typing import Iterable, Optional
 from cmsproof import library as lib
 from cmsproof.calls import asked_of
 from cmsproof.lists import TrustList, answers_held
-from cmsproof.octets import Given, Octets, octets_of, of_bytes
+from cmsproof.octets import Buffer, Given, Octets, octets_of, of_bytes
 from cmsproof.verdicts import STATUSES, WORDS, Unexpected, Verdict, moment_of, time_text
 from cmsproof.verifiers import Verifier, cryptography_verifier, vouching
 from cmsproof_tools.texts import Question, answers_of, answers_text
@@ -63,11 +63,12 @@ def said_of(token: Octets, stamped: Octets, trust: TrustList, answers: bytes, sh
 
 
 def token_time(
-    token: bytes, stamped: bytes, *, trust: TrustList, vouched: Iterable[Question], sha1: bool = False
+    token: bytes, stamped: Buffer, *, trust: TrustList, vouched: Iterable[Question], sha1: bool = False
 ) -> Optional[str]:
     """The time of a token that passes for what was stamped, as a trust list writes it, or None where it does not pass. The
     questions whose signatures are good are handed in."""
-    said = said_of(of_bytes(token), of_bytes(stamped), trust, answers_text(vouched), sha1)
+    with octets_of(stamped) as under:
+        said = said_of(of_bytes(token), under, trust, answers_text(vouched), sha1)
     return time_text(said.seconds, said.nanoseconds) if said.verdict == lib.ACCEPTED else None
 
 

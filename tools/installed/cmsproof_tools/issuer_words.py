@@ -8,7 +8,8 @@ from cmsproof_tools.periods import Period
 
 
 class Asked(NamedTuple):
-    """What a user asks for: files with issuers of signers and of authorities, other certificates, revocation lists, and the rest."""
+    """What a user asks for: files with issuers of signers and of authorities, other certificates, revocation lists, and the rest; and whether
+    the authorities of time-stamps beside files are looked for."""
 
     issuers: Sequence[str] = ()
     tsa_issuers: Sequence[str] = ()
@@ -21,6 +22,7 @@ class Asked(NamedTuple):
     sha1: bool = False
     several: bool = False
     most: Period = Period()
+    stamps: bool = False
 
 
 def add_words(parser: argparse.ArgumentParser, several: bool) -> None:
@@ -64,4 +66,5 @@ def asked_of(given: argparse.Namespace, several: bool = False, most: Period = Pe
         bool(given.sha1),
         several,
         most,
+        bool(getattr(given, "stamps", False)),
     )

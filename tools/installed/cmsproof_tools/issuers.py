@@ -218,12 +218,14 @@ class Growing:
     def adds_nothing(self, found: Found) -> bool:
         """Whether a file has no entry to add, nor a line: each of its signers and tokens has entries at the times that the tokens say. More
         entries change nothing of that."""
-        if found.kind == "token":
-            return False
         try:
             octets, signers = everything_in(found.signed)
         except (ValueError, IndexError):
             return False
+        if found.kind == "token":
+            token = token_of(bytes(found.signed), b"")
+            clocks = [] if token.sid is None else self.pool_of(tuple(dict.fromkeys(octets))).named(token.sid)
+            return len(clocks) == 1 and self.all_hold("tsa", clocks, token.time)
         if not 1 <= len(signers) + sum(len(signer.tokens) for signer in signers) <= FEW:
             return False
         pool = self.pool_of(tuple(dict.fromkeys(octets)))
@@ -253,10 +255,11 @@ class Growing:
         """The authority of a time-stamp over a whole content."""
         pool, _, found = self.found_in(name, found)
         content = b"" if found.content is None else found.content
-        self.take_authority(name, token_of(bytes(found.signed), bytes(content)), pool)
+        self.take_authority(name, token_of(bytes(found.signed), b""), pool, content)
 
-    def take_authority(self, name: str, token: Token, pool: Pool) -> bool:
-        """The first step: the authority of a token, judged at the token's time. Answers whether its certificates are trusted then."""
+    def take_authority(self, name: str, token: Token, pool: Pool, content: Union[Buffer, None] = None) -> bool:
+        """The first step: the authority of a token, judged at the token's time. Answers whether its certificates are trusted then. `content`
+        is what a token is over that is over no signature."""
         if token.sid is None:
             return False
         named = self.named("a token", name, token.sid, pool)
@@ -264,7 +267,8 @@ class Growing:
             return True
         for certificate, held in under_which(token.octets, named):
             trust = list_of_one("tsa", certificate.octets)
-            moment = token_time(token.octets, token.stamped, trust=trust, vouched=held, sha1=self.trusted.sha1)
+            over = token.stamped if content is None else content
+            moment = token_time(token.octets, over, trust=trust, vouched=held, sha1=self.trusted.sha1)
             if moment is not None and self.may_judge("tsa", name, certificate, moment):
                 self.judge("tsa", name, certificate, pool, moment)
             self.bar("tsa", name, certificate, pool)

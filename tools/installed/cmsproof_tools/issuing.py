@@ -22,6 +22,7 @@ from cmsproof_tools.revocation import Revocation, is_meant
 from cmsproof_tools.texts import trust_entries
 from cmsproof_tools.trusted_lists import TrustedList
 from cmsproof_tools.running import DONE, FAILED, MALFORMED, REFUSED, Stop, read, shown
+from cmsproof_tools.stamping import tokens_beside
 from cmsproof_tools.workers import Workers
 
 Told = Callable[[str], None]
@@ -164,15 +165,15 @@ def trusted_by(asked: Asked, lists: list[TrustedList], told: Told) -> Iterator[T
         yield Trusted(*judges, revocation_of(asked, known, told), between, asked.sha1, asked.most)
 
 
-def look(names: list[str], step: Callable[[str, Found], bool], unread: Told) -> tuple[list[str], int]:
+def look(names: list[str], step: Callable[[str, Found], bool], unread: Told, stamps: bool) -> tuple[list[str], int]:
     """Takes a step with each file, and answers those for which it says yes, and the worst status; `unread` is called with the line
-    of a file that cannot be read. Whom a list trusts does not depend on how much of a file is covered."""
+    of a file that cannot be read. Whom a list trusts does not depend on how much of a file is covered. `stamps` says that the stamps beside
+    files are looked at too."""
     again, worst = [], DONE
     for name in names:
         try:
-            with opened(name) as file:
-                parts = []
-                for found in found_apart(name, file, partial=True):
+            with opened(name) as file, tokens_beside(name, file, stamps) as (parts, is_stamp):
+                for found in () if is_stamp else found_apart(name, file, partial=True):
                     if isinstance(found, Found):
                         parts.append(found)
                     elif found.code == "F4":
@@ -185,7 +186,7 @@ def look(names: list[str], step: Callable[[str, Found], bool], unread: Told) -> 
     return again, worst
 
 
-def left_of(growing: Growing, names: list[str], jobs: int) -> list[str]:
+def left_of(growing: Growing, names: list[str], jobs: int, stamps: bool) -> list[str]:
     """Those of some files that may add something to a list: so many processes look, and what one of them cannot say is left."""
 
     def adds_nothing(name: str) -> bool:
@@ -193,9 +194,9 @@ def left_of(growing: Growing, names: list[str], jobs: int) -> list[str]:
             # (what a descriptor gives can be read once)
             if number_named(name) is not None:
                 return False
-            with opened(name) as file:
-                found = list(found_in(name, file, partial=True))
-            return all(isinstance(one, Found) and growing.adds_nothing(one) for one in found)
+            with opened(name) as file, tokens_beside(name, file, stamps) as (tokens, is_stamp):
+                found = [] if is_stamp else list(found_in(name, file, partial=True))
+                return all(isinstance(one, Found) and growing.adds_nothing(one) for one in (*found, *tokens))
         except Exception:
             return False
 
@@ -205,7 +206,7 @@ def left_of(growing: Growing, names: list[str], jobs: int) -> list[str]:
 
 
 def grown(
-    trusted: Trusted, given: Iterable[Entry], names: list[str], told: Told, unread: Told, jobs: int = 1
+    trusted: Trusted, given: Iterable[Entry], names: list[str], told: Told, unread: Told, jobs: int = 1, stamps: bool = False
 ) -> tuple[list[Entry], int]:
     """The entries of a list for these files, behind those that are given, authorities first; and the worst status of a file. With
     several jobs most files of a large archive are only looked at by others: they are by those of whom the first ones were."""
@@ -213,13 +214,13 @@ def grown(
     again: list[str] = []
     worst, size = DONE, FIRST if jobs > 1 else len(names)
     while names:
-        found, ended = look(names[:size], growing.take, unread)
+        found, ended = look(names[:size], growing.take, unread, stamps)
         again += found
         worst, names, size = max(worst, ended), names[size:], 2 * size
         if len(names) > FIRST:
             growing.settle()
-            names = left_of(growing, names, jobs)
-    _, later = look(again, growing.take_again, unread)
+            names = left_of(growing, names, jobs, stamps)
+    _, later = look(again, growing.take_again, unread, stamps)
     growing.settle()
     return growing.listed(), max(worst, later)
 
@@ -275,6 +276,7 @@ def list_text(
             tell if of_file is None else once(of_file),
             unread or tell,
             jobs,
+            asked.stamps,
         )
         text = "".join(line + "\n" for line in lines_of(head_of(trusted, lists), entries)).encode("utf-8", "surrogateescape")
     if len(TrustList(text)) != len(entries):

@@ -5,19 +5,20 @@ What is stamped was there, and nothing says whose it is. So a stamp takes no lin
 from __future__ import annotations
 
 import os
-from contextlib import ExitStack
-from typing import NamedTuple, Union
+from contextlib import ExitStack, contextmanager, suppress
+from typing import Iterator, NamedTuple, Union
 
 from cmsproof.octets import COPIED, File
 from cmsproof_tools import stamps
 from cmsproof_tools.checking import STAMPED, UNSIGNED, Reading, Work
-from cmsproof_tools.checking import failed, noted, open_file, outcome_of, stamps_judged, told, with_cure
+from cmsproof_tools.checking import failed, noted, open_file, opened, outcome_of, stamps_judged, told, with_cure
 from cmsproof_tools.finding import found_in
 from cmsproof_tools.found import Found, Unfound
 from cmsproof_tools.kinds import says_stamp
 from cmsproof_tools.outcomes import Outcome
 from cmsproof_tools.pairs import is_regular
 from cmsproof_tools.running import DONE, shown
+from cmsproof_tools.signed_parts import token_of_stamp
 
 # containers whose parts have names: what is said of the file itself says that nothing signed was reached
 NAMING = ("pdf", "asic")
@@ -135,3 +136,23 @@ def outcomes_in(work: Work, name: str, reading: Reading) -> list[Outcome]:
     if notes and outcomes:
         outcomes[0] = outcomes[0]._replace(notes=(*outcomes[0].notes, *notes))
     return outcomes
+
+
+@contextmanager
+def tokens_beside(name: str, file: File, wanted: bool) -> Iterator[tuple[list[Found], bool]]:
+    """The tokens of the stamps beside a file, over it, for whoever looks for their authorities, while a block has them; and whether the file
+    is itself a stamp of one that is there: then its own token is among them. None, unless they are wanted. (One that cannot be read has
+    its line when it is checked.)"""
+    first = stamps.stamped_by(name) if wanted else None
+    is_stamp = first is not None and is_regular(first)
+    with ExitStack() as stack:
+        pairs = [("", file.octets, stack.enter_context(opened(first)).octets)] if is_stamp and first else []
+        for one in stamps.beside(name) if wanted else []:
+            with suppress(Exception):
+                if os.lstat(one).st_size <= COPIED:
+                    pairs.append((os.path.basename(one), stack.enter_context(opened(one)).octets, file.octets))
+        found = []
+        for part, stamp, over in pairs:
+            with suppress(ValueError, IndexError):
+                found.append(Found(part, token_of_stamp(stamp), over, kind="token"))
+        yield found, is_stamp

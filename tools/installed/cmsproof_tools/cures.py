@@ -507,10 +507,9 @@ ROWS = (
     Row(
         "11",
         "F15 StampAlone",
-        "a time-stamp is good, and no signature of the file is accepted. Anybody gets a stamp for any "
-        "octets: it says when they were there, and not whose they are. With `--stamps`: FILE, which `FILE.tsr` or "
-        "`FILE.tst` would stamp, is missing",
-        "`--stamps`, if you ask for the moment alone: the line is then `stamped TIME`",
+        "a time-stamp is good, and no signature of the file is accepted, or its own file is not beside it. Anybody gets a "
+        "stamp for any octets: it says when they were there, and not whose they are",
+        "`--stamps`, and that file, if you ask for the moment alone: the line is then `stamped TIME`",
     ),
 )
 

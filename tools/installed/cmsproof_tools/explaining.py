@@ -61,7 +61,8 @@ CURES = {
 # what is said of a time-stamp token that is checked as if it were a signed file
 TOKEN_ALONE = (
     "the file is a time-stamp token by itself, and its signer is a time-stamping authority, which no list has as signer. Cure: check the "
-    "file whose signature it stamps, into which cmsproof attach puts it; nobody is to be listed for this"
+    "file whose signature it stamps, into which cmsproof attach puts it, or say --stamps if it is over a file beside it; nobody is to be "
+    "listed for this"
 )
 # the code of a fault behind that of a token's rule, as in `K1 M6 Tag at 4`
 BEHIND = re.compile(r"\bK[0-9]+ ([MS][0-9]+) ")

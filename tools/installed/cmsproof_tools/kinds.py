@@ -45,12 +45,14 @@ KINDS = [
 ]
 
 
+# what checks a stamp that is not over a signature
+BESIDE = "; what is over a file that stands beside it, `x.tsr` or `x.tst` over `x`, cmsproof-archive --stamps checks"
 # what each kind of file in DER is that the library reads, in the words of its call `show`
 SHOWN = {
     "request": "a request for a time-stamp (RFC 3161 2.4.1), and no signed file: `cmsproof match` compares it with the response",
     "response": (
         "a response of a time-stamping authority (RFC 3161 2.4.2), and no signed file: `cmsproof match` takes the token out, `cmsproof "
-        "attach` puts that into the file whose signature it stamps, and this one is checked"
+        "attach` puts that into the file whose signature it stamps, and this one is checked" + BESIDE
     ),
     "tst": "the content of a time-stamp token (RFC 3161 2.4.2) alone: nobody signed it. `cmsproof show tst` shows it",
     "certificate": "a certificate, and no signed file: `cmsproof cert` shows it",
@@ -58,7 +60,7 @@ SHOWN = {
 TST_INFO, INDIRECT, TRUST_LIST = "1.2.840.113549.1.9.16.1.4", "1.3.6.1.4.1.311.2.1.4", "1.3.6.1.4.1.311.10.1"
 STAMP = (
     "a time-stamp token by itself (RFC 3161 2.4.2), and no signed file: `cmsproof attach` puts it into the file whose signature it "
-    "stamps, and that one is checked"
+    "stamps, and that one is checked" + BESIDE
 )
 BUNDLE = (
     "a bundle of certificates or revocation lists, which nobody signed (PKCS #7 without signers): openssl pkcs7 -inform DER -in FILE "

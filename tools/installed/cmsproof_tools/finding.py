@@ -76,7 +76,7 @@ def as_one(name: str, found: Union[Found, Unfound], octets: Buffer) -> Union[Fou
     return found
 
 
-def stamping(found: Union[Found, Unfound]) -> Union[Found, Unfound]:
+def as_token(found: Union[Found, Unfound]) -> Union[Found, Unfound]:
     """What was found, or a refusal where a container has a whole response in the place of a token, as no standard of containers has it."""
     if isinstance(found, Unfound) or found.kind != "token" or not is_response(found.signed):
         return found
@@ -103,7 +103,7 @@ def found_in(name: str, file: File, partial: bool = False) -> Iterator[Union[Fou
     # (an empty file too, of which the checker says what it is)
     alone = first[:1] in (b"", b"\x30") and first != b"\x30\x80"
     for found in [Found("", file.octets)] if alone else in_container(file.octets):
-        yield covering(stamping(as_one(name, found, file.octets)), partial)
+        yield covering(as_token(as_one(name, found, file.octets)), partial)
 
 
 def found_apart(name: str, file: File, partial: bool = False) -> Iterator[Union[Found, Unfound]]:

@@ -11,7 +11,7 @@ from cmsproof_tools.checking import Work
 from cmsproof_tools.outcomes import Outcome
 from cmsproof_tools.rows import Row, mark_now, seen_here
 from cmsproof_tools.running import DONE, tell
-from cmsproof_tools.stamps import judged_with
+from cmsproof_tools.stamps import beside, judged_with
 from cmsproof_tools.state import State
 from cmsproof_tools.telling import Told
 from cmsproof_tools.texts import time_in
@@ -64,6 +64,7 @@ class Resume:
             # (a file that is the content of another has a line only if it is a signed file)
             rows = [] if name in self.work.contents else self.state.kept(name, self.mark_of(name), self.since)
             if rows:
+                self.forget_stamps(name)
                 ended = max(rows, key=lambda row: row.status)
                 self.kept[ended.line.partition(" ")[0]] += 1
                 self.worst = max(self.worst, self.status_of(rows, ended.status))
@@ -76,6 +77,12 @@ class Resume:
         if self.known is None or worst == DONE:
             return worst
         return self.known.add([Outcome(row.name, row.status, row.line, part=row.part) for row in rows])
+
+    def forget_stamps(self, name: str) -> None:
+        """Takes away the rows that stamps beside a file have by themselves, as where it was not there: they are judged with it."""
+        for one in beside(name) if self.work.stamps else []:
+            if one not in self.work.pairs.named and self.state.of_file(one):
+                self.state.put(one, [])
 
     def warn(self, name: str, rows: list[Row]) -> None:
         """Says of which part the octets changed although its times say that they did not."""
@@ -92,6 +99,7 @@ class Resume:
             rows = [row._replace(mark=seen_here(row.mark, here)) for row in rows]
         if self.recheck:
             self.warn(name, rows)
+        self.forget_stamps(name)
         self.state.put(name, rows)
 
     def kept_of(self, names: list[str], found: Iterable[list[Told]]) -> Iterator[list[Told]]:

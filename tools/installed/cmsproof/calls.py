@@ -22,7 +22,8 @@ class Questions(NamedTuple):
 
     text   as `cmsproof questions` prints it; empty if nothing can be asked
     asked  the questions, in their order
-    code   None, or why nothing can be asked: 'Q1' of a malformed file, 'Q2' of one that is no SignedData
+    code   None, or why nothing can be asked: 'Q1' of a malformed file, 'Q2' of one that is no SignedData, and of a time-stamp 'P1' of a
+           response that is not granted, 'P2' of one without a token
     """
 
     text: bytes
@@ -56,23 +57,25 @@ class Room:
             raise Unexpected(f"the library said status {status} with a length of {length}")
         return status, cast(bytes, self.text[:length])
 
-    def asked(self, trust: TrustList, octets: Octets) -> bytes:
+    def asked(self, trust: TrustList, octets: Octets, call: str = "cmsproof_questions") -> bytes:
         """What must be verified of a file, as a questions text; no octets of one of which nothing can be asked: `check` says why."""
         held = trust.held
         with held.lock:
-            status, text = self.written(lib.library().cmsproof_questions, held.handle, *octets)
+            status, text = self.written(getattr(lib.library(), call), held.handle, *octets)
         return text if status == lib.DONE else b""
 
-    def checked(self, trust: TrustList, octets: Octets, rest: tuple[Any, ...], answers: bytes) -> tuple[int, bytes]:
-        """The status and line of a check with these answers, whose numbers are in `answer`. `rest` is what `cmsproof_check` takes behind
-        the file."""
+    def checked(
+        self, trust: TrustList, octets: Octets, rest: tuple[Any, ...], answers: bytes, call: str = "cmsproof_check"
+    ) -> tuple[int, bytes]:
+        """The status and line of a check with these answers, whose numbers are in `answer`. `rest` is what the call takes behind the
+        file."""
         held, loaded = trust.held, lib.library()
         try:
             status = loaded.cmsproof_answers_read(self.to_answers, answers, len(answers), self.to_answer)
             if status != lib.DONE:
                 raise refused("answers", status, self.answer)
             with held.lock:
-                return self.written(loaded.cmsproof_check, held.handle, self.to_answers, *octets, *rest)
+                return self.written(getattr(loaded, call), held.handle, self.to_answers, *octets, *rest)
         finally:
             loaded.cmsproof_answers_free(self.to_answers)
 
@@ -116,12 +119,18 @@ def asked_of(trust: TrustList, octets: Octets) -> tuple[int, lib.Answer, bytes]:
 def questions(file: Given, *, trust: TrustList) -> Questions:
     """What a verifier is asked before a file is checked: the signatures that may count under this list."""
     with octets_of(file) as octets:
-        status, answer, text = asked_of(trust, octets)
+        said = asked_of(trust, octets)
+    return questions_of(*said)
+
+
+def questions_of(status: int, answer: lib.Answer, text: bytes) -> Questions:
+    """The questions of a call's status, numbers and text."""
     if status == lib.DONE:
         return Questions(text, tuple(read_questions(text)), None)
     if status not in (lib.REFUSED, lib.MALFORMED) or not answer.letter:
         raise Unexpected(f"the library said status {status} of questions")
-    return Questions(b"", (), f"{chr(answer.letter)}{answer.number}")
+    # (of a stamp that is neither a token nor a response the numbers are those of the fault)
+    return Questions(b"", (), "Q1" if status == lib.MALFORMED else f"{chr(answer.letter)}{answer.number}")
 
 
 def check(

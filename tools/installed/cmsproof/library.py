@@ -48,6 +48,8 @@ SIGNATURES: dict[str, tuple[Any, ...]] = {
     "cmsproof_questions": (*LIST, *OCTETS, *TEXT, *SAID),
     "cmsproof_check": (*LIST, *LIST, *OCTETS, *OCTETS, c_bool, c_bool, *TEXT, *SAID),
     "cmsproof_check_token": (*LIST, *LIST, *OCTETS, *OCTETS, c_bool, *SAID),
+    "cmsproof_stamp_check": (*LIST, *LIST, *OCTETS, *OCTETS, c_bool, *TEXT, *SAID),
+    "cmsproof_stamp_questions": (*LIST, *OCTETS, *TEXT, *SAID),
     "cmsproof_fit": (*OCTETS, *OCTETS, c_bool, c_bool, *TEXT, *SAID),
     "cmsproof_compare": (*OCTETS, c_uint64, *OCTETS, c_uint64, *TEXT, *SAID),
     "cmsproof_request": (*OCTETS, *OCTETS, *OCTETS, *OCTETS, c_bool, *TEXT, *SAID),

@@ -5,73 +5,26 @@ No certificate in a stamp is trusted: the entries `tsa` of the trust list alone 
 """
 from __future__ import annotations
 
-import ctypes
-from typing import NamedTuple, Union
-
 from cmsproof import library as lib
-from cmsproof.calls import Questions, asked_of
-from cmsproof.commands import show
+from cmsproof.calls import Questions, answers_to, give_back, questions_of, room, written
 from cmsproof.lists import TrustList
-from cmsproof.octets import Given, Octets, octets_of, of_bytes
-from cmsproof.tokens import authorities_of, line_of, said_of
-from cmsproof.verdicts import WORDS, Verdict, moment_of
-from cmsproof.verifiers import Verifier, Vouching, vouching
-from cmsproof_tools.texts import answers_of, read_questions
+from cmsproof.octets import Given, octets_of
+from cmsproof.verdicts import Unexpected, Verdict, verdict_of
+from cmsproof.verifiers import Verifier, vouching
 
 
-class Said(NamedTuple):
-    """What is said of a stamp: the line, and the numbers of one that is accepted."""
-
-    line: str
-    answer: Union[lib.Answer, None] = None
-
-
-def octets_at(where: Octets) -> bytes:
-    """A copy of octets."""
-    return ctypes.string_at(where.at, where.length)
-
-
-def element_at(octets: bytes, at: int, end: int) -> tuple[int, int, int]:
-    """The identifier, the begin of the contents and the end of the element here. Raises ValueError where none is."""
-    from cmsproof_tools.signed_parts import spans
-
-    for identifier, _, begin, stop in spans(octets, at, end):
-        return identifier, begin, stop
-    raise ValueError("an element is missing")
-
-
-def token_in(stamp: bytes) -> Union[bytes, Said]:
-    """The token of a stamp, or why it has none. A response begins with its status, a SEQUENCE, and a token with an object identifier."""
-    try:
-        _, begin, end = element_at(stamp, 0, len(stamp))
-        is_whole = end == len(stamp)
-    except ValueError:
-        is_whole = False
-        begin = 0
-    is_response = begin > 0 and stamp[:1] == stamp[begin : begin + 1] == b"\x30"
-    if not is_whole and not is_response:
-        return Said(str(show("signed", stamp)["line"]))
-    if not is_response:
-        return stamp
-    shown = show("response", stamp)
-    if "line" in shown:
-        return Said(str(shown["line"]))
-    if shown["status"] not in ("granted", "grantedWithMods"):
-        return Said("refused P1 Status")
-    if shown["token"] != "present":
-        return Said("refused P2 NoToken")
-    return stamp[element_at(stamp, begin, end)[2] : end]
-
-
-def said_by(stamp: Octets, data: Octets, trust: TrustList, asked: Vouching, sha1: bool) -> Said:
-    """What is said of a stamp. (Until the library has a call for it, what it says of the token.)"""
-    token = token_in(octets_at(stamp))
-    if isinstance(token, Said):
-        return token
-    status, _, text = asked_of(authorities_of(trust), of_bytes(token))
-    answers = asked.answers(text) if status == lib.DONE else answers_of([])
-    answer = said_of(of_bytes(token), data, trust, answers, sha1)
-    return Said(line_of(answer), answer)
+def verdict_by(status: int, answer: lib.Answer, text: bytes) -> Verdict:
+    """The verdict of a stamp's status, numbers and line, which must agree. The code is that of the rule, also where a fault stands behind
+    it."""
+    said = verdict_of(status, answer, text)
+    if answer.signer or answer.token:
+        raise Unexpected("the library named a signer of a stamp")
+    if said.verdict != "refused":
+        return said
+    _, code, *name = said.line.split(" ", 2)
+    if code != f"{chr(answer.letter)}{answer.number}":
+        raise Unexpected(f"the library said letter {answer.letter} and number {answer.number}, and the line {said.line!r}")
+    return said._replace(code=code, name="".join(name))
 
 
 def check(stamp: Given, data: Given, *, trust: TrustList, verifier: Verifier = "openssl", sha1: bool = False) -> Verdict:
@@ -80,24 +33,20 @@ def check(stamp: Given, data: Given, *, trust: TrustList, verifier: Verifier = "
     `stamp` and `data` are octets, or paths of regular files. `verifier` and `sha1` are as for `check` of signed files, and so is what is
     raised. An accepted stamp says when the data were there, and not whose they are.
     """
-    asked = vouching(verifier)
-    with octets_of(stamp) as octets, octets_of(data) as under:
-        said = said_by(octets, under, trust, asked, sha1)
-    word, _, rest = said.line.partition(" ")
-    answer = said.answer
-    if answer is not None and answer.verdict == lib.ACCEPTED:
-        return Verdict(True, WORDS[answer.verdict], moment_of(answer), answer.nanoseconds, None, "", None, None, said.line)
-    code, _, name = rest.partition(" ")
-    return Verdict(False, word, None, None, code, name, None, None, said.line)
+    asked, own = vouching(verifier), room()
+    try:
+        with octets_of(stamp) as octets, octets_of(data) as under:
+            answers = answers_to(own.asked(trust, octets, "cmsproof_stamp_questions"), asked)
+            status, line = own.checked(trust, octets, (*under, sha1), answers, "cmsproof_stamp_check")
+        # (only here, where the files are known to be as they were)
+        return verdict_by(status, own.answer, line)
+    finally:
+        give_back(own)
 
 
 def questions(stamp: Given, *, trust: TrustList) -> Questions:
-    """What a verifier is asked before a time-stamp is checked: the signatures that may count under this list."""
-    with octets_of(stamp) as octets:
-        token = token_in(octets_at(octets))
-        if isinstance(token, Said):
-            return Questions(b"", (), token.line.split(" ")[1] if token.line.startswith("refused") else "Q1")
-        status, answer, text = asked_of(authorities_of(trust), of_bytes(token))
-    if status == lib.DONE:
-        return Questions(text, tuple(read_questions(text)), None)
-    return Questions(b"", (), f"{chr(answer.letter)}{answer.number}")
+    """What a verifier is asked before a time-stamp is checked: the signatures that may count under this list. `code` is 'Q1', 'Q2', 'P1' or
+    'P2' where nothing can be asked."""
+    with octets_of(stamp) as octets, trust.held.taken() as handle:
+        said = written(lib.library().cmsproof_stamp_questions, handle, *octets)
+    return questions_of(*said)

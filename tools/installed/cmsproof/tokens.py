@@ -1,6 +1,6 @@
 """The check of one time-stamp token: whether it is valid for the octets that it should stamp, and its time (rules K1 to K14).
 
-No command of the program does this, and the library makes no line of it: the line here has the program's words.
+The library makes no line of it: the line here has the words of `cmsproof stamp check`, which `cmsproof.stamp.check` is.
 """
 from __future__ import annotations
 

@@ -276,7 +276,8 @@ def judged(tool: str, given: Any, parser: Words) -> int:
     if not names and (given.only is None or given.trust is None):
         parser.error("no file is named")
     # (what each worker would read is read once)
-    for name in (*(READ if len(names) > 1 else []), *(["explaining", "cures"] if given.explain else [])):
+    more = [*(["explaining", "cures"] if given.explain else []), *(["stamping"] if given.stamps else [])]
+    for name in (*(READ if len(names) > 1 else []), *more):
         module(name)
     with ExitStack() as stack:
         resume, work = resumed(tool, given, stack, work, known)

@@ -145,7 +145,7 @@ def long_data(pipes, pieces):
     ):
         answer, most = piped(pipes, count, last)
         pipes.told(f"{name} through standard input", answer, wanted, f", {most} KiB, {most - few} more")
-        if not 0 < few <= most <= few + GROWTH:
+        if not 0 < most <= few + GROWTH:
             pipes.differences += 1
             print(f"DIFFERS: at most {GROWTH} KiB more are wanted")
 

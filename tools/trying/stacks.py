@@ -29,9 +29,14 @@ NAMES = ["f%03d" % number for number in range(256)]
 PIPE = "/dev/stdin"
 # the row of the table, and its commands
 ROWS = {
-    "`--version`, `--help`, words that are none": [["--version"], ["--help"], ["fit", "--frob"]],
-    "`fit` of one file": [["fit", "missing"], ["fit", "file"]],
-    "`fit` of two files": [["fit", "file", "unstamped"]],
+    "`--version`, `--help`, words that are none; `fit`": [
+        ["--version"],
+        ["--help"],
+        ["fit", "--frob"],
+        ["fit", "missing"],
+        ["fit", "file"],
+        ["fit", "file", "unstamped"],
+    ],
     "`fit --content`": [["fit", "--content", "content", "detached"]],
     "`show`, `cert`, `compare`, `match`": [
         ["show", "signed", "file"],

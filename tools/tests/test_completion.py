@@ -30,10 +30,16 @@ def options_in(text):
     return set(re.findall(r"^ +(?:-\w, +)?(--[a-z0-9-]+)", text, re.M))
 
 
-def commands():
-    """The commands of the program."""
-    block = re.search(r"^Commands:\n((?: .*\n)+)", help_of(PROGRAM, "--help"), re.M)[1]
-    return set(re.findall(r"^  (\w+)", block, re.M))
+def commands(*words):
+    """The commands of the program, or those behind these words; `help` is one of them."""
+    block = re.search(r"^Commands:\n((?: .*\n)+)", help_of(PROGRAM, *words, "--help"), re.M)
+    return set(re.findall(r"^  (\w+)", block[1], re.M)) if block else set()
+
+
+def options_of(name):
+    """The options of a command of the program, or of all that stand behind it."""
+    others = [[name, one] for one in commands(name) - {"help"}] or [[name]]
+    return {option for words in others for option in options_in(help_of(PROGRAM, *words, "--help"))}
 
 
 @unittest.skipUnless(PROGRAM.exists(), "the program is not built")
@@ -71,7 +77,7 @@ class Offered:
         self.assertEqual(found, [commands(), commands()])
 
     def test_options_of_commands_and_tools(self):
-        table = [(f"cmsproof {name} --", options_in(help_of(PROGRAM, name, "--help"))) for name in commands() - {"help"}]
+        table = [(f"cmsproof {name} --", options_of(name)) for name in commands() - {"help"}]
         helps = [(name, help_of(sys.executable, INSTALLED / name, "--help")) for name in TOOLS]
         for word in ("report", "evidence"):
             name = f"cmsproof-archive {word}"
@@ -87,6 +93,7 @@ class Offered:
         verdicts = {"accepted", "stamped", "refused", "malformed", "failed"}
         table = [
             ("cmsproof show ", {"request", "response", "signed", "tst"}),
+            ("cmsproof stamp ", {"check", "questions"}),
             ("cmsproof request --alg ", digests),
             ("cmsproof-archive --only ", verdicts),
             ("cmsproof-archive report --only ", verdicts),

@@ -30,6 +30,25 @@ pub enum Named {
     StampQuestions,
 }
 
+impl Named {
+    /// The word that names it.
+    pub fn name(&self) -> &'static str {
+        match self {
+            Named::Request => "request",
+            Named::Show => "show",
+            Named::Certificate => "cert",
+            Named::Fit => "fit",
+            Named::Matching => "match",
+            Named::Check | Named::StampCheck => "check",
+            Named::Questions | Named::StampQuestions => "questions",
+            Named::Attach => "attach",
+            Named::Compare => "compare",
+            Named::Migrate => "migrate",
+            Named::Stamp => "stamp",
+        }
+    }
+}
+
 /// The commands, in the order of the help.
 pub static ALL: [Named; 11] = [
     Named::Request,

@@ -20,13 +20,27 @@ const ABOUT: &str =
 pub const ABOUT_STAMPS: &str =
     "Says by when a file existed, by a time-stamp token or response that stands beside it (RFC 3161).";
 
-/// What the program takes on its command line.
-pub fn command_line<'a>(alloc: Global) -> Result<Command<'a>, AllocError> {
+/// What the program takes on its command line, where this word stands behind its name. If that is a command, no other
+/// one is made: each takes thousands of instructions.
+pub fn command_line<'a>(alloc: Global, word: &str) -> Result<Command<'a>, AllocError> {
     let mut line = program(alloc);
+    let is_named = is_command(word);
     for named in ALL.as_slice() {
-        line = line.subcommand(command(alloc, named)?)?;
+        if !is_named || named.name() == word {
+            line = line.subcommand(command(alloc, named)?)?;
+        }
     }
     Ok(line)
+}
+
+/// Whether a command has this name.
+fn is_command(word: &str) -> bool {
+    for named in ALL.as_slice() {
+        if named.name() == word {
+            return true;
+        }
+    }
+    false
 }
 
 /// What the program takes behind `stamp`.

@@ -168,33 +168,41 @@ fn meaning_of_error<'a>(alloc: Global, error: &clap::Error) -> Result<Meaning<'a
 /// What the words ask for; the first word is the program's name. Behind the word `stamp` stand commands of their own.
 pub fn meaning_of<'a, S: AsStr>(alloc: Global, words: &'a [S]) -> Result<Meaning<'a>, Failure<'a>> {
     match words {
-        [_, group, ..] if group.as_str() == STAMP => meaning_by(alloc, true, &words[1..]),
-        _ => meaning_by(alloc, false, words),
+        [_, word, ..] if word.as_str() == STAMP => meaning_of_stamp(alloc, &words[1..]),
+        [_, word, ..] => meaning_behind(alloc, word.as_str(), words),
+        _ => meaning_behind(alloc, "", words),
     }
 }
 
-/// The same by the commands about stamps, or by the others. The first word is the name of what takes them.
-fn meaning_by<'a, S: AsStr>(
+/// The same by the commands but those about stamps, where this word stands behind the first one. (Each grammar has its
+/// room on the stack apart from the other.)
+#[inline(never)]
+fn meaning_behind<'a, S: AsStr>(
     alloc: Global,
-    stamps: bool,
+    word: &str,
     words: &'a [S],
 ) -> Result<Meaning<'a>, Failure<'a>> {
-    let line = if stamps {
-        stamp_line(alloc)?
-    } else {
-        command_line(alloc)?
-    };
-    let matches = match line.try_get_matches_from(words) {
-        Ok(matches) => matches,
-        Err(error) => return meaning_of_error(alloc, &error),
-    };
-    if let Some(many) = many_in(alloc, stamps, &matches)? {
-        return unambiguous_many(many);
+    match command_line(alloc, word)?.try_get_matches_from(words) {
+        Ok(matches) => match many_in(alloc, false, &matches)? {
+            Some(many) => unambiguous_many(many),
+            None => unambiguous(task_in(&matches)?),
+        },
+        Err(error) => meaning_of_error(alloc, &error),
     }
-    if stamps {
-        unambiguous(stamp_task_in(&matches)?)
-    } else {
-        unambiguous(task_in(&matches)?)
+}
+
+/// The same by the commands about stamps. The first word is `stamp`.
+#[inline(never)]
+fn meaning_of_stamp<'a, S: AsStr>(
+    alloc: Global,
+    words: &'a [S],
+) -> Result<Meaning<'a>, Failure<'a>> {
+    match stamp_line(alloc)?.try_get_matches_from(words) {
+        Ok(matches) => match many_in(alloc, true, &matches)? {
+            Some(many) => unambiguous_many(many),
+            None => unambiguous(stamp_task_in(&matches)?),
+        },
+        Err(error) => meaning_of_error(alloc, &error),
     }
 }
 

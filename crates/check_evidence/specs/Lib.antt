@@ -1,0 +1,13 @@
+pub mod Grounds
+pub mod Roots
+pub mod Joining
+pub mod Places
+pub mod StampStates
+pub mod Covering
+pub mod Ends
+pub mod Standing
+pub mod Showing
+pub mod Failing
+pub mod Refusing
+pub mod Laws
+pub mod Rows

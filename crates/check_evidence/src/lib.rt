@@ -1,0 +1,11 @@
+//! Judging evidence records (RFC 4998): the definitions of what a record shows, and how it is refused, and their laws.
+//! Begin with `specs/Showing.antt`.
+#![tactic(auto)]
+
+mod hashing;
+mod laws;
+mod rules;
+
+pub use hashing::{group_of, group_with, is_ascending};
+pub use laws::{evidence_rules_hold, records_are_judged, roots_are_unique};
+pub use rules::{EvidenceRefused, RecordRule, StampRule};

@@ -34,10 +34,10 @@ use Rattle.cli_commands.specs.Checking.{ShowsRefused}
 use Rattle.cli_commands.specs.Fit.{ShowsUnfit}
 use Rattle.cli_commands.specs.Lists.{IsFailureOfAnswers, IsFailureOfTrust}
 use Rattle.cli_commands.specs.Rereading.{Sayings}
-use Rattle.cli_commands.specs.Stamping.{ShowsNoStampQuestions}
+use Rattle.cli_commands.specs.Stamping.{HasNoStampQuestions}
 use Rattle.cli_files.specs.Lines.{AreAll, AreTold, none, next, EndsFiles, IsAsked, IsCut, IsFailureOfList}
 use Rattle.cli_files.specs.Lines.{IsLine, TellsNotAll}
-use Rattle.cli_files.specs.Lines.{FailsAbout, check_of, fit_of, questions_of, stamp_questions_of}
+use Rattle.cli_files.specs.Lines.{FailsAbout, check_of, fit_of, questions_of}
 
 pub read_fails : (path : Bor (List ℕ)) (f : Failure) → IsFailureToRead path f → status_of f ≡ status.Failed
 read_fails path f (inl e) = cc
@@ -129,23 +129,21 @@ module _ {F : Type 0} (holds : F → Option (List ℕ)) (says : Sayings F) where
       → status_of f ≢ status.Usage
   malformed_not_usage form octets f m = λ is. let e = m.malformed in let no : ⊥ = cc in no
 
-  stamp_not_usage : (trust path : Bor (List ℕ)) (f : Failure)
-      → ShowsNoStampQuestions holds (stamp_questions_of trust path) f → status_of f ≢ status.Usage
-  stamp_not_usage trust path f (inl fails) = not_usage f (trust_fails trust f fails)
-  stamp_not_usage trust path f (inr (inl fails)) = not_usage f (inr (read_fails path f fails))
-  stamp_not_usage trust path f (inr (inr (inl (octets, held, inl (by, inl lacks))))) =
+  stamp_not_usage : (path : Bor (List ℕ)) (f : Failure) → HasNoStampQuestions holds path f → status_of f ≢ status.Usage
+  stamp_not_usage path f (inl fails) = not_usage f (inr (read_fails path f fails))
+  stamp_not_usage path f (inr (inl (octets, held, inl (by, inl lacks)))) =
       malformed_not_usage _ octets f lacks
-  stamp_not_usage trust path f (inr (inr (inl (octets, held, inl (by, inr (given, rule, encodes, lacks, e)))))) =
+  stamp_not_usage path f (inr (inl (octets, held, inl (by, inr (given, rule, encodes, lacks, e))))) =
       λ is. let no : ⊥ = cc in no
-  stamp_not_usage trust path f (inr (inr (inl (octets, held, inr (never, lacks))))) =
+  stamp_not_usage path f (inr (inl (octets, held, inr (never, lacks)))) =
       malformed_not_usage _ octets f lacks
-  stamp_not_usage trust path f (inr (inr (inr (token, held, inl (fault, is, e))))) = λ is. let no : ⊥ = cc in no
-  stamp_not_usage trust path f (inr (inr (inr (token, held, inr (is, e))))) = λ is. let no : ⊥ = cc in no
+  stamp_not_usage path f (inr (inr (token, held, inl (fault, is, e)))) = λ is. let no : ⊥ = cc in no
+  stamp_not_usage path f (inr (inr (token, held, inr (is, e)))) = λ is. let no : ⊥ = cc in no
 
   about_not_usage : (trust : Bor (List ℕ)) (a : About) (path : Bor (List ℕ)) (f : Failure)
       → FailsAbout holds says trust a path f → status_of f ≢ status.Usage
   about_not_usage trust (about.Signed buffer) path f fails = asking_not_usage (questions_of trust buffer path) f fails
-  about_not_usage trust about.Stamps path f fails = stamp_not_usage trust path f fails
+  about_not_usage trust about.Stamps path f fails = stamp_not_usage path f fails
 
   check_line : (e : CheckEach) (path : Bor (List ℕ)) (line : List ℕ) (ends : Status)
       → IsLine holds says (check_of e) path line ends

@@ -27,7 +27,6 @@ use Rattle.cli_tasks.specs.declared.task.FitEach.{FitEach}
 use Rattle.cli_tasks.specs.declared.task.Many.{Many}
 use Rattle.cli_tasks.specs.declared.task.QuestionsEach.{QuestionsEach}
 use Rattle.cli_tasks.specs.declared.task.QuestionsWords.{QuestionsWords}
-use Rattle.cli_tasks.specs.declared.task.StampQuestionsWords.{StampQuestionsWords}
 use Rattle.cli_tasks.specs.declared.task.Several.{Several}
 use Rattle.cli_tasks.specs.declared.task.Several.TheVariants as several
 use Rattle.cli_tasks.specs.declared.task.TextTask.{TextTask}
@@ -35,7 +34,7 @@ use Rattle.cli_tasks.specs.declared.task.TextTask.TheVariants as text
 use Rattle.cli_commands.specs.Asking.{AsksNot, ShowsQuestions}
 use Rattle.cli_commands.specs.Lists.{IsFailureOfAnswers, IsFailureOfTrust, IsTrustOf}
 use Rattle.cli_commands.specs.Rereading.{Sayings}
-use Rattle.cli_commands.specs.Stamping.{ShowsNoStampQuestions, ShowsStampQuestions}
+use Rattle.cli_commands.specs.Stamping.{HasNoStampQuestions, ShowsStampQuestions}
 use Rattle.cli_commands.specs.Tasks.{MakesText, MakesNoText}
 use Rattle.cli_files.specs.Names.{heading_of, line_of}
 use Rattle.cli_files.specs.Paths.{ListsNone, end_of, path_of_name, names_of}
@@ -59,20 +58,16 @@ fit_of e path = text.Fit (record { file = path; content = e.content; sha1 = e.sh
 abbrev pub questions_of : (trust : Bor (List ℕ)) → (buffer : Option ℕ) → (path : Bor (List ℕ)) → QuestionsWords
 questions_of trust buffer path = record { trust = trust; buffer = buffer; file = path }
 
--- if it holds a stamp
-abbrev pub stamp_questions_of : (trust path : Bor (List ℕ)) → StampQuestionsWords
-stamp_questions_of trust path = record { trust = trust; stamp = path }
-
 -- the command for that file alone prints this
 abbrev pub ShowsAbout : {F : Type 0} → (holds : F → Option (List ℕ)) → About → (text : List ℕ) → Type 0
 ShowsAbout holds (about.Signed buffer) text = ShowsQuestions holds text
 ShowsAbout holds about.Stamps text = ShowsStampQuestions holds text
 
--- or fails so
+-- or fails so, once the list was read
 abbrev pub FailsAbout : {F : Type 0} → (holds : F → Option (List ℕ)) → (says : Sayings F) → (trust : Bor (List ℕ))
     → About → (path : Bor (List ℕ)) → Failure → Type 0
 FailsAbout holds says trust (about.Signed buffer) path f = AsksNot holds says (questions_of trust buffer path) f
-FailsAbout holds says trust about.Stamps path f = ShowsNoStampQuestions holds (stamp_questions_of trust path) f
+FailsAbout holds says trust about.Stamps path f = HasNoStampQuestions holds path f
 
 -- what a task says, and how it ends: it is done and gives a text, or it fails
 abbrev pub Says : {F : Type 0} → (holds : F → Option (List ℕ)) → (says : Sayings F) → TextTask → (said : List ℕ)

@@ -1,6 +1,7 @@
 mod Orders
 mod Ascending
 mod Joining
+mod Tests
 mod Roots
 mod Rows
 mod States

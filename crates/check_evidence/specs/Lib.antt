@@ -1,6 +1,8 @@
 pub mod Grounds
 pub mod Roots
 pub mod Joining
+pub mod ListTests
+pub mod FirstValues
 pub mod Places
 pub mod StampStates
 pub mod Covering

@@ -4,8 +4,10 @@
 
 mod hashing;
 mod laws;
+mod list_tests;
 mod rules;
 
 pub use hashing::{group_of, group_with, is_ascending};
 pub use laws::{evidence_rules_hold, records_are_judged, roots_are_unique};
+pub use list_tests::{are_covered, has_no_others, have_lengths};
 pub use rules::{EvidenceRefused, RecordRule, StampRule};

@@ -1,7 +1,10 @@
 mod Orders
 mod Ascending
 mod Joining
+mod Sorted
 mod Tests
+mod Climbing
+mod OneDigest
 mod Roots
 mod Rows
 mod States

@@ -59,7 +59,7 @@ fn feed_before<'a>(hashers: &mut Wanted, node: &[u8], values: &HashList<'a>) -> 
 }
 
 // The digest of what was fed.
-fn finish(alg: Alg, hashers: Wanted) -> Digest
+pub(crate) fn finish(alg: Alg, hashers: Wanted) -> Digest
     requires { is_in alg (set_of hashers) ≡ true }
     ensures algorithm { alg_of result ≡ alg }
     ensures octets { (m : List ℕ) → FedWanted hashers m → octets_of result ≡ digest_of alg m }

@@ -4,10 +4,13 @@
 
 mod hashing;
 mod laws;
+mod list_root;
 mod list_tests;
 mod rules;
+mod sorting;
 
 pub use hashing::{group_of, group_with, is_ascending};
 pub use laws::{evidence_rules_hold, records_are_judged, roots_are_unique};
+pub use list_root::{has_first, root_of, root_of_lists};
 pub use list_tests::{are_covered, has_no_others, have_lengths};
 pub use rules::{EvidenceRefused, RecordRule, StampRule};

@@ -1,0 +1,8 @@
+//! One archive time-stamp of an evidence record (RFC 4998): what it states, what it covers, whether it fits where it
+//! stands, and whether it lasts. What these are is defined in the crate `check_evidence`, in `specs/Standing.antt` and
+//! `specs/Failing.antt`.
+#![tactic(auto)]
+
+mod ends;
+
+pub use ends::{End, alg_holds};

@@ -4,5 +4,7 @@
 #![tactic(auto)]
 
 mod ends;
+mod token_state;
 
 pub use ends::{End, alg_holds};
+pub use token_state::TokenState;

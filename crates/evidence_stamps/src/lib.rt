@@ -3,8 +3,10 @@
 //! `specs/Failing.antt`.
 #![tactic(auto)]
 
+mod algorithm;
 mod ends;
 mod token_state;
 
+pub use algorithm::{alg_of, shows_alg};
 pub use ends::{End, alg_holds};
 pub use token_state::TokenState;

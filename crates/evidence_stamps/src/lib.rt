@@ -4,9 +4,11 @@
 #![tactic(auto)]
 
 mod algorithm;
+mod covered;
 mod ends;
 mod token_state;
 
 pub use algorithm::{alg_of, shows_alg};
+pub use covered::{covered_after, covered_later, digest_of_chains};
 pub use ends::{End, alg_holds};
 pub use token_state::TokenState;

@@ -1,3 +1,4 @@
 pub mod Holding
 pub mod Stated
 pub mod Named
+pub mod Entries

@@ -1,1 +1,2 @@
 pub mod StateValue
+pub mod MayLast

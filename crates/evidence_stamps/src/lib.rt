@@ -6,9 +6,11 @@
 mod algorithm;
 mod covered;
 mod ends;
+mod lasting;
 mod token_state;
 
 pub use algorithm::{alg_of, shows_alg};
 pub use covered::{covered_after, covered_later, digest_of_chains};
 pub use ends::{End, alg_holds};
+pub use lasting::lasts;
 pub use token_state::TokenState;

@@ -1,0 +1,4 @@
+pub mod Going
+pub mod PlaceParts
+pub mod ShowingChains
+pub mod ShowingLaws

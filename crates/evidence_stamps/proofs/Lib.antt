@@ -2,3 +2,5 @@ pub mod Holding
 pub mod Stated
 pub mod Named
 pub mod Entries
+pub mod Unread
+pub mod Fitted

@@ -1,2 +1,4 @@
 pub mod StateValue
 pub mod MayLast
+pub mod PlaceValues
+pub mod FitSteps

@@ -4,13 +4,19 @@
 #![tactic(auto)]
 
 mod algorithm;
+mod around;
 mod covered;
 mod ends;
+mod fitting;
 mod lasting;
 mod token_state;
+mod unfit;
 
 pub use algorithm::{alg_of, shows_alg};
+pub use around::Around;
 pub use covered::{covered_after, covered_later, digest_of_chains};
 pub use ends::{End, alg_holds};
+pub use fitting::fit_of;
 pub use lasting::lasts;
 pub use token_state::TokenState;
+pub use unfit::{Fit, Unfit};

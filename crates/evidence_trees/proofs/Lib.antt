@@ -1,0 +1,9 @@
+mod Pieces
+mod Orders
+mod Rising
+mod Once
+mod Levels
+mod Climbs
+mod Trees
+mod Uniqueness
+mod Rows

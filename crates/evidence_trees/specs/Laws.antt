@@ -1,0 +1,20 @@
+-- What holds of the definitions.
+use Rattle.std.specs.Prelude.{◌≡◌, ℕ, List, [], ◌∷◌, All, Contains}
+use Rattle.digests.specs.declared.algorithm.Alg.{Alg}
+use Rattle.check_evidence.specs.Roots.{IsNode}
+use Rattle.evidence_trees.specs.HashTrees.{HashTree, IsTreeOf, IsTreeRoot, node_of}
+
+-- the tree depends on which values there are alone: not on their order, nor on how often one stands there
+abbrev pub TreesAreOfTheirValues : Type 0
+TreesAreOfTheirValues = (alg : Alg) (values others : List (List ℕ)) (a b : HashTree) → All (Contains others) values
+    → All (Contains values) others → IsTreeOf alg values a → IsTreeOf alg others b → a ≡ b
+
+-- leaves have at most one root
+abbrev pub TreesHaveOneRoot : Type 0
+TreesHaveOneRoot = (alg : Alg) (leaves : List (List ℕ)) (a b : List ℕ) → IsTreeRoot alg leaves a
+    → IsTreeRoot alg leaves b → a ≡ b
+
+-- a node of a tree is the node of a list with both values, in any order
+abbrev pub NodesAreThoseOfLists : Type 0
+NodesAreThoseOfLists = (alg : Alg) (v w : List ℕ)
+    → IsNode alg (v ∷ w ∷ []) (node_of alg v w) × IsNode alg (w ∷ v ∷ []) (node_of alg v w)

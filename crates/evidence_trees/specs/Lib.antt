@@ -1,0 +1,6 @@
+pub mod Pieces
+pub mod Distinct
+pub mod HashTrees
+pub mod Climbing
+pub mod Laws
+pub mod Rows

@@ -15,7 +15,7 @@ from samples import hierarchy
 from samples.hierarchy import issue, root, signed, together
 
 from cmsproof import TrustList
-from cmsproof_tools import checking, issuing, verify
+from cmsproof_tools import checking, descriptors, issuing, verify
 from cmsproof_tools.issuer_words import Asked
 from cmsproof_tools.pairs import USUAL, Pairs
 from cmsproof_tools.running import Stop
@@ -166,8 +166,16 @@ class Several(unittest.TestCase):
             TrustList.from_file(REAL / "trust.txt"), None, False, False, {}, Pairs({}, USUAL), frozenset(), False, False
         )
         alone = [checking.outcomes_of(work, name) for name in names]
-        read, file_at = [], checking.file_at
-        with mock.patch.object(checking, "file_at", lambda *words: read.append(words[1]) or file_at(*words)):
+        read, file_at, copied = [], checking.file_at, descriptors.copied
+
+        def copy(name, most):
+            found = copied(name, most)
+            read.extend([name] * (found is not None))
+            return found
+
+        with mock.patch.object(checking, "file_at", lambda *words: read.append(words[1]) or file_at(*words)), mock.patch.object(
+            descriptors, "copied", copy
+        ):
             self.assertEqual(checking.outcomes_of_several(work, names), alone)
             self.assertEqual(sorted(read), sorted(names))
             # (that there is a content beside it is seen once it is read)

@@ -2,12 +2,12 @@
 from __future__ import annotations
 
 import ctypes
-from typing import Any, Callable, Iterable, NamedTuple, Optional, Sequence, Union, cast
+from typing import Any, Callable, NamedTuple, Optional, Sequence, Union, cast
 
 from cmsproof import library as lib
 from cmsproof.lists import TrustList, refused
 from cmsproof.octets import Given, Octets, octets_if_any, octets_of, of_bytes
-from cmsproof.verdicts import Unexpected, Verdict, verdict_of
+from cmsproof.verdicts import Said, Unexpected, Verdict, said_of, verdict_of
 from cmsproof.verifiers import Verifier, Vouching, vouching
 from cmsproof_tools.texts import Question, answers_of, read_questions
 
@@ -15,6 +15,9 @@ from cmsproof_tools.texts import Question, answers_of, read_questions
 ROOM = 1 << 13
 # what is no short questions text
 LONG = 1 << 16
+# the statuses of a file that was judged; and what the calls are handed that convert nothing
+JUDGED = (lib.DONE, lib.REFUSED, lib.MALFORMED)
+NONE, NO, YES = ctypes.c_size_t(0), ctypes.c_bool(False), ctypes.c_bool(True)
 
 
 class Questions(NamedTuple):
@@ -37,12 +40,15 @@ class Room:
     def __init__(self) -> None:
         self.length, self.answer, self.answers = ctypes.c_size_t(), lib.Answer(), lib.Handle()
         self.to_answer, self.to_answers = ctypes.byref(self.answer), ctypes.byref(self.answers)
+        # how many octets a file and an answers list have, for the calls that convert nothing
+        self.of_file, self.of_answers, self.calls = ctypes.c_size_t(), ctypes.c_size_t(), lib.straight()
         self.make(ROOM)
 
     def make(self, size: int) -> None:
         """Makes room for so many octets of a text."""
         self.text, self.size = (ctypes.c_char * size)(), size
-        self.words = ctypes.c_void_p(ctypes.addressof(self.text)), size, ctypes.byref(self.length), self.to_answer
+        at, length = ctypes.c_void_p(ctypes.addressof(self.text)), ctypes.byref(self.length)
+        self.words, self.ready = (at, size, length, self.to_answer), (at, ctypes.c_size_t(size), length, self.to_answer)
 
     def written(self, call: Callable[..., int], *words: Any) -> tuple[int, bytes]:
         """The status and text of a call that makes a text: tried with the room that is there, and again with as much as it says."""
@@ -78,6 +84,35 @@ class Room:
                 return self.written(getattr(loaded, call), held.handle, self.to_answers, *octets, *rest)
         finally:
             loaded.cmsproof_answers_free(self.to_answers)
+
+
+    def asked_short(self, trust: TrustList, octets: bytes) -> bytes:
+        """As `asked`, of octets in memory."""
+        held, self.of_file.value = trust.held, len(octets)
+        with held.lock:
+            status = self.calls.questions(held.reference, octets, self.of_file, *self.ready)
+        length = self.length.value
+        if status == lib.DONE and length <= self.size:
+            return cast(bytes, self.text[:length])
+        return self.asked(trust, of_bytes(octets))
+
+    def said(self, trust: TrustList, octets: bytes, answers: bytes, sha1: bool) -> Said:
+        """What a check of octets in memory says, with these answers and no content beside them."""
+        held, self.of_file.value, self.of_answers.value = trust.held, len(octets), len(answers)
+        try:
+            status = self.calls.read(self.to_answers, answers, self.of_answers, self.to_answer)
+            if status != lib.DONE:
+                raise refused("answers", status, self.answer)
+            words = held.reference, self.to_answers, octets, self.of_file, b"", NONE, NO, YES if sha1 else NO
+            with held.lock:
+                status = self.calls.check(*words, *self.ready)
+        finally:
+            self.calls.free(self.to_answers)
+        length = self.length.value
+        if status in JUDGED and length <= self.size:
+            return said_of(status, self.answer, self.text[:length])
+        status, line = self.checked(trust, of_bytes(octets), (b"", 0, False, sha1), answers)
+        return said_of(status, self.answer, line)
 
 
 # those that nobody has now: taken and put back whole, so that neither a thread nor a signal's check gets one that is in use
@@ -160,37 +195,37 @@ def check(
 
 def check_several(
     files: Sequence[bytes], *, trust: TrustList, verifiers: Sequence[Vouching], sha1: bool = False
-) -> list[Union[Verdict, Exception]]:
-    """The verdict of each of some short files, by a verifier of its own, or what `check` raises for it.
+) -> list[Union[Said, Exception]]:
+    """What `check` says of each of some short files, by a verifier of its own, or raises for it.
 
     Each step is done for all of them before the next one: so it takes two thirds of the time, since the processor keeps at hand what a
     step needs. What was asked about is what is checked: the octets are in memory.
     """
-    own = room()
+    own, found = room(), cast("list[Union[Said, Exception, None]]", [None] * len(files))
+    octets = [one if type(one) is bytes else bytes(one) for one in files]
+    texts = [b""] * len(octets)
 
-    def each(step: Callable[[int, Any], Any], before: Iterable[Any]) -> list[Any]:
-        """What a step makes of what was made of each file before; a verdict, and what was raised, stay."""
-        found: list[Any] = []
-        for number, made in enumerate(before):
-            try:
-                found.append(made if isinstance(made, (Exception, Verdict)) else step(number, made))
-            except Exception as error:
-                found.append(error)
-        return found
-
-    def verdict(number: int, answers: bytes) -> Verdict:
-        status, line = own.checked(trust, of_bytes(files[number]), (b"", 0, False, sha1), answers)
-        return verdict_of(status, own.answer, line)
-
-    def answers(number: int, text: bytes) -> bytes:
-        return answers_to(text, verifiers[number])
-
-    def text(number: int, octets: bytes) -> Union[bytes, Verdict]:
-        found = own.asked(trust, of_bytes(octets))
+    def asked(number: int) -> None:
+        texts[number] = text = own.asked_short(trust, octets[number])
         # (of one that is long not more than one is kept)
-        return found if len(found) <= LONG else verdict(number, answers(number, found))
+        if len(text) > LONG:
+            texts[number] = b""
+            found[number] = own.said(trust, octets[number], verifiers[number].answers(text), sha1)
+
+    def answered(number: int) -> None:
+        texts[number] = answers_to(texts[number], verifiers[number])
+
+    def checked(number: int) -> None:
+        found[number] = own.said(trust, octets[number], texts[number], sha1)
 
     try:
-        return each(verdict, each(answers, each(text, files)))
+        for step in (asked, answered, checked):
+            for number in range(len(octets)):
+                if found[number] is None:
+                    try:
+                        step(number)
+                    except Exception as error:
+                        found[number] = error
     finally:
         give_back(own)
+    return cast("list[Union[Said, Exception]]", found)

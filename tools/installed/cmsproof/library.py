@@ -5,7 +5,7 @@ import ctypes
 import os
 from ctypes import POINTER, Structure, c_bool, c_int64, c_size_t, c_uint32, c_uint64, c_void_p
 from functools import lru_cache
-from typing import Any
+from typing import Any, NamedTuple
 
 SONAME = "libcmsproof.so.1"
 # the first number of the version, which says which functions and structs there are
@@ -82,3 +82,26 @@ def library() -> ctypes.CDLL:
     except (OSError, AttributeError) as error:
         raise ImportError(f"the library {SONAME} cannot be used (`make library` builds it): {error}") from error
     return loaded
+
+
+class Straight(NamedTuple):
+    """Calls of the library that convert nothing of what they are handed, which takes as long as they need themselves. Each word must be
+    what the header has in its place: `bytes` for octets, and else what ctypes makes of this very type, never a number of Python's."""
+
+    questions: Any
+    check: Any
+    read: Any
+    free: Any
+
+
+@lru_cache(maxsize=None)
+def straight() -> Straight:
+    """The calls by which short files are checked."""
+    loaded = ctypes.CDLL(library()._name)
+    calls = Straight(
+        loaded.cmsproof_questions, loaded.cmsproof_check, loaded.cmsproof_answers_read, loaded.cmsproof_answers_free
+    )
+    for call in calls[:3]:
+        call.restype = c_uint32
+    calls.free.restype = None
+    return calls

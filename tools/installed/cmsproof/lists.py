@@ -120,6 +120,7 @@ class Held:
 
     def __init__(self, what: str, text: bytes) -> None:
         self.handle, self.lock = handle_of(what, text), threading.RLock()
+        self.reference = ctypes.byref(self.handle)
         self.freed = weakref.finalize(self, getattr(lib.library(), f"cmsproof_{what}_free"), self.handle)
         # (when Python ends, a thread that nobody waits for may still be in a call)
         self.freed.atexit = False

@@ -136,6 +136,13 @@ class File:
                 pass
 
 
+class Copy(File):
+    """A short file whose octets were read, and that is closed again."""
+
+    def __init__(self, name: str, found: os.stat_result, octets: bytes) -> None:
+        self.descriptor, self.name, self.found, self.octets = -1, name, found, octets
+
+
 @contextmanager
 def file_of(descriptor: int, name: str) -> Iterator[File]:
     """The file of a descriptor. Raises `Changed` if it changed while its octets were used."""

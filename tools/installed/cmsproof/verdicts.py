@@ -49,6 +49,14 @@ class Verdict(NamedTuple):
         raise TypeError("a verdict is neither true nor false: ask for .accepted, or compare .verdict")
 
 
+class Said(NamedTuple):
+    """What a check says, as far as a line has it: verdict, code and line of a Verdict."""
+
+    verdict: str
+    code: Optional[str]
+    line: str
+
+
 @lru_cache(maxsize=4096)
 def day_text(days: int) -> str:
     """The day so many days after 1970-01-01 as eight digits; the year 0000 is what no datetime has."""
@@ -80,13 +88,18 @@ def code_of(answer: lib.Answer) -> Optional[str]:
     return f"{chr(answer.letter)}{answer.number}" if answer.letter else None
 
 
-def verdict_of(status: int, answer: lib.Answer, text: bytes) -> Verdict:
-    """The verdict of a check's status, numbers and line, which must agree."""
-    word, code = WORDS.get(answer.verdict), code_of(answer)
-    if word is None or STATUSES[answer.verdict] != status:
-        raise Unexpected(f"the library said status {status} and verdict {answer.verdict}")
-    if answer.verdict == lib.ACCEPTED:
-        return accepted_of(answer, code, text)
+def said_of(status: int, answer: lib.Answer, text: bytes) -> Said:
+    """What is said by a check's status, numbers and line, which must agree."""
+    number = answer.verdict
+    word, code = WORDS.get(number), code_of(answer)
+    if word is None or STATUSES[number] != status:
+        raise Unexpected(f"the library said status {status} and verdict {number}")
+    if number == lib.ACCEPTED:
+        # (the line is made of the numbers, and must be the library's)
+        line = "accepted " + time_text(answer.seconds, answer.nanoseconds)
+        if code or text != line.encode() + b"\n":
+            raise Unexpected(f"the line {text!r} and the numbers of the library differ")
+        return Said(word, None, line)
     line = text.decode("ascii", "replace")
     if (
         line.count("\n") != 1
@@ -95,15 +108,13 @@ def verdict_of(status: int, answer: lib.Answer, text: bytes) -> Verdict:
         or (code and code not in line.split())
     ):
         raise Unexpected(f"the library said {word} {code or ''}, and the line {line!r}")
-    line = line.rstrip("\n")
-    name = line.partition(f" {code} ")[2] if code else ""
-    return Verdict(False, word, None, None, code, name, answer.signer or None, answer.token or None, line)
+    return Said(word, code, line.rstrip("\n"))
 
 
-def accepted_of(answer: lib.Answer, code: Optional[str], text: bytes) -> Verdict:
-    """The verdict of an accepted file, whose line is made of the numbers and must be the library's."""
-    line = "accepted " + time_text(answer.seconds, answer.nanoseconds)
-    if code or text != line.encode() + b"\n":
-        raise Unexpected(f"the line {text!r} and the numbers of the library differ")
+def verdict_of(status: int, answer: lib.Answer, text: bytes) -> Verdict:
+    """The verdict of a check's status, numbers and line, which must agree."""
+    word, code, line = said_of(status, answer, text)
     signer, token = answer.signer or None, answer.token or None
-    return Verdict(True, "accepted", moment_of(answer), answer.nanoseconds, None, "", signer, token, line)
+    if word == "accepted":
+        return Verdict(True, word, moment_of(answer), answer.nanoseconds, None, "", signer, token, line)
+    return Verdict(False, word, None, None, code, line.partition(f" {code} ")[2] if code else "", signer, token, line)

@@ -10,11 +10,11 @@ from typing import TYPE_CHECKING, ContextManager, Iterator, NamedTuple, Sequence
 
 import cmsproof
 from cmsproof.calls import check_several
-from cmsproof.octets import Buffer, Changed, File
+from cmsproof.octets import Buffer, Changed, Copy, File
 from cmsproof.verifiers import Vouching
 from cmsproof_tools import descriptors
 from cmsproof_tools.descriptors import path_of
-from cmsproof_tools.finding import again_in_der, found_in
+from cmsproof_tools.finding import again_in_der, found_in, found_in_der, is_in_der
 from cmsproof_tools.found import Found, Unfound
 from cmsproof_tools.outcomes import Outcome
 from cmsproof_tools.pairs import Pairs
@@ -396,26 +396,22 @@ def outcomes_in(work: Work, name: str, reading: Reading) -> list[Outcome]:
 def short(work: Work, name: str) -> Union[Reading, None]:
     """A short file that has no content and no stamp beside it, of which a copy is read; None of any other, and where anything fails."""
     try:
-        if work.stamps and may_have(name):
+        if name in work.opened or work.content is not None or (work.stamps and may_have(name)):
             return None
         begun = time_ns()
-        with open_file(work, name, SHORT) as file:
-            if type(file.octets) is not bytes or len(file.octets) > SHORT:
-                return None
-        if work.content is not None or work.pairs.content_of(name) is not None:
-            return None
-        return Reading(file, None, begun)
+        read = descriptors.copied(name, SHORT)
+        return None if read is None or work.pairs.content_of(name) is not None else Reading(Copy(name, *read), None, begun)
     except Exception:
         return None
 
 
-def alone_in_der(work: Work, name: str, reading: Union[Reading, None]) -> Union[Found, None]:
+def alone_in_der(name: str, reading: Union[Reading, None]) -> Union[Found, None]:
     """What is found in a short file in DER; None of any other, and where anything fails."""
-    if reading is None or reading.file.octets[:1] != b"\x30" or reading.file.octets[1:2] == b"\x80":
+    if reading is None or not is_in_der(octets := reading.file.octets) or not octets:
         return None
     try:
-        (found,) = found_in(name, reading.file, work.partial)
-        return None if isinstance(found, Unfound) else found
+        found = found_in_der(name, octets)
+        return found if isinstance(found, Found) else None
     except Exception:
         return None
 
@@ -424,7 +420,7 @@ def outcomes_of_several(work: Work, names: list[str]) -> list[list[Outcome]]:
     """As `outcomes_of`, of several files: those that are short and in DER are judged together, the others one by one. None that is
     short is read twice, and none that is long."""
     read = [short(work, name) for name in names]
-    ready = [alone_in_der(work, name, reading) for name, reading in zip(names, read)]
+    ready = [alone_in_der(name, reading) for name, reading in zip(names, read)]
     there = [found for found in ready if found is not None]
     judges = [Judge() for _ in there]
     try:

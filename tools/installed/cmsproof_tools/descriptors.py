@@ -15,6 +15,9 @@ NOEXEC = 8
 NULL_DEVICE = os.makedev(1, 3)
 
 
+# where a process has its own descriptors; how a file is reached that is not opened for reading yet, and how it is then
+OWN = "/proc/self/fd/"
+REACHING, READING = os.O_PATH | os.O_CLOEXEC, os.O_RDONLY | os.O_CLOEXEC
 STANDARD = ("stdin", "stdout", "stderr")
 # the copies that were made, by the number of the descriptor: what is named twice is the same
 COPIES: dict[int, int] = {}
@@ -88,7 +91,7 @@ def kept(descriptor: int) -> int:
 
 def path_of(descriptor: int | str) -> str:
     """The path by which a process that has this descriptor opens the same file, from its beginning."""
-    return f"/proc/self/fd/{descriptor}"
+    return f"{OWN}{descriptor}"
 
 
 def number_named(path: str) -> int | None:
@@ -113,7 +116,7 @@ def is_fit(mode: int, device: int) -> bool:
 def reached_as(path: str) -> tuple[int, os.stat_result]:
     """A descriptor of the file of this name, not opened for reading yet, so that nothing waits for a pipe's other end; and what is said
     of the file."""
-    descriptor = os.open(path, os.O_PATH | os.O_CLOEXEC)
+    descriptor = os.open(path, REACHING)
     found = os.fstat(descriptor)
     if is_fit(found.st_mode, found.st_rdev):
         return descriptor, found
@@ -124,6 +127,29 @@ def reached_as(path: str) -> tuple[int, os.stat_result]:
 def reached(path: str) -> int:
     """As `reached_as`, the descriptor alone."""
     return reached_as(path)[0]
+
+
+def copied(path: str, most: int) -> tuple[os.stat_result, bytes] | None:
+    """What is said of the regular file of this name, and all its octets, if they are at most so many; None of any other, and of one that
+    is changed meanwhile. It is reached as by `reached_as`. (This is called for each file of an archive, and calls as little as it can.)"""
+    descriptor = os.open(path, REACHING)
+    try:
+        found = os.fstat(descriptor)
+        size = found.st_size
+        if size > most or not stat.S_ISREG(found.st_mode):
+            return None
+        reading = os.open(f"{OWN}{descriptor}", READING)
+    finally:
+        os.close(descriptor)
+    try:
+        octets = os.read(reading, size + 1)
+        now = os.fstat(reading)
+    finally:
+        os.close(reading)
+    is_same = len(octets) == size == now.st_size
+    if is_same and now.st_mtime_ns == found.st_mtime_ns and now.st_ctime_ns == found.st_ctime_ns:
+        return found, octets
+    return None
 
 
 def taken(path: str, own: frozenset[int]) -> int:

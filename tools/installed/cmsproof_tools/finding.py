@@ -92,6 +92,17 @@ def covering(found: Union[Found, Unfound], partial: bool) -> Union[Found, Unfoun
     return Unfound(found.part, "F6", found.uncovered, found.container)
 
 
+def is_in_der(octets: Buffer) -> bool:
+    """Whether a file is handed to the checker as it is: one in DER, and an empty one, of which the checker says what it is."""
+    first = octets[:2]
+    return first[:1] in (b"", b"\x30") and first != b"\x30\x80"
+
+
+def found_in_der(name: str, octets: Buffer) -> Union[Found, Unfound]:
+    """What is found in a file that is handed to the checker as it is. (It is no token of a container, and covers itself.)"""
+    return as_one(name, Found("", octets), octets)
+
+
 def found_in(name: str, file: File, partial: bool = False) -> Iterator[Union[Found, Unfound]]:
     """What is found in a file: at least one. `name` is what the user calls it, by which only is decided whether it is called as a file of
     another kind. `partial` allows signatures that do not cover the whole file.
@@ -99,10 +110,10 @@ def found_in(name: str, file: File, partial: bool = False) -> Iterator[Union[Fou
     What a front end gives is part of `file.octets`, as a memoryview of it say, or made of it: the file may be gone or another one
     by then. It is checked before the next one is asked for.
     """
-    first = file.octets[:2]
-    # (an empty file too, of which the checker says what it is)
-    alone = first[:1] in (b"", b"\x30") and first != b"\x30\x80"
-    for found in [Found("", file.octets)] if alone else in_container(file.octets):
+    if is_in_der(file.octets):
+        yield found_in_der(name, file.octets)
+        return
+    for found in in_container(file.octets):
         yield covering(as_token(as_one(name, found, file.octets)), partial)
 
 

@@ -22,8 +22,12 @@ class Pairs(NamedTuple):
 
     def ending(self, name: str) -> str | None:
         """The ending of a signature's name, the longest that fits, or None; there is a name before it."""
-        found = [end for end in self.endings if name.endswith(end) and name != end and not name.endswith("/" + end)]
-        return max(found, key=len) if found else None
+        longest = None
+        for end in self.endings:
+            if name.endswith(end) and (longest is None or len(end) > len(longest)):
+                if name != end and not name.endswith("/" + end):
+                    longest = end
+        return longest
 
     def content_of(self, name: str) -> str | None:
         """The name of the content of this file, or None where there is none beside it: of a list in any case, by an ending only if

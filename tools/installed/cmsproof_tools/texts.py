@@ -8,6 +8,8 @@ from typing import Iterable, Iterator, NamedTuple
 
 QUESTIONS, ANSWERS = b"cmsproof questions 1", b"cmsproof answers 1"
 TRUST_1 = b"cmsproof trust 1"
+# what begins a line that says nothing, and how long a short text is at most
+COMMENT, SHORT = 0x23, 1 << 14
 # why a signature is not vouched for that can be judged
 UNHOLDING = "the signature does not hold"
 MOMENT = r"[0-9]{14}(?:\.[0-9]{0,8}[1-9])?Z"
@@ -99,10 +101,16 @@ def question_of(number: int, line: bytes) -> Question:
 
 def lines_asked(text: bytes) -> list[bytes]:
     """The lines of a questions text that are to be questions. Raises ValueError if it does not begin as one."""
-    first, *lines = pieces_of(text, b"\n")
-    if first != QUESTIONS or b"\r" in text:
+    if len(text) > SHORT or b"\r" in text:
         return [line for _, line in question_lines(text)]
-    return [line for line in lines if line and not line.startswith(b"#")]
+    # (of a short text it is quick to take line after line from its front)
+    found = []
+    first, more, rest = text.partition(b"\n")
+    while more:
+        line, more, rest = rest.partition(b"\n")
+        if line and line[0] != COMMENT:
+            found.append(line)
+    return found if first == QUESTIONS else [line for _, line in question_lines(text)]
 
 
 def question_lines(text: bytes) -> list[tuple[int, bytes]]:

@@ -330,8 +330,14 @@ def is_good(verify: Callable[..., None], signature: bytes, octets: bytes, call: 
         return True
     except InvalidSignature:
         return False
-    except Exception as error:  # whatever else the library says, it does not say that the signature is good
-        raise Unjudged(f"the library cannot judge it: {error or type(error).__name__}") from error
+    except Exception as error:
+        raise unjudged(error) from error
+
+
+def unjudged(error: Exception) -> Unjudged:
+    """What is raised where the library says of a signature neither that it is good nor that it is bad: whatever else it says, it does not
+    say that it is good."""
+    return Unjudged(f"the library cannot judge it: {error or type(error).__name__}")
 
 
 class Asking(NamedTuple):
@@ -374,7 +380,13 @@ def holds_in(line: bytes) -> bool:
         return holds(question_of(0, line))
     hashed, verify, call = asking_kept(fields) if len(fields) <= LONGEST_KEPT else asking_in(fields)
     octets = b"\x31" + tail
-    return is_good(verify, signature, octets if hashed is None else hashed(octets).digest(), call)
+    try:
+        verify(signature, octets if hashed is None else hashed(octets).digest(), *call)
+        return True
+    except InvalidSignature:
+        return False
+    except Exception as error:
+        raise unjudged(error) from error
 
 
 def fault_in(line: bytes) -> str | None:

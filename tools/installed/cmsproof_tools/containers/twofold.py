@@ -97,6 +97,9 @@ def content_at(octets: memoryview) -> tuple[int, int]:
 
 def other_kind(octets: Buffer) -> str:
     """What other programs open a file of CMS as, by octets that are not in its content; no text where they do not."""
+    # (nearly all files are short, and have neither word)
+    if type(octets) is bytes and len(octets) <= LAST and octets.rfind(b"obj") < 0 and octets.rfind(b"PK\5\6") < 0:
+        return ""
     pdf = has(octets, b"obj")
     if not pdf and not has(octets, b"PK\5\6", max(0, len(octets) - LAST)):
         return ""

@@ -9,7 +9,7 @@ import making
 
 making.need_tools()
 
-from cmsproof_tools.workers import GROUP, ROOM, Workers
+from cmsproof_tools.workers import GROUP, MOST, ROOM, Workers, each
 
 assert making.INSTALLED.is_dir()  # (it has put the modules on the path)
 
@@ -62,8 +62,25 @@ class Handing(unittest.TestCase):
             for count in (1, 3):
                 with Workers(count, task, together=together) as workers:
                     self.assertEqual(list(workers.results(items, lost)), [(f"lost {item} by 0", 0) for item in items])
-        with Workers(2, task, finish=lambda done: done[1:]) as workers:
-            self.assertEqual(list(workers.results(items, lost)), [(f"lost {item} by 0", 0) for item in items])
+        for finish in (lambda done: each(done[1:]), lambda done: [(2, done[0]), *each(done[1:])]):
+            with Workers(2, task, finish=finish) as workers:
+                self.assertEqual(list(workers.results(items, lost)), [(f"lost {item} by 0", 0) for item in items])
+
+    def test_results_of_several_items(self):
+        """Each is of items that follow each other, as many as it says, whoever ends meanwhile."""
+        for ends in ([], [0], [5, 6, 400], range(0, 900, 31)):
+            items = [f"end {number}" if number in ends else f"item {number}" for number in range(900)]
+
+            def pairs(done):
+                texts = [text for text, _ in done]
+                return [(len(texts[at : at + 3]), " ".join(texts[at : at + 3])) for at in range(0, len(texts), 3)]
+
+            for count in (1, 3):
+                with Workers(count, task, finish=pairs) as workers:
+                    several = list(workers.batches(items, lambda item, by: f"LOST-{item[4:]}"))
+                found = " ".join(text for batch in several for text in batch).replace("LOST-", "END ")
+                self.assertEqual(found, " ".join(items).upper())
+                self.assertLessEqual(max(len(" ".join(batch).split()) for batch in several), 2 * MOST)
 
     def test_slow_ones_and_long_names(self):
         items = [f"{'slow' if number % 97 == 0 else 'item'} {number}" for number in range(400)]

@@ -110,7 +110,7 @@ class Room:
             self.calls.free(self.to_answers)
         length = self.length.value
         if status in JUDGED and length <= self.size:
-            return said_of(status, self.answer, self.text[:length])
+            return said_of(status, self.answer, cast(bytes, self.text[:length]))
         status, line = self.checked(trust, of_bytes(octets), (b"", 0, False, sha1), answers)
         return said_of(status, self.answer, line)
 

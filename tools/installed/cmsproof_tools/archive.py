@@ -3,6 +3,7 @@ from __future__ import annotations
 
 import argparse
 import os
+import sys
 from contextlib import ExitStack
 from functools import partial
 from typing import TYPE_CHECKING, Any, Iterable
@@ -50,6 +51,9 @@ def names_in(path: str, null: bool) -> list[str]:
     names = [name for name in octets.split(b"\0" if null else b"\n") if name]
     if not null and all(name.endswith(b"\r") for name in names):
         names = [name[:-1] for name in names if name != b"\r"]
+    if sys.getfilesystemencoding() == "utf-8":
+        # (of all at once: an end of a name ends what is no UTF-8, too)
+        return os.fsdecode(b"\0".join(names)).split("\0") if names else []
     return [os.fsdecode(name) for name in names]
 
 
@@ -122,7 +126,7 @@ def checked(tool: str, found: Iterable[list[Told]], progress: Progress, known: K
         several = batch if known is None else [told_beside(known, told) for told in batch]
         progress.put("")
         print_lines(tool, several)
-        progress.steps([verdict for _, _, _, verdict, _, _ in several])
+        progress.steps([verdict for _, _, _, verdicts, _, _ in several for verdict in verdicts])
         worst = max([worst, *(status for _, _, status, _, _, _ in several)])
     progress.end("" if known is None else known.text())
     return worst

@@ -11,6 +11,7 @@ from typing import TYPE_CHECKING, ContextManager, Iterator, NamedTuple, Sequence
 import cmsproof
 from cmsproof.calls import check_several
 from cmsproof.octets import Buffer, Changed, Copy, File
+from cmsproof.verdicts import Said
 from cmsproof.verifiers import Vouching
 from cmsproof_tools import descriptors
 from cmsproof_tools.descriptors import path_of
@@ -307,7 +308,9 @@ def outcome_of(work: Work, reading: Reading, found: Union[Found, Unfound], name:
     return outcome_by(work, reading, found, judge, verdict_of(work, found, content, judge), name)
 
 
-def outcome_by(work: Work, reading: Reading, found: Found, judge: Judge, verdict: cmsproof.Verdict, name: str) -> Outcome:
+def outcome_by(
+    work: Work, reading: Reading, found: Found, judge: Judge, verdict: Union[cmsproof.Verdict, Said], name: str
+) -> Outcome:
     """What this verdict says of what was found in the file of this name."""
     beside = reading.beside
     content = found.content if beside is None else beside.octets

@@ -6,7 +6,7 @@ import json
 import os
 import time
 from functools import lru_cache
-from typing import NamedTuple
+from typing import Any, NamedTuple
 
 from cmsproof_tools import der
 from cmsproof_tools.outcomes import Outcome
@@ -185,19 +185,18 @@ def grounds_text(found: tuple[tuple[str, tuple[Listed, ...], str], ...], decided
     return json.dumps({"holds": sorted(holds), "decided": decided})
 
 
-def rows_of(name: str, outcomes: list[Outcome], judged: int) -> list[Row]:
-    """The rows of what is said of all parts of the file of this name. Of two parts of one name the worse one counts."""
-    rows = [row_of(name, outcome, judged) for outcome in outcomes]
-    if len(rows) < 2:
-        return rows
-    worst: dict[str, Row] = {}
-    for row in rows:
-        worst[row.part] = max(worst.get(row.part, row), row, key=lambda one: one.status)
-    return list(worst.values())
+def values_of_all(outcomes: list[Outcome]) -> list[tuple[Any, ...]]:
+    """The values of the rows of what is said of all parts of a file, each without the file's name and the moment when it was judged. Of two
+    parts of one name the worse one counts."""
+    if len(outcomes) == 1:
+        return [values_of(outcomes[0])]
+    worst: dict[str, Outcome] = {}
+    for outcome in outcomes:
+        worst[outcome.part] = max(worst.get(outcome.part, outcome), outcome, key=lambda one: one.status)
+    return [values_of(outcome) for outcome in worst.values()]
 
 
-def row_of(name: str, outcome: Outcome, judged: int) -> Row:
-    """The row of what is said of a part of the file of this name."""
+def values_of(outcome: Outcome) -> tuple[Any, ...]:
+    """The values of the row of what is said of a part of a file: part, record, status, line and grounds of Row."""
     size, changed, mark, sha256, content, grounds = outcome.record or NOTHING
-    line = one_line(outcome.line)
-    return Row(name, outcome.part, size, changed, mark, sha256, content, outcome.status, line, grounds, judged)
+    return outcome.part, size, changed, mark, sha256, content, outcome.status, one_line(outcome.line), grounds

@@ -11,6 +11,7 @@ import signal
 import socket
 import time
 from collections import deque
+from itertools import islice
 from typing import Any, Callable, Iterator, Sequence, Union
 
 # prctl(2): the signal that a process gets when the one that started it has ended
@@ -18,14 +19,16 @@ PR_SET_PDEATHSIG = 1
 LIBRARY = ctypes.CDLL(None, use_errno=True)
 # how many items a worker is handed at a time where there are many, and of how many characters; after how many seconds it says what
 # it has done of them. Two such groups fit into a pipe, so that nobody waits who should read.
-GROUP, ROOM, OFTEN = 32, 8192, 0.05
+GROUP, ROOM, OFTEN = 128, 8192, 0.05
 # how many of them the task is done for in turn: few, since what is done waits for all of them
 TOGETHER = 16
-# how many results are given on at a time
+# of how many items results are given on at a time
 MOST = 64
 # how many octets are read at a time
 PIECE = 1 << 20
 PROTOCOL = pickle.HIGHEST_PROTOCOL
+# results in the order of their items: of how many each is, and it
+Results = list[tuple[int, Any]]
 # how many octets say how long a message is
 LENGTH = 8
 
@@ -72,27 +75,39 @@ def bind(parent: int) -> None:
         end_group()
 
 
-def as_many(results: list[Any], items: list[Any]) -> list[Any]:
-    """The results, if there is one for each item. Raises EOFError where there are more or fewer."""
-    if len(results) != len(items):
+def each(done: list[Any]) -> Results:
+    """A result for each item."""
+    return [(1, one) for one in done]
+
+
+def check_count(found: int, items: list[Any]) -> None:
+    """Raises EOFError unless there are as many results as items: none is taken for another's."""
+    if found != len(items):
         raise EOFError
-    return results
 
 
-def serve(connection: Connection, task: Callable[[list[Any]], list[Any]], finish: Callable[[list[Any]], list[Any]]) -> None:
+def serve(connection: Connection, task: Callable[[list[Any]], list[Any]], finish: Callable[[list[Any]], Results]) -> None:
     """Does the task for the items that come, for some in turn, in their order, until no more can come. What is sent is the results that
-    are there then, as `finish` makes them. It ends where these are not as many as the items: none is taken for another's."""
+    are there then, as `finish` makes them. It ends where these are not as many as the items."""
+
+    def send(done: list[Any]) -> None:
+        results = finish(done)
+        check_count(sum(count for count, _ in results), done)
+        connection.send(results)
+
     try:
         while True:
             items, done, next_time = connection.receive(), list[Any](), time.monotonic() + OFTEN
             for at in range(0, len(items), TOGETHER):
                 some = items[at : at + TOGETHER]
-                done += as_many(task(some), some)
+                found = task(some)
+                check_count(len(found), some)
+                done += found
                 if time.monotonic() >= next_time:
-                    connection.send(as_many(finish(done), done))
+                    send(done)
                     done, next_time = [], time.monotonic() + OFTEN
             if done:
-                connection.send(as_many(finish(done), done))
+                send(done)
     except (EOFError, BrokenPipeError, ConnectionResetError):
         pass
 
@@ -101,7 +116,7 @@ class Worker:
     """A worker, how it is talked to, the numbers of the items that it has in hand, in their order, and whether none may be behind."""
 
     def __init__(
-        self, task: Callable[[list[Any]], list[Any]], finish: Callable[[list[Any]], list[Any]], others: list[Worker]
+        self, task: Callable[[list[Any]], list[Any]], finish: Callable[[list[Any]], Results], others: list[Worker]
     ) -> None:
         self.connection, there = map(Connection, socket.socketpair())
         self.numbers: deque[int] = deque()
@@ -130,12 +145,21 @@ class Worker:
         except OSError:
             pass  # it has ended, which is seen when its results are asked for
 
-    def results(self) -> list[tuple[int, Any]]:
-        """The numbers and results of items that were in hand. Raises EOFError where the worker has ended."""
+    def results(self) -> Iterator[tuple[int, int, Any]]:
+        """Of some items that were in hand, which follow each other, the number of the first one, how many they are, and their result. Raises
+        EOFError where the worker has ended."""
         try:
-            return [(self.numbers.popleft(), result) for result in self.connection.receive()]
-        except (OSError, pickle.UnpicklingError, IndexError) as error:
+            results = self.connection.receive()
+        except (OSError, pickle.UnpicklingError) as error:
             raise EOFError from error
+        total = sum(count for count, _ in results)
+        numbers = list(islice(self.numbers, total))
+        if not numbers or numbers != list(range(numbers[0], numbers[0] + total)):
+            raise EOFError
+        for count, result in results:
+            yield self.numbers[0], count, result
+            for _ in range(count):
+                self.numbers.popleft()
 
     def end(self) -> int:
         """Ends it and all that it started, and answers the signal by which it had ended, or 0."""
@@ -166,6 +190,9 @@ class Items:
             number = self.again.popleft()
             return range(number, number + 1)
         first, room = self.next, ROOM
+        some = self.items[first : first + size]
+        if (length := sum(map(len, some))) <= ROOM:
+            self.next, room = first + len(some), ROOM - length
         while self.next < min(first + size, len(self.items)) and room > 0:
             room -= len(self.items[self.next])
             self.next += 1
@@ -182,7 +209,7 @@ class Workers:
         self,
         count: int,
         task: Callable[[Any], Any],
-        finish: Callable[[list[Any]], list[Any]] = lambda done: done,
+        finish: Callable[[list[Any]], Results] = each,
         together: Union[Callable[[list[Any]], list[Any]], None] = None,
     ) -> None:
         """So many that do a task for an item, or for some of them `together`."""
@@ -239,26 +266,29 @@ class Workers:
             yield from several
 
     def batches(self, items: list[Any], lost: Callable[[Any, int], Any]) -> Iterator[list[Any]]:
-        """The result of each item, in the order of the items, of as many at a time as are there; `lost(item, signal)` of one that a
+        """The results of all items, in the order of the items, of as many at a time as are there; `lost(item, signal)` of one that a
         worker had alone in hand when it ended. Where it had more, another gets them, one by one."""
-        rest, done, due = Items(items, self.count), dict[int, Any](), 0
+        rest, done, due = Items(items, self.count), dict[int, tuple[int, Any]](), 0
         self.give(rest)
         while any(worker.numbers for worker in self.running):
             for worker in self.ready():
                 try:
-                    done.update(worker.results())
+                    for number, count, result in worker.results():
+                        done[number] = count, result
                 except EOFError:
                     by = self.replaced(worker)
                     if len(worker.numbers) == 1:
-                        done[worker.numbers[0]] = lost(items[worker.numbers[0]], by)
+                        done[worker.numbers[0]] = 1, lost(items[worker.numbers[0]], by)
                     else:
                         rest.again.extend(worker.numbers)
             self.give(rest)
             while due in done:
-                first = due
-                while due in done and due < first + MOST:
-                    due += 1
-                yield [done.pop(number) for number in range(first, due)]
+                first, several = due, list[Any]()
+                while due in done and (not several or due + done[due][0] <= first + MOST):
+                    count, result = done.pop(due)
+                    several.append(result)
+                    due += count
+                yield several
 
 
 def signal_at(task: Callable[[], object]) -> int:

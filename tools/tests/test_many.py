@@ -132,22 +132,28 @@ class Several(unittest.TestCase):
         text = subprocess.run(
             [PROGRAM, "questions", "--trust", REAL / "trust.txt", REAL / "two_attached_ts.p7s"], capture_output=True, check=True
         ).stdout
-        good = text.splitlines()[1:]
+        first, *good = text.splitlines()
         bad = good[0][:-2] + (b"00" if good[0][-2:] != b"00" else b"01")
-        lines = [(number, bad if number % 97 == 0 else good[number % len(good)]) for number in range(2, 2 * verify.MANY)]
-        found = verify.faults_of_many(lines)
-        self.assertEqual(found, verify.faults_of(lines))
-        self.assertEqual([number for number, _ in found], list(range(97, 2 * verify.MANY, 97)))
+        # (there are lines that say nothing, and ends of lines of two octets)
+        lines = [first] + [bad if number % 97 == 0 else good[number % len(good)] for number in range(2, 2 * verify.MANY)]
+        for number in (300, 301, 1300):
+            lines[number - 1] = b"# nothing" if number % 2 else b""
+        vouched = [b"cmsproof answers 1", *(line for line in lines[1:] if line in good), b""]
+        lines[500] += b"\r"
+        for end in (b"", b"\n", b"\n\n", b"\n#"):
+            text = b"\n".join(lines) + end
+            answers, faults = verify.answers_for(text)
+            self.assertEqual(answers, b"\n".join(vouched), end)
+            self.assertEqual([number for number, _ in faults], list(range(97, 2 * verify.MANY, 97)))
+            with mock.patch.object(verify, "MANY", len(lines) + 9):
+                self.assertEqual(verify.answers_for(text), (answers, faults))
         # the first line that is no question is named
-        lines[1500], lines[700] = (1502, b"no"), (702, b"00 00 00 00")
-        for several in (verify.faults_of, verify.faults_of_many):
-            with self.assertRaisesRegex(ValueError, "^line 702 is no question"):
-                several(lines)
-        was, verify.faults_of = verify.faults_of, lambda _: verify.os._exit(0)
-        try:
-            self.assertRaises(Stop, verify.faults_of_many, lines)
-        finally:
-            verify.faults_of = was
+        lines[1501], lines[701] = b"no", b"00 00 00 00"
+        for many in (verify.MANY, len(lines)):
+            with mock.patch.object(verify, "MANY", many), self.assertRaisesRegex(ValueError, "^line 702 is no question"):
+                verify.answers_for(b"\n".join(lines))
+        with mock.patch.object(verify, "judged", lambda _: verify.os._exit(0)):
+            self.assertRaises(Stop, verify.answers_for, text)
 
     def test_no_file_is_read_twice(self):
         """Nor is one opened to be read and left, because others of its kind are judged otherwise."""

@@ -22,6 +22,8 @@ TOKEN, SEARCHED = bytes.fromhex("060b2a864886f70d010910020e"), 1 << 20
 HEADS, SET, SEQUENCE, UNSIGNED = Struct(">HHHH"), 0x3182, 0x3082, 0xA1
 # the attribute message-digest (RFC 5652 11.2) with a digest of 32 octets, but for these
 DIGEST_ATTRIBUTE, SHA_256 = bytes.fromhex("302f06092a864886f70d01090431220420"), "2.16.840.1.101.3.4.2.1"
+# of how many keys and algorithms the grounds are kept
+MOST_KEPT = 4096
 Held = tuple[str, tuple[Listed, ...], str]
 
 
@@ -42,19 +44,20 @@ def usual_grounds(octets: Buffer, lines: Sequence[bytes], noting: Noting) -> str
     if len(lines) != 2 or len(octets) > SEARCHED:
         return ""
     first, second = lines
-    if first[first.rfind(b" ") :] == second[second.rfind(b" ") :]:
+    (of_signer, _, one), (of_token, _, other) = first.rpartition(b" "), second.rpartition(b" ")
+    if one == other or not has_one_token(octets if type(octets) is bytes else bytes(octets)):
         return ""
-    if not has_one_token(octets if type(octets) is bytes else bytes(octets)):
-        return ""
-    # (the keys and the digest algorithms, in hexadecimal)
-    place = first[: first.find(b" ", first.find(b" ") + 1)], second[: second.find(b" ", second.find(b" ") + 1)]
+    # (the keys and the algorithms, in hexadecimal)
+    place = of_signer.rpartition(b" ")[0], of_token.rpartition(b" ")[0]
     found = noting.usual.get(place)
     if found is None:
         signer, token = question_of(0, first), question_of(0, second)
         listed = [noting.keys.get(("signer", signer.key), ()), noting.keys.get(("tsa", token.key), ())]
         holds = ("signer", listed[0], digest_of(signer.digest)), ("tsa", listed[1], digest_of(token.digest))
         decided = Decided(1, 1, sums_of(listed[1]), sums_of(listed[0]))
-        found = noting.usual[place] = grounds_text(holds, (decided,)) if list(map(len, listed)) == [1, 1] else ""
+        found = grounds_text(holds, (decided,)) if list(map(len, listed)) == [1, 1] else ""
+        if len(noting.usual) < MOST_KEPT:
+            noting.usual[place] = found
     return found
 
 

@@ -13,8 +13,10 @@ from cmsproof_tools.texts import question_of
 def record_of(work: Work, noting: Noting, draft: Draft) -> Record:
     """What a state keeps of a part of a file."""
     (file, beside, begun, others), found, content, line, lines = draft
-    of_beside = [] if beside is None or work.content is not None else [beside]
-    mark = joined(["" if one is None else steady(one.found, begun) for one in (file, *of_beside, *others)])
+    mark = steady(file.found, begun)
+    if beside is not None or others:
+        of_beside = [] if beside is None or work.content is not None else [beside]
+        mark = joined([mark, *("" if one is None else steady(one.found, begun) for one in (*of_beside, *others))])
     octets = file.octets if found is None else found.signed
     known = file.found.st_size, int(file.found.st_mtime), mark, hashlib.sha256(octets).digest()
     if found is None:

@@ -90,12 +90,17 @@ def octets_of_fields(line: bytes) -> list[bytes]:
     return [b"" if field == b"-" else unhexlify(field) for field in fields]
 
 
+def no_question(number: int) -> ValueError:
+    """What is raised where a line is no question: a line that says where."""
+    return ValueError(f"line {number} is no question: five fields in hexadecimal, with a space between two")
+
+
 def question_of(number: int, line: bytes) -> Question:
     """The question in a line. Raises ValueError, with a line that says where, if it is none."""
     try:
         key, digest, algorithm, tail, signature = octets_of_fields(line)
     except ValueError as error:
-        raise ValueError(f"line {number} is no question: five fields in hexadecimal, with a space between two") from error
+        raise no_question(number) from error
     return Question(number, line, key, digest, algorithm, tail, signature)
 
 
@@ -113,12 +118,19 @@ def lines_asked(text: bytes) -> list[bytes]:
     return found if first == QUESTIONS else [line for _, line in question_lines(text)]
 
 
+def begin_of(text: bytes) -> int:
+    """Where the second line of a questions text begins. Raises ValueError if the first one is not as it must be."""
+    end = text.find(b"\n")
+    first = text[:end] if end >= 0 else text
+    if (first[:-1] if first.endswith(b"\r") else first) != QUESTIONS:
+        raise ValueError("no questions text: the first line is not `cmsproof questions 1`")
+    return end + 1 if end >= 0 else len(text)
+
+
 def question_lines(text: bytes) -> list[tuple[int, bytes]]:
     """The lines of a questions text that are to be questions, with their numbers. Raises ValueError if it does not begin as one."""
-    lines = numbered_lines(text)
-    if next(lines)[1] != QUESTIONS:
-        raise ValueError("no questions text: the first line is not `cmsproof questions 1`")
-    return [(number, line) for number, line in lines if line and not line.startswith(b"#")]
+    begin_of(text)
+    return [(number, line) for number, line in numbered_lines(text) if number > 1 and line and not line.startswith(b"#")]
 
 
 def read_questions(text: bytes) -> list[Question]:

@@ -120,6 +120,9 @@ def found_in(name: str, file: File, partial: bool = False) -> Iterator[Union[Fou
 def found_apart(name: str, file: File, partial: bool = False) -> Iterator[Union[Found, Unfound]]:
     """As `found_in`, for a process that has more to do than this file: what may end a process is read in another one before, in half of
     the time that is allowed."""
+    if is_in_der(file.octets):
+        yield from found_in(name, file, partial)
+        return
     import signal
     from collections import deque
 

@@ -82,7 +82,7 @@ class Resume:
         """Takes away the rows that stamps beside a file have by themselves, as where it was not there: they are judged with it."""
         for one in beside(name) if self.work.stamps else []:
             if one not in self.work.pairs.named and self.state.of_file(one):
-                self.state.put(one, [], 0)
+                self.state.put(one, [])
 
     def warn(self, name: str, rows: list[Row]) -> None:
         """Says of which part the octets changed although its times say that they did not."""
@@ -92,18 +92,18 @@ class Resume:
             if old is not None and row.mark and old.mark == row.mark and (old.sha256, old.content) != (row.sha256, row.content):
                 tell(self.tool, f"{row.called}: its octets changed, and its size and its times did not")
 
-    def keep(self, name: str, kept: list[tuple[Any, ...]], judged: int) -> None:
-        """Keeps the rows with these values, of all parts of the file of this name, which were judged at this moment."""
+    def keep(self, name: str, kept: list[tuple[Any, ...]]) -> None:
+        """Keeps the rows of all parts of the file of this name, which are given without it."""
         if self.is_elsewhere or self.recheck:
-            rows = [Row._make((name, *values, judged)) for values in kept]
+            rows = [Row._make((name, *values)) for values in kept]
             if self.is_elsewhere:
                 here = self.mark_of(name)
                 rows = [row._replace(mark=seen_here(row.mark, here)) for row in rows]
             if self.recheck:
                 self.warn(name, rows)
-            kept = [row[1:-1] for row in rows]
+            kept = [row[1:] for row in rows]
         self.forget_stamps(name)
-        self.state.put(name, kept, judged)
+        self.state.put_values(name, kept)
 
     def kept_of(self, names: list[str], found: Iterable[list[Told]]) -> Iterator[list[Told]]:
         """What is said of each of these files, of some at a time. Its rows are kept once the next ones are asked for: what is kept has been
@@ -114,4 +114,4 @@ class Resume:
             judged = int(time.time())
             for _, _, _, _, kept_of_all, _ in several:
                 for kept, name in zip(kept_of_all, left):
-                    self.keep(name, kept, judged)
+                    self.keep(name, [(*values, judged) for values in kept])

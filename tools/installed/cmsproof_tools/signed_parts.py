@@ -5,7 +5,6 @@ is passed over, however long it is.
 """
 from __future__ import annotations
 
-from itertools import islice
 from typing import Iterator, NamedTuple, Union
 
 from cmsproof.octets import Buffer
@@ -52,27 +51,40 @@ class Signer(NamedTuple):
 def spans(octets: Buffer, at: int, end: int) -> Iterator[Span]:
     """The elements in this part of octets: identifier, begin, begin of the contents, end. Raises ValueError where none is."""
     while at < end:
-        identifier = octets[at]
-        if at + 2 > end or identifier & 0x1F == 0x1F:
-            raise ValueError("an element is not in its form")
-        length, begin = octets[at + 1], at + 2
-        if length >= 0x80:
-            try:
-                length, begin = der.length_at(octets, at + 1)  # type: ignore[arg-type]
-            except IndexError as error:
-                raise ValueError("an element is not in its form") from error
-        stop = begin + length
-        if stop > end:
-            raise ValueError("an element is longer than what it stands in")
-        yield identifier, at, begin, stop
-        at = stop
+        span = span_at(octets, at, end)
+        yield span
+        at = span[3]
+
+
+def span_at(octets: Buffer, at: int, end: int) -> Span:
+    """The element that stands at this place. Raises ValueError where none is."""
+    identifier = octets[at]
+    if at + 2 > end or identifier & 0x1F == 0x1F:
+        raise ValueError("an element is not in its form")
+    length, begin = octets[at + 1], at + 2
+    if length == 0x82 and at + 4 <= end and octets[begin]:
+        # (what is long mostly has two octets for its length)
+        length, begin = octets[begin] << 8 | octets[begin + 1], begin + 2
+    elif length >= 0x80:
+        try:
+            length, begin = der.length_at(octets, at + 1)  # type: ignore[arg-type]
+        except IndexError as error:
+            raise ValueError("an element is not in its form") from error
+    stop = begin + length
+    if stop > end:
+        raise ValueError("an element is longer than what it stands in")
+    return identifier, at, begin, stop
 
 
 def some(octets: Buffer, begin: int, end: int, most: int) -> list[Span]:
     """The elements in this part of octets, which are at most so many. Raises ValueError where there are more, or none is."""
-    found = list(islice(spans(octets, begin, end), most + 1))
-    if len(found) > most:
-        raise ValueError("an element has too many parts")
+    found: list[Span] = []
+    while begin < end:
+        if len(found) == most:
+            raise ValueError("an element has too many parts")
+        span = span_at(octets, begin, end)
+        found.append(span)
+        begin = span[3]
     return found
 
 

@@ -224,9 +224,8 @@ class State:
         """Opens it, and makes it if there is none and `is_new`. Raises Stop, with a line, if it is none or cannot be written."""
         self.path, self.basis_number, self.next = path, 0, time.monotonic() + SECONDS
         self.grounds: dict[str, int] = {}
-        # of the files whose rows are to be written, by the octets of their names, the values of these (rows.values_of), and when they
-        # were judged
-        self.pending: dict[bytes, tuple[list[tuple[Any, ...]], int]] = {}
+        # the rows of files that are to be written, without the name, by its octets
+        self.pending: dict[bytes, list[tuple[Any, ...]]] = {}
         with told(path):
             self.database = opened(path, is_new)
             if is_new:
@@ -267,9 +266,8 @@ class State:
         if self.pending:
             self.begin()
             self.database.executemany("DELETE FROM files WHERE name = ?", ((name,) for name in self.known()))
-            pending = self.pending.items()
             self.database.executemany(
-                INSERT, [self.bound(name, values, judged) for name, (rows, judged) in pending for values in rows]
+                INSERT, [self.bound(name, values) for name, rows in self.pending.items() for values in rows]
             )
             self.pending = {}
         if self.database.in_transaction:
@@ -284,9 +282,9 @@ class State:
         found = self.database.execute(between, (min(self.pending), max(self.pending), most)).fetchall()
         return self.pending if len(found) == most else self.pending.keys() & {name for (name,) in found}
 
-    def bound(self, name: bytes, values: tuple[Any, ...], judged: int) -> tuple[object, ...]:
-        """The values of a row as they are written."""
-        text, size, changed, mark, sha256, summed, status, line, grounds = values
+    def bound(self, name: bytes, values: tuple[Any, ...]) -> tuple[object, ...]:
+        """A row as it is written."""
+        text, size, changed, mark, sha256, summed, status, line, grounds, judged = values
         number = self.grounds.get(grounds)
         if number is None:
             number = self.grounds.setdefault(grounds, self.number("grounds", grounds))
@@ -295,10 +293,13 @@ class State:
         octets = bytearray(sha256)
         return bytearray(name), part, size, changed, mark, octets, content, status, line, judged, number, self.basis_number
 
-    def put(self, name: str, rows: list[tuple[Any, ...]], judged: int) -> None:
-        """Puts the rows of all parts of one file, by their values, in the place of those that it has: all of them, or none if the tool
-        ends."""
-        self.pending[os.fsencode(name)] = rows, judged
+    def put(self, name: str, rows: list[Row]) -> None:
+        """Puts the rows of all parts of one file in the place of those that it has: all of them, or none if the tool ends."""
+        self.put_values(name, [row[1:] for row in rows])
+
+    def put_values(self, name: str, rows: list[tuple[Any, ...]]) -> None:
+        """As `put`, of rows without the name."""
+        self.pending[os.fsencode(name)] = rows
         if len(self.pending) >= FILES or time.monotonic() >= self.next:
             with told(self.path):
                 self.commit()

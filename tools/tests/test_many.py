@@ -3,10 +3,11 @@ many processes, with a state and without."""
 import json
 import random
 import subprocess
+import sys
 import unittest
 from unittest import mock
 
-from making import PROGRAM, REAL, folder_of, need_tools, run_tool
+from making import MODULES, PROGRAM, REAL, folder_of, need_tools, run_tool
 from test_alike import FAULT, FOUND, STAMPED, spoiled
 
 need_tools()
@@ -17,6 +18,7 @@ from samples.hierarchy import issue, root, signed, together
 from cmsproof import TrustList
 from cmsproof_tools import checking, descriptors, issuing, verify
 from cmsproof_tools.issuer_words import Asked
+from cmsproof_tools.names import BLOCK, Names
 from cmsproof_tools.pairs import USUAL, Pairs
 from cmsproof_tools.running import Stop
 
@@ -187,6 +189,26 @@ class Several(unittest.TestCase):
             # (that there is a content beside it is seen once it is read)
             pair = [str(folder / "of.p7s")]
             self.assertEqual(checking.outcomes_of_several(work, pair), [checking.outcomes_of(work, pair[0])])
+
+    def test_names_that_workers_do_not_have(self):
+        """They are those of the list, whatever is in them, and are handed out and judged as those of few files."""
+        strange = ["", "é", "\udcff\udc80", "a" * 300, "\U0001f600", "\ud800", " ", "\n"]
+        for several in ([], [""], strange, [f"{number}{strange[number % 8]}" for number in range(2 * BLOCK + 7)]):
+            held = Names(several)
+            self.assertEqual((list(held), len(held), held[:]), (several, len(several), several))
+            self.assertEqual([held[at] for at in range(len(several))], several)
+            self.assertEqual(held[BLOCK - 3 : BLOCK + 3], several[BLOCK - 3 : BLOCK + 3])
+            self.assertRaises(IndexError, lambda: held[len(several)])
+        folder = folder_of(self)
+        code = f"import sys; sys.path[:0] = [{str(MODULES)!r}]; from cmsproof_tools import archive, running\n"
+        (folder / "changed.py").write_text(f"{code}archive.MANY = 2\nrunning.start('archive')\n")
+        (folder / "names").write_text("".join(f"{REAL}/{name}.p7s\n" for name in ["none", *STAMPED] * 90))
+        words = ["--trust", REAL / "trust.txt", "--files-from", "names", "--jobs", "3"]
+        wanted = run_tool("cmsproof-archive", *words, cwd=folder)
+        for more in ([], ["--state", "state"]):
+            command = [sys.executable, "changed.py", *words, *more]
+            done = subprocess.run(command, cwd=folder, capture_output=True, check=False)
+            self.assertEqual((done.returncode, done.stdout), wanted[:2])
 
     def test_a_list_of_issuers_by_several_processes(self):
         """It has the same entries and tells the same lines, in whichever order files of new signers come."""

@@ -85,7 +85,6 @@ class Room:
         finally:
             loaded.cmsproof_answers_free(self.to_answers)
 
-
     def asked_short(self, trust: TrustList, octets: bytes) -> bytes:
         """As `asked`, of octets in memory."""
         held, self.of_file.value = trust.held, len(octets)

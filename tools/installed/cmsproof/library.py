@@ -86,7 +86,8 @@ def library() -> ctypes.CDLL:
 
 class Straight(NamedTuple):
     """Calls of the library that convert nothing of what they are handed, which takes as long as they need themselves. Each word must be
-    what the header has in its place: `bytes` for octets, and else what ctypes makes of this very type, never a number of Python's."""
+    what the header has in its place: `bytes` for octets, and else what ctypes makes of this very type, never a number of Python's.
+    """
 
     questions: Any
     check: Any

@@ -6,7 +6,7 @@ import os
 import sys
 from contextlib import ExitStack
 from functools import partial
-from typing import TYPE_CHECKING, Any, Iterable
+from typing import TYPE_CHECKING, Any, Iterable, Sequence
 
 from cmsproof import ListRefused, TrustList
 from cmsproof.octets import File
@@ -26,6 +26,8 @@ if TYPE_CHECKING:
     from cmsproof_tools.known import Known
     from cmsproof_tools.resuming import Resume
 
+# how many names are very many (names.py)
+MANY = 50_000
 # where descriptors have names
 PLACES = ("/dev/", "/proc/")
 # what is read for files that are not accepted, or for a state
@@ -227,11 +229,11 @@ def resumed(tool: str, given: Any, stack: ExitStack, work: Work, known: Known | 
     return Resume(tool, state, given, work, known), work._replace(noting=Noting(keys_of(trusted), content, {}))
 
 
-def outcomes(tool: str, given: Any, work: Work, names: list[str], stack: ExitStack) -> Iterable[list[Told]]:
+def outcomes(tool: str, given: Any, work: Work, names: Sequence[str], stack: ExitStack) -> Iterable[list[Told]]:
     """What is said of each file, of some at a time, by workers of this machine or of others."""
     # What names a descriptor is opened before there are workers, which have others.
-    places = [name for several in (names, work.pairs.named.values()) for name in several if name.startswith(PLACES)]
-    own = [name for name in dict.fromkeys(places) if descriptors.number_named(name) is not None]
+    places = (name for several in (names, work.pairs.named.values()) for name in several if name.startswith(PLACES))
+    own = list(dict.fromkeys(name for name in places if descriptors.number_named(name) is not None))
     line_of, is_known = json_lines if given.json else text_lines, given.known is not None
     told = partial(told_of, line_of=line_of, is_kept=work.noting is not None, is_known=is_known)
     if given.dask is None:
@@ -249,9 +251,8 @@ def outcomes(tool: str, given: Any, work: Work, names: list[str], stack: ExitSta
     return ([told(outcomes) for outcomes in several] for several in found)
 
 
-def run(tool: str, given: Any, work: Work, names: list[str], resume: Resume | None, known: Known | None) -> int:
-    """Checks the files of these names that are due, and answers the worst status of all, or with what is acknowledged that of the run."""
-    due = names if resume is None else resume.due(names)
+def run(tool: str, given: Any, work: Work, due: Sequence[str], resume: Resume | None, known: Known | None) -> int:
+    """Checks the files of these names, which are due, and answers the worst status of all, or with what is acknowledged that of the run."""
     asked = given.progress or given.dask is not None
     progress = Progress(tool, len(due), asked, given.log, None if resume is None else resume.kept)
     with ExitStack() as stack:
@@ -286,10 +287,15 @@ def judged(tool: str, given: Any, parser: Words) -> int:
     with ExitStack() as stack:
         resume, work = resumed(tool, given, stack, work, known)
         meant = names if resume is None else resume.named(names)
-        worst = run(tool, given, work, meant, resume, known)
+        due, count = meant if resume is None else resume.due(meant), len(meant)
+        # (the names are let go: workers would have them)
+        if count >= MANY:
+            due = module("names").kept(due)
+        del names, meant
+        worst = run(tool, given, work, due, resume, known)
     for line in () if known is None else known.left_to_tell(given.only is None):
         tell(tool, line)
     if given.json:
-        last = last_line(given.trust or given.write_trust or "", trust.text, resume, known, len(meant), worst)
+        last = last_line(given.trust or given.write_trust or "", trust.text, resume, known, count, worst)
         write("-", last.encode() + b"\n")
     return worst

@@ -7,7 +7,7 @@ import os
 import time
 from collections import deque
 from functools import lru_cache
-from typing import Any, Iterable, Iterator, NamedTuple
+from typing import Any, Iterable, Iterator, NamedTuple, Sequence
 
 import cmsproof
 from cmsproof_tools.checking import Work, all_noted, outcomes_of_several
@@ -210,13 +210,13 @@ class Cluster:
         self.find()
         return self.result(self.give(names), names)
 
-    def parts(self, names: list[str]) -> Iterator[list[list[Outcome]]]:
+    def parts(self, names: Sequence[str]) -> Iterator[list[list[Outcome]]]:
         """The outcomes of each file, of a part at a time: the last ones are small, so that all workers end at about the same time."""
         given: deque[tuple[Any, list[str]]] = deque()
         at = 0
         while at < len(names):
             size = min(self.size, max(LEAST, (len(names) - at) // (AHEAD * len(self.workers))))
-            part = names[at : at + size]
+            part = list(names[at : at + size])
             given.append((self.give(part), part))
             at += size
             if len(given) >= AHEAD * len(self.workers):
@@ -224,7 +224,7 @@ class Cluster:
         while given:
             yield self.result(*given.popleft())
 
-    def batches(self, names: list[str], contents: frozenset[str]) -> Iterator[list[list[Outcome]]]:
+    def batches(self, names: Sequence[str], contents: frozenset[str]) -> Iterator[list[list[Outcome]]]:
         """The outcomes of each file, in the order of the names, of some at a time; some are contents of others."""
         self.contents = contents
         self.find()

@@ -131,7 +131,8 @@ def reached(path: str) -> int:
 
 def copied(path: str, most: int) -> tuple[os.stat_result, bytes] | None:
     """What is said of the regular file of this name, and all its octets, if they are at most so many; None of any other, and of one that
-    is changed meanwhile. It is reached as by `reached_as`. (This is called for each file of an archive, and calls as little as it can.)"""
+    is changed meanwhile. It is reached as by `reached_as`. (This is called for each file of an archive, and calls as little as it can.)
+    """
     descriptor = os.open(path, REACHING)
     try:
         found = os.fstat(descriptor)

@@ -5,7 +5,7 @@ import argparse
 import re
 import time
 from collections import Counter
-from typing import TYPE_CHECKING, Any, Iterable, Iterator
+from typing import TYPE_CHECKING, Any, Iterable, Iterator, Sequence
 
 from cmsproof_tools.checking import Work
 from cmsproof_tools.outcomes import Outcome
@@ -105,7 +105,7 @@ class Resume:
         self.forget_stamps(name)
         self.state.put_values(name, kept)
 
-    def kept_of(self, names: list[str], found: Iterable[list[Told]]) -> Iterator[list[Told]]:
+    def kept_of(self, names: Sequence[str], found: Iterable[list[Told]]) -> Iterator[list[Told]]:
         """What is said of each of these files, of some at a time. Its rows are kept once the next ones are asked for: what is kept has been
         printed."""
         left = iter(names)

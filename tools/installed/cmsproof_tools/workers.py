@@ -137,7 +137,7 @@ class Worker:
         except OSError:
             pass  # it did so itself, or has ended
 
-    def give(self, numbers: Sequence[int], items: list[Any]) -> None:
+    def give(self, numbers: Sequence[int], items: Sequence[Any]) -> None:
         """Hands it items, behind those that it has in hand."""
         self.numbers.extend(numbers)
         try:
@@ -176,7 +176,7 @@ class Items:
     """The items that are still to be handed out: those at which a worker ended, which then are handed out one by one, and all others,
     in groups while they are many: so all workers end at about the same time."""
 
-    def __init__(self, items: list[str], workers: int) -> None:
+    def __init__(self, items: Sequence[Any], workers: int) -> None:
         self.items, self.next, self.again, self.workers = items, 0, deque[int](), max(workers, 1)
 
     def for_one(self, worker: Worker) -> range:
@@ -260,12 +260,12 @@ class Workers:
         said = {descriptor for descriptor, _ in self.poll.poll()}
         return [worker for worker in self.running if worker.connection.fileno() in said]
 
-    def results(self, items: list[Any], lost: Callable[[Any, int], Any]) -> Iterator[Any]:
+    def results(self, items: Sequence[Any], lost: Callable[[Any, int], Any]) -> Iterator[Any]:
         """As `batches`, one result after the other."""
         for several in self.batches(items, lost):
             yield from several
 
-    def batches(self, items: list[Any], lost: Callable[[Any, int], Any]) -> Iterator[list[Any]]:
+    def batches(self, items: Sequence[Any], lost: Callable[[Any, int], Any]) -> Iterator[list[Any]]:
         """The results of all items, in the order of the items, of as many at a time as are there; `lost(item, signal)` of one that a
         worker had alone in hand when it ended. Where it had more, another gets them, one by one."""
         rest, done, due = Items(items, self.count), dict[int, tuple[int, Any]](), 0

@@ -97,6 +97,8 @@ class Room:
 
     def said(self, trust: TrustList, octets: bytes, answers: bytes, sha1: bool) -> Said:
         """What a check of octets in memory says, with these answers and no content beside them."""
+        if type(octets) is not bytes or type(answers) is not bytes:
+            raise TypeError("bytes are needed")  # (nobody else looks at what is handed to these calls)
         held, self.of_file.value, self.of_answers.value = trust.held, len(octets), len(answers)
         try:
             status = self.calls.read(self.to_answers, answers, self.of_answers, self.to_answer)

@@ -97,8 +97,8 @@ class Straight(NamedTuple):
 
 @lru_cache(maxsize=None)
 def straight() -> Straight:
-    """The calls by which short files are checked."""
-    loaded = ctypes.CDLL(library()._name)
+    """The calls by which short files are checked: those of the library that is loaded, also where its file is another one by now."""
+    loaded = ctypes.CDLL(library()._name, handle=library()._handle)
     calls = Straight(
         loaded.cmsproof_questions, loaded.cmsproof_check, loaded.cmsproof_answers_read, loaded.cmsproof_answers_free
     )

@@ -1,0 +1,5 @@
+pub mod Octets
+pub mod Chains
+pub mod Members
+pub mod Returned
+pub mod Alike

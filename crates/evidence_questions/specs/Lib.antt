@@ -1,0 +1,3 @@
+pub mod RecordQuestions
+pub mod RecordWritten
+pub mod Laws

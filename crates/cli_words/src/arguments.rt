@@ -21,7 +21,8 @@ fn named<'a>(alloc: Global, word: &'static Word) -> Arg<'a> {
         .help(word.help)
 }
 
-/// The word, taking what it takes.
+/// The word, taking what it takes. (Its room on the stack is given back before the command takes it.)
+#[inline(never)]
 fn taking<'a>(arg: Arg<'a>, word: &'static Word) -> Result<Arg<'a>, AllocError> {
     match word.takes {
         Takes::Places(list) => valued(arg, word.name)

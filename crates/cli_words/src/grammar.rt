@@ -7,6 +7,9 @@ use std::alloc::{AllocError, Global};
 /// `rt version` names it.
 const VERSION: &str = "1.0.0 (rattle-kit-13f, logic dac8208d650f15bf)";
 
+/// It asks for the version, whatever stands behind it.
+const VERSION_WORD: &str = "--version";
+
 /// What the program does, at the top of its help.
 const ABOUT: &str =
     "Makes requests for time-stamps (RFC 3161); shows what is in requests, responses, time-stamps,\n\
@@ -21,9 +24,13 @@ pub const ABOUT_STAMPS: &str =
     "Says by when a file existed, by a time-stamp token or response that stands beside it (RFC 3161).";
 
 /// What the program takes on its command line, where this word stands behind its name. If that is a command, no other
-/// one is made: each takes thousands of instructions.
+/// one is made, and none if it asks for the version: each takes thousands of instructions.
+#[inline(never)]
 pub fn command_line<'a>(alloc: Global, word: &str) -> Result<Command<'a>, AllocError> {
     let mut line = program(alloc);
+    if word == VERSION_WORD {
+        return Ok(line);
+    }
     let is_named = is_command(word);
     for named in ALL.as_slice() {
         if !is_named || named.name() == word {
@@ -44,6 +51,7 @@ fn is_command(word: &str) -> bool {
 }
 
 /// What the program takes behind `stamp`.
+#[inline(never)]
 pub fn stamp_line<'a>(alloc: Global) -> Result<Command<'a>, AllocError> {
     let mut line = stamps(alloc)?;
     for named in STAMPS.as_slice() {
@@ -53,6 +61,7 @@ pub fn stamp_line<'a>(alloc: Global) -> Result<Command<'a>, AllocError> {
 }
 
 /// The commands about stamps, with none yet.
+#[inline(never)]
 fn stamps<'a>(alloc: Global) -> Result<Command<'a>, AllocError> {
     let line = Command::new(alloc, "stamp").bin_name("cmsproof stamp")?;
     Ok(
@@ -64,6 +73,7 @@ fn stamps<'a>(alloc: Global) -> Result<Command<'a>, AllocError> {
 }
 
 /// The program, with no command yet.
+#[inline(never)]
 fn program<'a>(alloc: Global) -> Command<'a> {
     Command::new(alloc, "cmsproof")
         .version(VERSION)

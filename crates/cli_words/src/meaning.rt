@@ -15,8 +15,8 @@ use crate::words::{
     attach_words, check_words, compare_words, fit_words, match_words, migrate_words,
     questions_words, request_words, shown, stamp_questions_words, stamp_words, value,
 };
-use clap::ArgMatches;
 use clap::error::ErrorKind;
+use clap::{ArgMatches, Command};
 use cli_failures::Failure;
 use cli_tasks::{Each, Many, Several, Task, TextTask};
 use std::alloc::Global;
@@ -166,43 +166,63 @@ fn meaning_of_error<'a>(alloc: Global, error: &clap::Error) -> Result<Meaning<'a
 }
 
 /// What the words ask for; the first word is the program's name. Behind the word `stamp` stand commands of their own.
+/// (The grammar is made before the words are parsed: each gives its room on the stack back, so that none of it lies
+/// below the other, or below the command.)
+#[inline(never)]
 pub fn meaning_of<'a, S: AsStr>(alloc: Global, words: &'a [S]) -> Result<Meaning<'a>, Failure<'a>> {
+    let stamps = command_word(words) == STAMP;
+    let line = if stamps {
+        stamp_line(alloc)?
+    } else {
+        command_line(alloc, command_word(words))?
+    };
+    meaning_by(alloc, stamps, line, words)
+}
+
+/// The same by this grammar, which is that of the commands about stamps or of the others.
+#[inline(never)]
+fn meaning_by<'a, S: AsStr>(
+    alloc: Global,
+    stamps: bool,
+    line: Command<'a>,
+    words: &'a [S],
+) -> Result<Meaning<'a>, Failure<'a>> {
+    match line.try_get_matches_from(words_of(stamps, words)) {
+        Ok(matches) => match many_in(alloc, stamps, &matches)? {
+            Some(many) => unambiguous_many(many),
+            None => unambiguous(task_behind(stamps, &matches)?),
+        },
+        Err(error) => meaning_of_error(alloc, &error),
+    }
+}
+
+/// The word behind the program's name, or an empty one.
+fn command_word<S: AsStr>(words: &[S]) -> &str {
     match words {
-        [_, word, ..] if word.as_str() == STAMP => meaning_of_stamp(alloc, &words[1..]),
-        [_, word, ..] => meaning_behind(alloc, word.as_str(), words),
-        _ => meaning_behind(alloc, "", words),
+        [_, word, ..] => word.as_str(),
+        _ => "",
     }
 }
 
-/// The same by the commands but those about stamps, where this word stands behind the first one. (Each grammar has its
-/// room on the stack apart from the other.)
-#[inline(never)]
-fn meaning_behind<'a, S: AsStr>(
-    alloc: Global,
-    word: &str,
-    words: &'a [S],
-) -> Result<Meaning<'a>, Failure<'a>> {
-    match command_line(alloc, word)?.try_get_matches_from(words) {
-        Ok(matches) => match many_in(alloc, false, &matches)? {
-            Some(many) => unambiguous_many(many),
-            None => unambiguous(task_in(&matches)?),
-        },
-        Err(error) => meaning_of_error(alloc, &error),
+/// The words that the grammar is for: behind the program's name, or behind `stamp`.
+fn words_of<S>(stamps: bool, words: &[S]) -> &[S] {
+    match words {
+        [_, behind @ ..] if stamps => behind,
+        _ => words,
     }
 }
 
-/// The same by the commands about stamps. The first word is `stamp`.
-#[inline(never)]
-fn meaning_of_stamp<'a, S: AsStr>(
-    alloc: Global,
-    words: &'a [S],
-) -> Result<Meaning<'a>, Failure<'a>> {
-    match stamp_line(alloc)?.try_get_matches_from(words) {
-        Ok(matches) => match many_in(alloc, true, &matches)? {
-            Some(many) => unambiguous_many(many),
-            None => unambiguous(stamp_task_in(&matches)?),
-        },
-        Err(error) => meaning_of_error(alloc, &error),
+/// The task that the words name, behind `stamp` or behind the program's name.
+fn task_behind<'a>(stamps: bool, matches: &ArgMatches<'a>) -> Result<Task<'a>, Failure<'a>>
+    ensures command { IfOk result (λ task. subcommand_name_of matches.now ≡ Some (command_of task)) }
+    ensures words { IfOk result (λ task. (given : Found)
+        × (option_map (λ p. p.1) (subcommand_rows_of matches.now) ≡ Some (rows_of given)) × IsTaskIn given task) }
+    ensures group { IfOk result (λ task. is_behind_stamp task ≡ stamps) }
+{
+    if stamps {
+        stamp_task_in(matches)
+    } else {
+        task_in(matches)
     }
 }
 

@@ -4,3 +4,4 @@ pub mod CertificateLines
 pub mod SignedLines
 pub mod TstLines
 pub mod ResponseLines
+pub mod EvidenceLines

@@ -4,8 +4,8 @@ use Rattle.std.proofs.Common.{append-nil, arith}
 use Rattle.std.specs.List.{AllByRecursion}
 use Rattle.lines_shown.specs.EvidenceLines.{Adds, AreLines}
 
--- whatever lines those have that are left, numbered from this number on: with these behind it, the text has the lines of
--- all behind what it began with
+-- whatever lines those have that are left, numbered from this number on: with these behind it, the text has the lines
+-- of all behind what it began with
 abbrev pub Leads : {A : Type 0} → (Are : ℕ → A → List ℕ → Type 0) → (all : List A) → (before now : List ℕ) → (next : ℕ)
     → (left : List A) → Type 0
 Leads Are all before now next left = (others : List ℕ) → AreLines Are next left others

@@ -1,5 +1,6 @@
 -- The line of an archive time-stamp, by what its time-stamp states.
-use Rattle.std.proofs.Common.{◌≡◌, ◌++◌, ◌∷◌, [], ℕ, List, Option, Some, None, Result, Ok, Err, true, refl, append_assoc, arith}
+use Rattle.std.proofs.Common.{◌≡◌, ◌++◌, ◌∷◌, [], ℕ, List, Option, Some, None, Result, Ok, Err, true, refl}
+use Rattle.std.proofs.Common.{append_assoc, arith}
 use Rattle.std.specs.Prelude.{OnOk, IfSome}
 use Rattle.std.specs.declared.alloc.AllocError.{AllocError}
 use Rattle.der_core.specs.Times.{is_generalized}
@@ -22,10 +23,12 @@ joined before placed told after p t k e f g = grind (arith, append_assoc, e, f, 
 pub line_added : (chain number : ℕ) (s : StampValue) (stated : Option TstValue) (r : Result (Unit {0}) AllocError)
     (before placed told after : List ℕ) → IsStatement s.stamp stated
     → placed ≡ before ++ place_text chain number → told ≡ placed ++ stated_text s.algorithm stated
-    → OnOk r (after ≡ told ++ counts_text s.lists ++ (10 ∷ [])) → OnOk r (Adds (IsStampLine chain number s) before after)
+    → OnOk r (after ≡ told ++ counts_text s.lists ++ (10 ∷ []))
+    → OnOk r (Adds (IsStampLine chain number s) before after)
 line_added chain number s stated (Ok u) before placed told after is p t e = (
   stamp_line chain number s stated,
   (stated, is, refl),
-  joined before placed told after (place_text chain number) (stated_text s.algorithm stated) (counts_text s.lists) p t e,
+  joined before placed told after (place_text chain number) (stated_text s.algorithm stated)
+      (counts_text s.lists) p t e,
 )
 line_added chain number s stated (Err f) before placed told after is p t e = tt

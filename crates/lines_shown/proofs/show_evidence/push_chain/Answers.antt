@@ -16,5 +16,6 @@ loop-stamp-preserved c = record {
 }
 
 pub returns : goal.returns
-returns c = all_done (IsStampLine c.args.chain) c.args.stamps.now (string_bytes c.args.text.now) (string_bytes c.loop-stamp.text)
+returns c = all_done (IsStampLine c.args.chain) c.args.stamps.now (string_bytes c.args.text.now)
+    (string_bytes c.loop-stamp.text)
     (c.loop-stamp.number + 1) c.loop-stamp.left c.in_default.ensures c.loop-stamp.invariant.lines

@@ -11,7 +11,8 @@ abbrev pub invariant-loop-stamp : goal.invariant-loop-stamp
 invariant-loop-stamp l = record {
   counted : l.number + length l.left ≡ l.total;
   good : AllByRecursion GoodStamp l.left;
-  lines : Leads (IsStampLine l.fn.chain) l.fn.stamps (string_bytes l.fn.text) (string_bytes l.text) (l.number + 1) l.left;
+  lines :
+      Leads (IsStampLine l.fn.chain) l.fn.stamps (string_bytes l.fn.text) (string_bytes l.text) (l.number + 1) l.left;
 }
 
 abbrev pub decreases-loop-stamp : goal.decreases-loop-stamp

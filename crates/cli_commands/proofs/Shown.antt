@@ -1,4 +1,4 @@
--- How octets fail that are to be a request, a response, a TSTInfo, a certificate or a SignedData.
+-- How octets fail that are to be a request, a response, a TSTInfo, a certificate, a SignedData or an evidence record.
 use Rattle.std.proofs.Common.{◌≡◌, ℕ, List, refl, inl, inr}
 use Rattle.der_core.specs.declared.fault.ReadFault.{ReadFault}
 use Rattle.der_core.specs.declared.fault.ReadFault.TheVariants as read
@@ -9,12 +9,15 @@ use Rattle.tsp_types.specs.RequestValue.{RequestValue, EncodesRequest}
 use Rattle.tsp_types.specs.ResponseValue.{ResponseValue, EncodesResponse}
 use Rattle.tsp_types.specs.TstValue.{TstValue, EncodesTst}
 use Rattle.cert_types.specs.CertificateValue.{CertificateValue, EncodesCertificate}
+use Rattle.evidence_types.specs.EvidenceTable.{evidence_record}
+use Rattle.evidence_types.specs.EvidenceValue.{EvidenceValue, EncodesEvidence}
 use Rattle.cms_types.specs.SignedDataValue.{SignedDataValue, EncodesSignedData}
 use Rattle.cms_types.specs.CmsFaults.{IsCmsFault}
 use Rattle.cms_types.specs.declared.fault.CmsFault.{CmsFault}
 use Rattle.cms_types.specs.declared.fault.CmsFault.TheVariants as cms
 use Rattle.cli_failures.specs.Failures.{failure_of, failure_of_cms}
 use Rattle.cli_commands.specs.Showing.{ShowsNone, ShowsNoResponse, ShowsNoTst, ShowsNoCertificate, ShowsNoSignedData}
+use Rattle.cli_commands.specs.Showing.{ShowsNoEvidence}
 
 pub no_request : (octets : List ℕ) (e : ReadFault) → IsReadFault (file request) octets e
     → (e ≡ read.OutOfMemory → (v : RequestValue) × EncodesRequest octets v) → ShowsNone octets (failure_of e)
@@ -43,3 +46,8 @@ pub no_signed_data : (octets : List ℕ) (e : CmsFault) → IsCmsFault octets e
 no_signed_data octets (cms.Malformed fault) h m = inr (inr (record { fault = fault; malformed = refl; found = h }))
 no_signed_data octets cms.NotSignedData h m = inr (inl (refl, h))
 no_signed_data octets cms.OutOfMemory h m = inl (refl, m refl)
+
+pub no_evidence : (octets : List ℕ) (e : ReadFault) → IsReadFault (file evidence_record) octets e
+    → (e ≡ read.OutOfMemory → (v : EvidenceValue) × EncodesEvidence octets v) → ShowsNoEvidence octets (failure_of e)
+no_evidence octets (read.Malformed fault) h m = inr (record { fault = fault; malformed = refl; found = h })
+no_evidence octets read.OutOfMemory h m = inl (refl, m refl)

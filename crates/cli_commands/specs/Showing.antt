@@ -1,4 +1,4 @@
--- How octets fail that should be a request, a response, a TSTInfo, a certificate or a SignedData.
+-- How octets fail that should be a request, a response, a TSTInfo, a certificate, a SignedData or an evidence record.
 use Rattle.std.specs.Prelude.{◌≡◌, ◌⊎◌, ℕ, List}
 use Rattle.der_core.specs.Grammar.{file}
 use Rattle.der_grammar.specs.Table.{request, response, tst_info, certificate, content_info}
@@ -6,6 +6,8 @@ use Rattle.tsp_types.specs.RequestValue.{EncodesRequest}
 use Rattle.tsp_types.specs.ResponseValue.{EncodesResponse}
 use Rattle.tsp_types.specs.TstValue.{EncodesTst}
 use Rattle.cert_types.specs.CertificateValue.{EncodesCertificate}
+use Rattle.evidence_types.specs.EvidenceTable.{evidence_record}
+use Rattle.evidence_types.specs.EvidenceValue.{EncodesEvidence}
 use Rattle.cms_types.specs.SignedDataValue.{EncodesSignedData, EncodesAnotherType}
 use Rattle.cli_failures.specs.declared.failure.Failure.{Failure}
 use Rattle.cli_failures.specs.declared.failure.Failure.TheVariants.{NotSignedData, Memory}
@@ -30,6 +32,10 @@ ShowsNoTst octets f = LacksMemory EncodesTst octets f ⊎ IsMalformed (file tst_
 -- for a certificate
 abbrev pub ShowsNoCertificate : (octets : List ℕ) → Failure → Type 0
 ShowsNoCertificate octets f = LacksMemory EncodesCertificate octets f ⊎ IsMalformed (file certificate) octets f
+
+-- for an evidence record
+abbrev pub ShowsNoEvidence : (octets : List ℕ) → Failure → Type 0
+ShowsNoEvidence octets f = LacksMemory EncodesEvidence octets f ⊎ IsMalformed (file evidence_record) octets f
 
 -- for a SignedData: or the octets encode a ContentInfo of another type
 abbrev pub ShowsNoSignedData : (octets : List ℕ) → Failure → Type 0

@@ -6,6 +6,7 @@ use Rattle.lines_shown.specs.ResponseLines.{ShowsResponse}
 use Rattle.lines_shown.specs.TstLines.{ShowsTst}
 use Rattle.lines_shown.specs.CertificateLines.{ShowsCertificate}
 use Rattle.lines_shown.specs.SignedLines.{ShowsSigned}
+use Rattle.lines_shown.specs.EvidenceLines.{ShowsEvidence}
 use Rattle.cli_failures.specs.declared.failure.Failure.{Failure}
 use Rattle.cli_failures.specs.Failures.{printed_text}
 use Rattle.cli_failures.specs.Output.{Begins}
@@ -14,7 +15,7 @@ use Rattle.cli_tasks.specs.declared.task.Task.TheVariants.{Questions, Text}
 use Rattle.cli_tasks.specs.declared.task.TextTask.{TextTask}
 use Rattle.cli_tasks.specs.declared.task.TextTask.TheVariants.{Request, ShowRequest, ShowResponse, ShowTst, ShowSigned}
 use Rattle.cli_tasks.specs.declared.task.TextTask.TheVariants.{ShowCertificate, Fit, Match, Migrate, Check, Compare}
-use Rattle.cli_tasks.specs.declared.task.TextTask.TheVariants.{Attach, AskStamp, CheckStamp}
+use Rattle.cli_tasks.specs.declared.task.TextTask.TheVariants.{Attach, AskStamp, CheckStamp, ShowEvidence}
 use Rattle.cli_commands.specs.Asking.{ShowsQuestions, AsksNot}
 use Rattle.cli_commands.specs.Attaching.{AttachesNot}
 use Rattle.cli_commands.specs.Checking.{ShowsAccepted, ShowsRefused}
@@ -28,6 +29,7 @@ use Rattle.cli_commands.specs.Rereading.{Sayings}
 use Rattle.cli_commands.specs.Requests.{IsOutApart}
 use Rattle.cli_commands.specs.Stamping.{ShowsNoStampQuestions, ShowsStampQuestions, ShowsStamped, ShowsUnstamped}
 use Rattle.cli_commands.specs.Showing.{ShowsNone, ShowsNoResponse, ShowsNoTst, ShowsNoCertificate, ShowsNoSignedData}
+use Rattle.cli_commands.specs.Showing.{ShowsNoEvidence}
 
 -- the text of a task, if it is made before it is printed: nothing for a request that was made and for a list and a file
 -- that were written, and otherwise the lines of what the files hold
@@ -37,6 +39,7 @@ MakesText holds (ShowRequest path) text = (octets : List ℕ) × IsHeld holds oc
 MakesText holds (ShowResponse path) text = (octets : List ℕ) × IsHeld holds octets × ShowsResponse octets text
 MakesText holds (ShowTst path) text = (octets : List ℕ) × IsHeld holds octets × ShowsTst octets text
 MakesText holds (ShowSigned path) text = (octets : List ℕ) × IsHeld holds octets × ShowsSigned octets text
+MakesText holds (ShowEvidence path) text = (octets : List ℕ) × IsHeld holds octets × ShowsEvidence octets text
 MakesText holds (ShowCertificate path) text = (octets : List ℕ) × IsHeld holds octets × ShowsCertificate octets text
 MakesText holds (Fit words) text = ShowsFit holds words text
 MakesText holds (Match words) text = ShowsAnswer holds text
@@ -60,6 +63,8 @@ MakesNoText holds says (ShowTst path) f = IsFailureToRead path f
     ⊎ ((octets : List ℕ) × IsHeld holds octets × ShowsNoTst octets f)
 MakesNoText holds says (ShowSigned path) f = IsFailureToRead path f
     ⊎ ((octets : List ℕ) × IsHeld holds octets × ShowsNoSignedData octets f)
+MakesNoText holds says (ShowEvidence path) f = IsFailureToRead path f
+    ⊎ ((octets : List ℕ) × IsHeld holds octets × ShowsNoEvidence octets f)
 MakesNoText holds says (ShowCertificate path) f = IsFailureToRead path f
     ⊎ ((octets : List ℕ) × IsHeld holds octets × ShowsNoCertificate octets f)
 MakesNoText holds says (Fit words) f = ShowsUnfit holds words f

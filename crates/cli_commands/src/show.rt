@@ -5,11 +5,14 @@ ghost use Rattle.lines_shown.specs.ResponseLines.{ShowsResponse};
 ghost use Rattle.lines_shown.specs.TstLines.{ShowsTst};
 ghost use Rattle.lines_shown.specs.CertificateLines.{ShowsCertificate};
 ghost use Rattle.lines_shown.specs.SignedLines.{ShowsSigned};
+ghost use Rattle.lines_shown.specs.EvidenceLines.{ShowsEvidence};
 ghost use Rattle.cli_commands.specs.Showing.{ShowsNone, ShowsNoResponse, ShowsNoTst, ShowsNoCertificate};
-ghost use Rattle.cli_commands.specs.Showing.{ShowsNoSignedData};
+ghost use Rattle.cli_commands.specs.Showing.{ShowsNoSignedData, ShowsNoEvidence};
 
 use cli_failures::{Failure, files};
-use lines_shown::{show_certificate, show_request, show_response, show_signed, show_tst};
+use lines_shown::{
+    show_certificate, show_evidence, show_request, show_response, show_signed, show_tst,
+};
 use std::rt::Files;
 
 /// The lines that show the request in the file of this path.
@@ -90,6 +93,22 @@ pub fn signed<'a, R: Files + AllocGlobal>(rt: &R, path: &'a str) -> Result<Vec<u
 {
     let octets = files::read_whole(rt, path)?;
     match show_signed::text_of(rt.alloc(), octets.as_slice()) {
+        Ok(text) => Ok(text.into_bytes()),
+        Err(fault) => Err(Failure::from(fault)),
+    }
+}
+
+/// The lines that show the evidence record in the file of this path.
+#[inline(never)]
+#[tactic(auto, using(crate::proofs::Shown::no_evidence))]
+pub fn evidence<'a, R: Files + AllocGlobal>(rt: &R, path: &'a str) -> Result<Vec<u8>, Failure<'a>>
+    ensures shown { IfOk result (λ text. (octets : List ℕ) × IsHeld R.File.remaining octets
+        × ShowsEvidence octets text.items) }
+    ensures refused { IfErr result (λ f. IsFailureToRead path.entry f
+        ⊎ ((octets : List ℕ) × IsHeld R.File.remaining octets × ShowsNoEvidence octets f)) }
+{
+    let octets = files::read_whole(rt, path)?;
+    match show_evidence::text_of(rt.alloc(), octets.as_slice()) {
         Ok(text) => Ok(text.into_bytes()),
         Err(fault) => Err(Failure::from(fault)),
     }

@@ -48,6 +48,7 @@ where
         TextTask::ShowResponse(path) => show::response(rt, path),
         TextTask::ShowTst(path) => show::tst(rt, path),
         TextTask::ShowSigned(path) => show::signed(rt, path),
+        TextTask::ShowEvidence(path) => show::evidence(rt, path),
         TextTask::ShowCertificate(path) => show::certificate(rt, path),
         TextTask::Fit(words) => fit::fit(rt, words),
         TextTask::Match(words) => matching::matched(rt, words),

@@ -20,6 +20,8 @@ pub enum TextTask<'a> {
     ShowTst(&'a str),
     /// To show the SignedData in the file of this path.
     ShowSigned(&'a str),
+    /// To show the evidence record in the file of this path.
+    ShowEvidence(&'a str),
     /// To show the certificate in the file of this path.
     ShowCertificate(&'a str),
     /// To say whether content and signed attributes belong together.

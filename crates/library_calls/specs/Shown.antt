@@ -7,6 +7,8 @@ use Rattle.der_core.specs.declared.fault.ReadFault.{ReadFault}
 use Rattle.der_core.specs.declared.fault.ReadFault.TheVariants as read
 use Rattle.der_grammar.specs.Table as table
 use Rattle.cert_types.specs.CertificateValue.{EncodesCertificate}
+use Rattle.evidence_types.specs.EvidenceTable.{evidence_record}
+use Rattle.evidence_types.specs.EvidenceValue.{EncodesEvidence}
 use Rattle.cms_types.specs.CmsFaults.{IsCmsFault}
 use Rattle.cms_types.specs.declared.fault.CmsFault.{CmsFault}
 use Rattle.cms_types.specs.declared.fault.CmsFault.TheVariants as cms
@@ -15,6 +17,7 @@ use Rattle.tsp_types.specs.RequestValue.{EncodesRequest}
 use Rattle.tsp_types.specs.ResponseValue.{EncodesResponse}
 use Rattle.tsp_types.specs.TstValue.{EncodesTst}
 use Rattle.lines_shown.specs.CertificateLines.{ShowsCertificate}
+use Rattle.lines_shown.specs.EvidenceLines.{ShowsEvidence}
 use Rattle.lines_shown.specs.RequestLines.{ShowsRequest}
 use Rattle.lines_shown.specs.ResponseLines.{ShowsResponse}
 use Rattle.lines_shown.specs.SignedLines.{ShowsSigned}
@@ -65,6 +68,12 @@ abbrev pub IsCertificateShown : (octets : List ℕ) (said : Answer) (status : �
 IsCertificateShown octets said status before size after =
     IsShown ShowsCertificate EncodesCertificate (file table.certificate) octets said status before size after
 
+-- of an evidence record
+abbrev pub IsEvidenceShown : (octets : List ℕ) (said : Answer) (status : ℕ) (before : List ℕ) (size : ℕ)
+    (after : List ℕ) → Type 0
+IsEvidenceShown octets said status before size after =
+    IsShown ShowsEvidence EncodesEvidence (file evidence_record) octets said status before size after
+
 -- a number of no type
 abbrev pub IsNoType : ℕ → Type 0
-IsNoType type = (type ≢ 1) × (type ≢ 2) × (type ≢ 3) × (type ≢ 4) × (type ≢ 5)
+IsNoType type = (type ≢ 1) × (type ≢ 2) × (type ≢ 3) × (type ≢ 4) × (type ≢ 5) × (type ≢ 6)

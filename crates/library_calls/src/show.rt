@@ -1,11 +1,13 @@
 ghost use Rattle.std.specs.Prelude.{◌≡◌};
 ghost use Rattle.library_answers.specs.Numbers.{nothing};
 ghost use Rattle.library_calls.specs.Shown.{IsRequestShown, IsResponseShown, IsTstShown, IsCertificateShown};
-ghost use Rattle.library_calls.specs.Shown.{IsShownSigned, IsNoType};
+ghost use Rattle.library_calls.specs.Shown.{IsShownSigned, IsEvidenceShown, IsNoType};
 
 use cli_failures::Failure;
 use library_answers::{Answer, Told, USAGE, tell_made, tell_unmade};
-use lines_shown::{show_certificate, show_request, show_response, show_signed, show_tst};
+use lines_shown::{
+    show_certificate, show_evidence, show_request, show_response, show_signed, show_tst,
+};
 use std::alloc::Global;
 
 /// The lines of a request.
@@ -58,7 +60,18 @@ fn tell_signed(alloc: Global, input: &[u8], room: &mut [u8]) -> Told
     }
 }
 
-/// What an input of one of five types is: a request, a response, a TSTInfo, a SignedData or a certificate.
+/// The lines of an evidence record.
+fn tell_evidence(alloc: Global, input: &[u8], room: &mut [u8]) -> Told
+    ensures { IsEvidenceShown input.now result.said result.status room.old result.size room.new }
+{
+    match show_evidence::text_of(alloc, input) {
+        Ok(lines) => tell_made(lines.as_bytes(), room),
+        Err(fault) => tell_unmade(alloc, &Failure::from(fault), room),
+    }
+}
+
+/// What an input of one of six types is: a request, a response, a TSTInfo, a SignedData, a certificate or an evidence
+/// record.
 pub fn tell_shown(alloc: Global, kind: u32, input: &[u8], room: &mut [u8]) -> Told
     // The lines that show the request that the octets encode, or the fault that they have.
     ensures request { kind ≡ 1 → IsRequestShown input.now result.said result.status room.old result.size room.new }
@@ -71,6 +84,8 @@ pub fn tell_shown(alloc: Global, kind: u32, input: &[u8], room: &mut [u8]) -> To
     // The same for a certificate.
     ensures certificate { kind ≡ 5 → IsCertificateShown input.now result.said result.status room.old result.size
         room.new }
+    // The same for an evidence record.
+    ensures evidence { kind ≡ 6 → IsEvidenceShown input.now result.said result.status room.old result.size room.new }
     // For any other number status 4, no verdict, and no text.
     ensures other { IsNoType kind → (result.status ≡ 4) × (result.said ≡ nothing) × (result.size ≡ 0) × (room.new ≡
         room.old) }
@@ -81,6 +96,7 @@ pub fn tell_shown(alloc: Global, kind: u32, input: &[u8], room: &mut [u8]) -> To
         3 => tell_tst(alloc, input, room),
         4 => tell_signed(alloc, input, room),
         5 => tell_certificate(alloc, input, room),
+        6 => tell_evidence(alloc, input, room),
         _ => Told::without_text(USAGE, Answer::nothing()),
     }
 }

@@ -153,6 +153,8 @@ IsShownIn given (text.ShowTst path) = (first_value given (codes "KIND") ≡ Some
     × (first_value given (codes "FILE") ≡ Some path.now)
 IsShownIn given (text.ShowSigned path) = (first_value given (codes "KIND") ≡ Some (codes "signed"))
     × (first_value given (codes "FILE") ≡ Some path.now)
+IsShownIn given (text.ShowEvidence path) = (first_value given (codes "KIND") ≡ Some (codes "evidence"))
+    × (first_value given (codes "FILE") ≡ Some path.now)
 IsShownIn given _ = ⊥
 
 -- the values of a task are those of the arguments of their names
@@ -162,6 +164,7 @@ IsTextTaskIn given (text.ShowRequest path) = IsShownIn given (text.ShowRequest p
 IsTextTaskIn given (text.ShowResponse path) = IsShownIn given (text.ShowResponse path)
 IsTextTaskIn given (text.ShowTst path) = IsShownIn given (text.ShowTst path)
 IsTextTaskIn given (text.ShowSigned path) = IsShownIn given (text.ShowSigned path)
+IsTextTaskIn given (text.ShowEvidence path) = IsShownIn given (text.ShowEvidence path)
 IsTextTaskIn given (text.ShowCertificate path) = first_value given (codes "FILE") ≡ Some path.now
 IsTextTaskIn given (text.Fit words) = IsFitIn given words
 IsTextTaskIn given (text.Match words) = IsMatchIn given words
@@ -184,6 +187,7 @@ text_command_of (text.ShowRequest path) = codes "show"
 text_command_of (text.ShowResponse path) = codes "show"
 text_command_of (text.ShowTst path) = codes "show"
 text_command_of (text.ShowSigned path) = codes "show"
+text_command_of (text.ShowEvidence path) = codes "show"
 text_command_of (text.ShowCertificate path) = codes "cert"
 text_command_of (text.Fit words) = codes "fit"
 text_command_of (text.Match words) = codes "match"

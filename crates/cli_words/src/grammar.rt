@@ -13,11 +13,11 @@ const VERSION_WORD: &str = "--version";
 /// What the program does, at the top of its help.
 const ABOUT: &str =
     "Makes requests for time-stamps (RFC 3161); shows what is in requests, responses, time-stamps,\n\
-     certificates and CMS SignedData; says whether a content and its signed attributes belong\n\
-     together, whether a response answers a request, by when the signatures of a file existed, and\n\
-     whether two signatures sign the same; prints what a verifier must be asked about a file; judges a\n\
-     time-stamp that stands beside a file; attaches time-stamp tokens; and brings trust lists to their\n\
-     newest version.";
+     certificates, CMS SignedData and evidence records (RFC 4998); says whether a content and its signed\n\
+     attributes belong together, whether a response answers a request, by when the signatures of a file\n\
+     existed, and whether two signatures sign the same; prints what a verifier must be asked about a\n\
+     file; judges a time-stamp that stands beside a file; attaches time-stamp tokens; and brings trust\n\
+     lists to their newest version.";
 
 /// What the commands about stamps do.
 pub const ABOUT_STAMPS: &str =

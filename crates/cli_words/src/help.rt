@@ -81,12 +81,20 @@ signer, from 1 on, `signer I version V agrees` or `differs`, `issuer HEX serial 
 `attributes absent`, and `tokens N` for the time-stamp tokens among the others. No signature is
 checked. A ContentInfo of another type gives `refused NotSignedData`.
 
+An evidence record (RFC 4998) shows as lines: `evidence`, `version 1`, `algorithms N`,
+`cryptoinfos N` and `encryption OID` if it has these fields, `chains N`, and for each archive
+time-stamp, in the order of the file, `chain C stamp S algorithm OID time TIME lists N values M`:
+the number of its chain, and its own in this chain, from 1; its digest algorithm, or if it names
+none that of its token's imprint; the token's time; how many lists of hash values it has, and how
+many hash values in all. What a token would say that can't be read is `-`. No time-stamp is checked.
+
 Examples:
   cmsproof show request request.tsq
   cmsproof show response response.tsr
   cmsproof show signed signed.p7s
   openssl cms -verify -noverify -nosigs -inform DER -in token.tok -out token.tst
-  cmsproof show tst token.tst";
+  cmsproof show tst token.tst
+  cmsproof show evidence record.ers";
 
 /// What is shown of a certificate.
 pub const CERTIFICATE_LINES: &str = "\

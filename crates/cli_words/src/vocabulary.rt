@@ -42,7 +42,7 @@ pub static ALGORITHMS: [&str; 7] = [
 ];
 
 /// What a file may be read as.
-pub static KINDS: [&str; 4] = ["request", "response", "signed", "tst"];
+pub static KINDS: [&str; 5] = ["evidence", "request", "response", "signed", "tst"];
 
 /// The list of whom to trust, of `check` and `questions`.
 const TRUST: Word = Word {

@@ -189,6 +189,7 @@ pub fn shown<'a>(given: &ArgMatches<'a>) -> Result<TextTask<'a>, Failure<'a>>
     ensures { IfOk result (IsShownIn (found_of given.now)) }
 {
     match value(given, "KIND")? {
+        "evidence" => Ok(TextTask::ShowEvidence(value(given, "FILE")?)),
         "request" => Ok(TextTask::ShowRequest(value(given, "FILE")?)),
         "response" => Ok(TextTask::ShowResponse(value(given, "FILE")?)),
         "signed" => Ok(TextTask::ShowSigned(value(given, "FILE")?)),

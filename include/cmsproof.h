@@ -224,6 +224,7 @@ cmsproof_status cmsproof_attach(const uint8_t *file, size_t file_length, uint64_
 #define CMSPROOF_TST UINT32_C(3)
 #define CMSPROOF_SIGNED UINT32_C(4)
 #define CMSPROOF_CERTIFICATE UINT32_C(5)
+#define CMSPROOF_EVIDENCE UINT32_C(6) /* an evidence record (RFC 4998) */
 cmsproof_status cmsproof_show(uint32_t type, const uint8_t *input, size_t input_length, char *text, size_t room, size_t *length,
                               cmsproof_answer *answer);
 

@@ -29,7 +29,7 @@ _cmsproof_options() {
 _cmsproof_firsts() {
     case $1 in
     'cmsproof') echo 'request show cert fit match check questions stamp attach compare migrate help' ;;
-    'cmsproof show') echo 'request response signed tst' ;;
+    'cmsproof show') echo 'evidence request response signed tst' ;;
     'cmsproof stamp') echo 'check questions' ;;
     'cmsproof help') echo 'request show cert fit match check questions stamp attach compare migrate help' ;;
     'cmsproof-archive') echo 'report evidence' ;;

@@ -41,6 +41,7 @@ complete -c cmsproof -n '__cmsproof_at request' -l nonce -x -d 'A number that th
 complete -c cmsproof -n '__cmsproof_at request' -l cert -d 'Asks for the authority’s certificate in the answer'
 complete -c cmsproof -n '__cmsproof_at request' -l help -d 'Print help'
 complete -c cmsproof -n '__cmsproof_at 1 show' -f
+complete -c cmsproof -n '__cmsproof_at 1 show' -a evidence
 complete -c cmsproof -n '__cmsproof_at 1 show' -a request
 complete -c cmsproof -n '__cmsproof_at 1 show' -a response
 complete -c cmsproof -n '__cmsproof_at 1 show' -a signed

@@ -92,7 +92,7 @@ class Offered:
         digests = set(re.search(r"--alg\W.*?\[possible values: (.*?)\]", text)[1].split(", "))
         verdicts = {"accepted", "stamped", "refused", "malformed", "failed"}
         table = [
-            ("cmsproof show ", {"request", "response", "signed", "tst"}),
+            ("cmsproof show ", {"evidence", "request", "response", "signed", "tst"}),
             ("cmsproof stamp ", {"check", "questions"}),
             ("cmsproof request --alg ", digests),
             ("cmsproof-archive --only ", verdicts),

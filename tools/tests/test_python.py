@@ -348,6 +348,14 @@ class Commands(unittest.TestCase):
         self.assertEqual(cmsproof.show("certificate", certificate)["serial"], serial.strip().lower())
         self.assertEqual(cmsproof.show("response", self.SMALL / "rsa_attached.1.tsr")["token"], "present")
 
+    def test_what_is_shown_of_an_evidence_record(self):
+        # (its time-stamp is an empty SEQUENCE, with two lists of one and two hash values before it)
+        record = bytes.fromhex("301d 020101 3000 3016 3014 3012 a20e 3003 0401aa 3007 0401bb 0402ccdd 3000")
+        found = cmsproof.show("evidence", record)
+        stamp = {"chain": 1, "stamp": 1, "algorithm": None, "time": None, "lists": 2, "values": 3}
+        self.assertEqual((found["version"], found["algorithms"], found["chains"], found["stamp"]), (1, 0, 1, [stamp]))
+        self.assertEqual(cmsproof.show("evidence", record[:-1])["code"], "M5")
+
 
 def has_pip():
     """Whether this Python makes environments with pip in them, as Debian's does with python3-venv."""

@@ -65,7 +65,7 @@ class Given:
         """Fails unless the dictionary has each word of the lines."""
         found = " ".join(words_in(cmsproof.show(kind, self.place.folder / name))).split(" ")
         words = [word for line in text.decode().splitlines() for word in line.split(" ")]
-        missing = set(words) - {*found, "agrees", "differs", "absent"}
+        missing = set(words) - {*found, "agrees", "differs", "absent", "-"}
         if missing:
             raise program_rows.Bad(f"the dictionary has no {missing}")
 

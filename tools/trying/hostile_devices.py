@@ -29,6 +29,7 @@ PRINTING = [
     (["show", "signed", "file"], None),
     (["show", "request", "request"], None),
     (["show", "response", "response"], None),
+    (["show", "evidence", "record"], None),
     (["fit", "empty"], "malformed M1 End at 0\n"),
     (["fit", "detached"], "refused C4 NoContent\n"),
     (["check", "--trust", "empty", "--answers", "answers", "file"], "trust L1 Version at line 1\n"),
@@ -74,6 +75,7 @@ READING = [
     (["show", "request", "?"], "read"),
     (["show", "response", "?"], "read"),
     (["show", "tst", "?"], "read"),
+    (["show", "evidence", "?"], "read"),
 ]
 
 

@@ -12,8 +12,8 @@ import sys
 from pathlib import Path
 
 sys.path.insert(0, str(Path(__file__).resolve().parent.parent))
-from oracle import der, expected, forms, lists, rules  # noqa: E402
-from oracle.der import number, sequence  # noqa: E402
+from oracle import der, expected, forms, lists, records, rules  # noqa: E402
+from oracle.der import element, number, octets, oid, sequence  # noqa: E402
 from samples import building, signed_files as made  # noqa: E402
 from samples.building import request_of, sha  # noqa: E402
 
@@ -44,6 +44,17 @@ TERMS_ALL = rules.Terms(lists.entries_of(TRUST_ALL), LINES_ALL)
 REQUEST = request_of(sha(b"abc"), cert=True)
 RESPONSE = sequence(sequence(number(0)), made.WITH_TSA.octets)
 STAMP = forms.read_signed_data(TOKEN).content
+# an evidence record (RFC 4998) with each part; the second archive time-stamp has the token alone, the third one none
+BY_SHA_512 = element(0xA0, oid("2.16.840.1.101.3.4.2.3"))
+FIELDS = element(0xA1, building.attribute("2.999.1"), building.attribute("2.999.2"))
+TREE = element(0xA2, sequence(octets(b"a"), octets(b"")), sequence(octets(b"b")))
+RECORD = sequence(
+    number(1),
+    sequence(sequence(oid("2.16.840.1.101.3.4.2.1"), b"\5\0")),
+    element(0xA0, building.attribute("2.999.3")),
+    element(0xA1, oid("2.999.4"), b"\5\0"),
+    sequence(sequence(sequence(BY_SHA_512, FIELDS, TREE, TOKEN), sequence(TOKEN)), sequence(sequence(b"\x30\0"))),
+)
 BY_SHA_1 = building.Token(alg="sha1")
 LINES_SHA_1 = [BY_SHA_1.signer.question(building.key(2))]
 ANSWERS_SHA_1 = ("cmsproof answers 1\n" + LINES_SHA_1[0] + "\n").encode()
@@ -129,6 +140,7 @@ COMMANDS = [
     ("show request", REQUEST, ["show", "request", "in"], lambda o: expected.reads(o, forms.request)),
     ("show response", RESPONSE, ["show", "response", "in"], lambda o: expected.reads(o, forms.response)),
     ("show tst", STAMP, ["show", "tst", "in"], lambda o: expected.reads(o, forms.tst_info)),
+    ("show evidence", RECORD, ["show", "evidence", "in"], records.shown),
     *((name, c, ["cert", "in"], lambda o: expected.reads(o, forms.certificate)) for name, c in CERTIFICATES),
     ("match, request", REQUEST, ["match", "in", "response", "out"], lambda o: expected.matched(o, RESPONSE)),
     ("match, response", RESPONSE, ["match", "request", "in", "out"], lambda o: expected.matched(REQUEST, o)),
@@ -198,6 +210,7 @@ BESIDE = {
     "detached": DETACHED,
     "signer": SIGNER,
     "stamp": STAMP,
+    "record": RECORD,
     "empty": b"",
 }
 

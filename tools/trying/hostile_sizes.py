@@ -135,6 +135,19 @@ MANY = [
     ("extensions of a certificate", lambda n: certificate_with(extensions(n)), ["cert", "in"], None),
     ("extensions of a TSTInfo", lambda n: stamp_with(element(0xA1, extensions(n))), ["show", "tst", "in"], None),
     ("extensions of a request", lambda n: request_with(element(0xA0, extensions(n))), ["show", "request", "in"], None),
+    ("archive time-stamps", lambda n: record_with(sequence(b"\x30\0") * (n // 10)), ["show", "evidence", "in"], None),
+    (
+        "hash values of an archive time-stamp",
+        lambda n: record_with(sequence(element(0xA2, sequence(b"\4\0" * n)), b"\x30\0")),
+        ["show", "evidence", "in"],
+        None,
+    ),
+    (
+        "lists of an archive time-stamp",
+        lambda n: record_with(sequence(element(0xA2, sequence(b"\4\0") * n), b"\x30\0")),
+        ["show", "evidence", "in"],
+        None,
+    ),
     (
         "texts of a response",
         lambda n: sequence(sequence(number(2), sequence(b"\x0c\1a" * n))),
@@ -150,6 +163,11 @@ MANY = [
     ("arcs of an identifier", lambda n: request_with_policy(b"\x2a" + b"\x81\1" * n), ["show", "request", "in"], None),
     ("octets of a serial number", lambda n: certificate_of_serial(n), ["cert", "in"], None),
 ]
+
+
+def record_with(stamps):
+    """An evidence record of one chain."""
+    return sequence(number(1), sequence(), sequence(sequence(stamps)))
 
 
 def response_with(certificates):

@@ -43,6 +43,7 @@ ROWS = {
         ["show", "request", "request"],
         ["show", "response", "response"],
         ["show", "tst", "stamp"],
+        ["show", "evidence", "record"],
         ["cert", "signer"],
         ["compare", "unstamped", "file"],
         ["match", "request", "response"],

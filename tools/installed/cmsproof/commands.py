@@ -11,7 +11,7 @@ from cmsproof.showing import dictionary_of
 from cmsproof.verdicts import Unexpected, code_of
 
 # what can be shown, and its number in the library
-TYPES = {"request": 1, "response": 2, "tst": 3, "signed": 4, "certificate": 5}
+TYPES = {"request": 1, "response": 2, "tst": 3, "signed": 4, "certificate": 5, "evidence": 6}
 
 
 def fit(file: Given, *, content: Optional[Given] = None, sha1: bool = False) -> Result:
@@ -94,8 +94,8 @@ def request_of_signature(
 
 
 def show(kind: str, given: Given) -> dict[str, Any]:
-    """What `cmsproof show` and `cmsproof cert` print of octets, as a dictionary: `kind` is 'request', 'response', 'tst', 'signed' or
-    'certificate'. Where the octets are no such thing, it has `verdict`, `code` and `line` instead."""
+    """What `cmsproof show` and `cmsproof cert` print of octets, as a dictionary: `kind` is 'request', 'response', 'tst', 'signed',
+    'certificate' or 'evidence'. Where the octets are no such thing, it has `verdict`, `code` and `line` instead."""
     if kind not in TYPES:
         raise ValueError(f"{kind!r} is none of {', '.join(TYPES)}")
     with octets_of(given) as octets:

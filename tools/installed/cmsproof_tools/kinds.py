@@ -56,6 +56,7 @@ SHOWN = {
     ),
     "tst": "the content of a time-stamp token (RFC 3161 2.4.2) alone: nobody signed it. `cmsproof show tst` shows it",
     "certificate": "a certificate, and no signed file: `cmsproof cert` shows it",
+    "evidence": "an evidence record (RFC 4998), and no signed file: `cmsproof show evidence` shows it",
 }
 TST_INFO, INDIRECT, TRUST_LIST = "1.2.840.113549.1.9.16.1.4", "1.3.6.1.4.1.311.2.1.4", "1.3.6.1.4.1.311.10.1"
 STAMP = (

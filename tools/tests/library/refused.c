@@ -191,7 +191,7 @@ static int check_token(long n) {
 static int texts(long n) {
     static char text[1 << 18], before[1 << 18];
     int refused = 0;
-    for (unsigned call = 0; call < 5 * TEXTS; call++) {
+    for (unsigned call = 0; call < 6 * TEXTS; call++) {
         struct octets octets = call % TEXTS == 9 ? beside.response : call % TEXTS == 11 ? token : file;
         cmsproof_answer all = stale(), said = stale();
         size_t length = 99, size = 99;

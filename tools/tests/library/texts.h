@@ -39,7 +39,7 @@ static inline cmsproof_status told(unsigned call, struct octets octets, const st
     case 12:
         return cmsproof_request_of_signature("sha256", 6, octets.at, octets.length, 1 + call / TEXTS % 2, (const char *)none, 0, none,
                                              0, true, into, room, length, said);
-    default: return cmsproof_show(1 + call / TEXTS % 5, octets.at, octets.length, text, room, length, said);
+    default: return cmsproof_show(1 + call / TEXTS % 6, octets.at, octets.length, text, room, length, said);
     }
 }
 

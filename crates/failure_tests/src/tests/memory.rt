@@ -12,7 +12,9 @@ use der_time::generalized_text;
 use devices::Slice;
 use digests::{Alg, digest};
 use files::{ANSWERS, CERTIFICATE, REQUEST, STAMP, STAMPED, TRUST, UNSTAMPED};
-use lines_shown::{show_certificate, show_request, show_response, show_signed, show_tst};
+use lines_shown::{
+    show_certificate, show_evidence, show_request, show_response, show_signed, show_tst,
+};
 use std::alloc::Global;
 use std::test::Fail;
 use tsp_types::{MakeFault, Request};
@@ -110,7 +112,7 @@ fn is_spelled(alloc: Global, text: &str, contents: &[u8]) -> bool {
 }
 
 /// Octets, and the lines that show them. The first says what they are.
-const TEXTS: [(&str, &str); 5] = [
+const TEXTS: [(&str, &str); 6] = [
     (
         REQUEST,
         "request\nalgorithm 2.16.840.1.101.3.4.2.1\n\
@@ -134,6 +136,12 @@ from 20240101000000Z\nuntil 20240131235959Z\nkey 300b3005060388370203020001\nsta
 signers 1\nsigner 1 version 1 agrees\nissuer 300c310a300806035504030c0141 serial 05\n\
 digest 2.16.840.1.101.3.4.2.1\nsignature 2.999.1\nattributes 2\ntokens 0\n",
     ),
+    // (its time-stamp is an empty SEQUENCE)
+    (
+        "30250201013000a1050603883702301730153013a0050603883701a20830060401610401623000",
+        "evidence\nversion 1\nalgorithms 0\nencryption 2.999.2\nchains 1\n\
+chain 1 stamp 1 algorithm 2.999.1 time - lists 1 values 2\n",
+    ),
 ];
 
 /// The text that shows octets, which are what the word says.
@@ -144,6 +152,7 @@ fn text_shown(alloc: Global, kind: &str, octets: &[u8]) -> Result<String, ()> {
         "tst" => show_tst::text_of(alloc, octets).map_err(|_| ()),
         "cert" => show_certificate::text_of(alloc, octets).map_err(|_| ()),
         "signed" => show_signed::text_of(alloc, octets).map_err(|_| ()),
+        "evidence" => show_evidence::text_of(alloc, octets).map_err(|_| ()),
         _ => Err(()),
     }
 }

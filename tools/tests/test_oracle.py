@@ -16,7 +16,7 @@ from unittest import mock
 TOP = Path(__file__).resolve().parent.parent.parent
 sys.path.insert(0, str(TOP / "tools"))
 from oracle import answers, der, expected, forms, identifiers, lists, openssl_judge, openssl_lines, rules  # noqa: E402
-from oracle import openssl_signed, real_stamps, rules_rows, stamps_rows  # noqa: E402
+from oracle import openssl_signed, real_stamps, records, rows, rules_rows, stamps_rows  # noqa: E402
 from trying import verdicts  # noqa: E402
 
 REAL = TOP / "data" / "real"
@@ -211,8 +211,12 @@ FAULTS = [
         "M15 Empty at 41",
     ),
     (functools.partial(forms.attribute, in_order=True), "300b06012a3106020102020101", "M14 Order at 10"),
+    (records.evidence_record, "300d02010130003006300431023000", "M6 Tag at 11"),
+    (records.evidence_record, "300d02010230003006300430023000", "M13 Value at 4"),
+    (records.evidence_record, "300702010130003000", "M15 Empty at 7"),
+    (records.evidence_record, "30110201013000300a30083006a20230003000", "M15 Empty at 15"),
 ]
-# Each form as sections 2, 8 and 9 have it: its parts, each of which may be absent if it has a `?`, by what reads it.
+# Each form as sections 2, 8, 9 and 12 have it: its parts, each of which may be absent if it has a `?`, by what reads it.
 ALGORITHM, EXTENSION, IMPRINT = "300306012a", "300506012a0400", "300b300306012a0404abcdef01"
 ATTRIBUTE, PAIR = "300706012a31020500", "30073002a4000201 05".replace(" ", "")
 FORMS = {
@@ -220,6 +224,8 @@ FORMS = {
     "Imprint": (forms.imprint, "%s 0400" % ALGORITHM),
     "AlgId": (forms.algorithm, "06012a 0500?"),
     "Extension": (forms.extension, "06012a 0101ff? 0400"),
+    "EvidenceRecord": (records.evidence_record, "020101 3000 a009%s? a10306012a? 3006300430023000" % ATTRIBUTE),
+    "ArchiveTimeStamp": (records.stamp, "a00306012a? a109%s? a20430020400? 3000" % ATTRIBUTE),
     "TSTInfo": (
         forms.tst_info,
         "020101 06012a %s 020105 180f32303234303130313030303030305a 3003020101? 0101ff? 020109? a0028200? a107%s?"
@@ -440,6 +446,18 @@ class Rules(unittest.TestCase):
         self.assertEqual(status, 0, said.getvalue())
         told = int(said.getvalue().splitlines()[-1].split()[0])
         self.assertGreaterEqual(told, 190)
+
+    def test_the_rows_of_evidence_records(self):
+        folder, blobs, told = TOP / "crates" / "vectors_run" / "data" / "commands", {}, 0
+        for name in ("commands.blobs", "stamps.blobs", "evidence.blobs"):
+            blobs = rows.blobs_of((folder / name).read_text(), blobs)
+        for line in (folder / "evidence.rows").read_text().splitlines():
+            if line.startswith("run words=show+evidence+shown "):
+                row = rows.Row(line, blobs)
+                text, status = records.shown(rows.octets_of(row.text("files").removeprefix("shown:"), blobs))
+                self.assertEqual(f"{status} " + text.replace("\n", "\\n"), row.wanted)
+                told += 1
+        self.assertGreaterEqual(told, 40)
 
     def test_lists(self):
         digits = CERTIFICATE.hex()

@@ -72,6 +72,7 @@ class Alone(unittest.TestCase):
         yield "it is the content of a time-stamp token", tst.read_bytes()
         yield "it is a certificate", real("cert_tsa.der")
         yield "it is a certificate", openssl("x509", "-in", certificate, "-outform", "DER")
+        yield "it is an evidence record", bytes.fromhex("300d0201013000 3006300430023000")
         yield "it is a bundle of certificates", real("no_signer.p7s")
         yield "it is a bundle of certificates", openssl("crl2pkcs7", "-nocrl", "-certfile", certificate, "-outform", "DER")
         yield "it looks like a private key", openssl("pkey", "-in", key, "-outform", "DER")

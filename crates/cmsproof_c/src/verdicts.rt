@@ -5,7 +5,7 @@ ghost use Rattle.library_calls.specs.Fit.{IsFit};
 ghost use Rattle.library_calls.specs.Comparing.{IsComparison};
 ghost use Rattle.library_calls.specs.Matching.{IsMatch};
 ghost use Rattle.library_calls.specs.Shown.{IsRequestShown, IsResponseShown, IsTstShown, IsCertificateShown};
-ghost use Rattle.library_calls.specs.Shown.{IsShownSigned, IsNoType};
+ghost use Rattle.library_calls.specs.Shown.{IsShownSigned, IsEvidenceShown, IsNoType};
 
 use library_answers::Answer;
 use library_calls::{Input, tell_comparison, tell_fit, tell_match, tell_shown};
@@ -79,7 +79,8 @@ pub extern "C" fn cmsproof_match(
     told.status
 }
 
-/// What an input of one of five types is: a request, a response, a TSTInfo, a SignedData or a certificate.
+/// What an input of one of six types is: a request, a response, a TSTInfo, a SignedData, a certificate or an evidence
+/// record.
 #[unsafe(no_mangle)]
 pub extern "C" fn cmsproof_show(
     alloc: Global,
@@ -100,6 +101,8 @@ pub extern "C" fn cmsproof_show(
         text.new }
     // The same for a certificate.
     ensures certificate { kind ≡ 5 → IsCertificateShown input.now said.new result text.old size.new text.new }
+    // The same for an evidence record.
+    ensures evidence { kind ≡ 6 → IsEvidenceShown input.now said.new result text.old size.new text.new }
     // For any other number status 4, no verdict, and no text.
     ensures other { IsNoType kind → (result ≡ 4) × (said.new ≡ nothing) × (size.new ≡ 0) × (text.new ≡ text.old) }
 {

@@ -15,7 +15,10 @@ need_tools()
 from samples import hierarchy
 from samples.hierarchy import issue, root, signed, together
 
-from cmsproof import TrustList
+from cmsproof import ListRefused, TrustList, check
+from cmsproof.calls import check_several
+from cmsproof.verdicts import Said
+from cmsproof.verifiers import ByCryptography, Vouching
 from cmsproof_tools import checking, descriptors, issuing, verify
 from cmsproof_tools.issuer_words import Asked
 from cmsproof_tools.names import BLOCK, Names
@@ -156,6 +159,26 @@ class Several(unittest.TestCase):
                 verify.answers_for(b"\n".join(lines))
         with mock.patch.object(verify, "judged", lambda _: verify.os._exit(0)):
             self.assertRaises(Stop, verify.answers_for, text)
+
+    def test_what_a_verifier_says_that_is_no_list(self):
+        """It costs no other file, and nothing but octets reaches the library; octets are as long as they are, whatever they say."""
+
+        class Saying(Vouching):
+            def __init__(self, said):
+                self.answers = lambda _: said
+
+        class Long(bytes):
+            def __len__(self):
+                return 1 << 40
+
+        octets, none = (REAL / "rsa_attached_ts.p7s").read_bytes(), b"cmsproof answers 1\n"
+        trust, said = TrustList.from_file(REAL / "trust.txt"), [none.decode(), 1, bytearray(none), None, b"no", none]
+        files, verifiers = [octets] * len(said), [*map(Saying, said), ByCryptography(), ByCryptography()]
+        found = check_several([*files, octets, Long(octets)], trust=trust, verifiers=verifiers)
+        self.assertEqual([type(one) for one in found], [*[TypeError] * 4, ListRefused, *[Said] * 3])
+        verdict, refused = check(octets, trust=trust), check(octets, trust=trust, verifier=lambda _: False)
+        wanted = [(one.verdict, one.code, one.line) for one in (refused, verdict, verdict)]
+        self.assertEqual((found[5:], verdict.accepted), (wanted, True))
 
     def test_no_file_is_read_twice(self):
         """Nor is one opened to be read and left, because others of its kind are judged otherwise."""

@@ -19,7 +19,7 @@ from cmsproof_tools.pairs import USUAL, Pairs, rows_of
 from cmsproof_tools.progress import Progress
 from cmsproof_tools.running import DONE, FAILED, MALFORMED, USAGE, Started, Stop, Words
 from cmsproof_tools.running import check_kept, module, read, shown, tell, write
-from cmsproof_tools.telling import Told, all_told, told_beside, told_of
+from cmsproof_tools.telling import Told, all_told, joined, told_beside, told_of
 from cmsproof_tools.workers import Workers
 
 if TYPE_CHECKING:
@@ -248,7 +248,7 @@ def outcomes(tool: str, given: Any, work: Work, names: Sequence[str], stack: Exi
     if not names:
         return []
     found = stack.enter_context(cluster.Cluster(tool, given.dask, work.trust.text, terms)).batches(names, work.contents)
-    return ([told(outcomes) for outcomes in several] for several in found)
+    return ([said for _, said in joined([told(outcomes) for outcomes in several])] for several in found)
 
 
 def run(tool: str, given: Any, work: Work, due: Sequence[str], resume: Resume | None, known: Known | None) -> int:

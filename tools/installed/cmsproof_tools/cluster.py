@@ -65,7 +65,7 @@ def work_of(trusted: bytes, terms: Terms) -> Work:
 def as_named(outcome: Outcome, name: str, folder: str) -> Outcome:
     """The outcome of a file as it is said of this name, which is one in that folder if it is relative."""
     if os.path.isabs(name):
-        return outcome._replace(name=name)
+        return outcome if outcome.name == name else outcome._replace(name=name)
     inside = os.path.join(folder, "")
     line, *notes = (text.replace(f" {shown(inside)}", " ", 1) for text in (outcome.line, *outcome.notes))
     return outcome._replace(name=name, line=line, notes=tuple(notes), content=outcome.content.removeprefix(inside))

@@ -3,3 +3,4 @@ pub mod Chains
 pub mod Members
 pub mod Returned
 pub mod Alike
+pub mod Verdicts

@@ -1,19 +1,19 @@
 -- What a record shows, and how it is refused, rests on the questions of the record alone.
-use Rattle.std.proofs.Common.{◌≡◌, ℕ, Bool, List, [], ◌∷◌, ◌++◌, refl, sym, ap, subst, ◌∙◌, arith, inl, inr}
+use Rattle.std.proofs.Common.{ℕ, Bool, List, ◌∷◌, refl, sym, ap, subst, ◌∙◌, arith, inl, inr}
 use Rattle.std.specs.Prelude.{Contains}
 use Rattle.std.proofs.lemmas.List.Concat.{flat_map-cons, flat_map-append}
 use Rattle.std.proofs.lemmas.List.Elements.{Contains-append_left, Contains-append_right}
 use Rattle.digests.specs.declared.algorithm.Alg.{Alg}
 use Rattle.trust_lists.specs.Asking.{Asked}
 use Rattle.evidence_types.specs.StampValue.{StampValue}
-use Rattle.evidence_types.specs.EvidenceValue.{EvidenceValue, EncodesEvidence}
+use Rattle.evidence_types.specs.EvidenceValue.{EvidenceValue}
 use Rattle.check_evidence.specs.Grounds.{Grounds, of_root, of_none}
 use Rattle.check_evidence.specs.Places.{Place, IsIn, chain_of, stamps_of}
 use Rattle.check_evidence.specs.Standing.{Imprints, IsOrdered, FitsIn, Stands}
 use Rattle.check_evidence.specs.Showing.{Shows}
-use Rattle.check_evidence.specs.Failing.{TokenFailsAt, TokenUnread, IsDisordered, IsWeak, IsLapsed, FailsToFit}
+use Rattle.check_evidence.specs.Failing.{FailsToFit}
 use Rattle.check_evidence.specs.Failing.{FailsToLast}
-use Rattle.check_evidence.specs.Refusing.{Fits, FirstUnfit, FirstLapsed, HasOthers, StampFails, Refuses}
+use Rattle.check_evidence.specs.Refusing.{Fits, FirstUnfit, FirstLapsed, StampFails, Refuses}
 use Rattle.check_evidence.specs.declared.rules.StampRule.{StampRule}
 use Rattle.check_evidence.specs.declared.rules.StampRule.TheVariants as rule
 use Rattle.check_evidence.specs.declared.rules.EvidenceRefused.{EvidenceRefused}

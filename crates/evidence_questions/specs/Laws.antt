@@ -16,6 +16,9 @@ use Rattle.check_questions.specs.FileQuestions.{IsSigned}
 use Rattle.check_evidence.specs.Grounds.{Grounds, terms_of}
 use Rattle.check_evidence.specs.Places.{stamps_of}
 use Rattle.check_evidence.specs.Standing.{Lasts}
+use Rattle.check_evidence.specs.Showing.{Shows}
+use Rattle.check_evidence.specs.Refusing.{Refuses}
+use Rattle.check_evidence.specs.declared.rules.EvidenceRefused.{EvidenceRefused}
 use Rattle.evidence_questions.specs.RecordQuestions.{AreQuestionsOfRecord, IsRecordQuestion}
 
 -- the members of the list are the questions about the tokens of the record
@@ -76,3 +79,14 @@ StampsLastAlike = (g : Grounds) (octets : List ℕ) (answers : Asked → Bool) �
     → (s : StampValue) → IsStampOf octets s → (signer : SignerValue) → IsSigned s.stamp signer
     → (attributes : List AttributeValue) → signer.signed_attributes ≡ Some attributes → (m until : ℕ)
     → Lasts g signer attributes m until ↔ Lasts (by_answers g answers) signer attributes m until
+
+-- and so the record shows a moment for data objects, and is refused for a reason
+abbrev pub RecordsShowAlike : Type 0
+RecordsShowAlike = (g : Grounds) (octets : List ℕ) (answers : Asked → Bool) → RecordAnswers g octets answers
+    → (data_objects : List (List ℕ)) (m : ℕ)
+    → Shows g octets data_objects m ↔ Shows (by_answers g answers) octets data_objects m
+
+abbrev pub RecordsRefusedAlike : Type 0
+RecordsRefusedAlike = (g : Grounds) (octets : List ℕ) (answers : Asked → Bool) → RecordAnswers g octets answers
+    → (data_objects : List (List ℕ)) (r : EvidenceRefused)
+    → Refuses g octets data_objects r ↔ Refuses (by_answers g answers) octets data_objects r

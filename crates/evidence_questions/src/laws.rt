@@ -3,6 +3,7 @@
 ghost use Rattle.evidence_questions.specs.Laws.{RecordsListTheQuestions, RecordsHaveQuestions, RecordsHaveOneList};
 ghost use Rattle.evidence_questions.specs.Laws.{StampsAskTheListed};
 ghost use Rattle.evidence_questions.specs.Laws.{StampsPassAlike, StampsFailAlike, StampsLastAlike};
+ghost use Rattle.evidence_questions.specs.Laws.{RecordsShowAlike, RecordsRefusedAlike};
 
 /// Each open evidence record of octets has exactly one list of questions, and its members are those questions on whose
 /// answers it may depend what its time-stamps show.
@@ -17,7 +18,7 @@ pub fn record_questions_are_those_asked()
     ensures one { RecordsHaveOneList }
 {}
 
-/// What the time-stamps of a record show depends only on the verifier's answers to the questions of the record.
+/// What a record and its time-stamps show depends only on the verifier's answers to the questions of the record.
 pub fn record_answers_suffice()
     // A token of it passes exactly if it does under other answers that agree on these, whatever is due as its imprint.
     ensures passing { StampsPassAlike }
@@ -25,4 +26,8 @@ pub fn record_answers_suffice()
     ensures failures { StampsFailAlike }
     // It lasts to a moment exactly if it does under those answers.
     ensures lasting { StampsLastAlike }
+    // The record shows a moment for data objects exactly if it does under those answers.
+    ensures showing { RecordsShowAlike }
+    // It is refused exactly if it is under those answers, for the same reason.
+    ensures refusing { RecordsRefusedAlike }
 {}

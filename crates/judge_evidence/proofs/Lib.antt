@@ -7,3 +7,10 @@ pub mod Members
 pub mod MoreTrust
 pub mod Before
 pub mod Recorded
+pub mod Running
+pub mod Values
+pub mod EndOfUse
+pub mod Judging
+pub mod Loops
+pub mod Answered
+pub mod Wanting

@@ -1,5 +1,8 @@
 -- The moment that a time-stamp states is one, and a token passes with it.
-use Rattle.std.proofs.Common.{◌≡◌, ℕ, List, Option, Some, sym, ap, ◌∙◌, subst, unwrap_or}
+use Rattle.std.proofs.Common.{◌≡◌, ℕ, List, Option, Some, None, sym, ap, ◌∙◌, subst, unwrap_or}
+use Rattle.der_core.specs.Values.{AlgorithmValue}
+use Rattle.digests.specs.declared.algorithm.Alg.{Alg}
+use Rattle.digests.proofs.Named.{contents_distinct}
 use Rattle.der_time.specs.Moments.{generalized_moment}
 use Rattle.cms_types.specs.SignedDataValue.{SignedDataValue}
 use Rattle.check_fit.proofs.Readings.{one_value}
@@ -7,7 +10,7 @@ use Rattle.tsp_types.specs.TstValue.{TstValue, EncodesTst}
 use Rattle.evidence_types.specs.StampValue.{StampValue}
 use Rattle.check_verdict.specs.Passing.{Terms, Due, PassesFor}
 use Rattle.check_verdict.proofs.Readings.{one_tst}
-use Rattle.check_evidence.specs.StampStates.{States, HasTime}
+use Rattle.check_evidence.specs.StampStates.{States, HasTime, ImprintedBy, NamedBy, HasAlg}
 
 pub some_is : {A : Type 0} (a b : A) (o : Option A) → o ≡ Some a → o ≡ Some b → a ≡ b
 some_is {A} a b o e h = ap (λ (x : Option A). unwrap_or x a) (sym e ∙ h)
@@ -37,3 +40,16 @@ passes_at t s due m p = (
   },
   p.moment,
 )
+
+one_imprint : (s : StampValue) (a b : Alg) → ImprintedBy s a → ImprintedBy s b → a ≡ b
+one_imprint s a b h k = contents_distinct a b (sym h.2.contents
+    ∙ ap (λ (x : TstValue). x.imprint.algorithm.oid) (one_stated s.stamp h.0 k.0 h.1 k.1) ∙ k.2.contents)
+
+one_named : (named : Option AlgorithmValue) (s : StampValue) (a b : Alg) → NamedBy named s a → NamedBy named s b
+    → a ≡ b
+one_named None s a b h k = one_imprint s a b h k
+one_named (Some named) s a b h k = contents_distinct a b (sym h.contents ∙ k.contents)
+
+-- a stamp has one algorithm
+pub one_alg : (s : StampValue) (a b : Alg) → HasAlg s a → HasAlg s b → a ≡ b
+one_alg s a b h k = one_named s.algorithm s a b h k

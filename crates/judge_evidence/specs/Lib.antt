@@ -2,3 +2,8 @@ pub mod Going
 pub mod PlaceParts
 pub mod ShowingChains
 pub mod ShowingLaws
+pub mod Data
+pub mod Running
+pub mod Terms
+pub mod Walking
+pub mod RecordVerdicts

@@ -1,0 +1,172 @@
+-- Whether a stamp that fits lasts until the end of its use.
+use Rattle.std.proofs.Common.{◌≡◌, ◌↔◌, ℕ, Bool, true, false, List, [], ◌∷◌, Option, Some, None, MatchOption, Result}
+use Rattle.std.proofs.Common.{Ok}
+use Rattle.std.proofs.Common.{Err, IfOk, IsTrue, refl, sym, ap, ◌∙◌, subst, unwrap_or, if◌then◌else◌}
+use Rattle.der_time.specs.Moments.{generalized_moment}
+use Rattle.digests.specs.Algorithms.{Names}
+use Rattle.digests.specs.Named.{is_alg}
+use Rattle.digests.specs.declared.algorithm.Alg.{Alg}
+use Rattle.digests.proofs.Named.{alg_says}
+use Rattle.cms_types.specs.AttributeValue.{AttributeValue}
+use Rattle.cms_types.specs.SignerValue.{SignerValue}
+use Rattle.cms_types.specs.SignedDataValue.{SignedDataValue}
+use Rattle.check_fit.specs.declared.policy.Policy.{Policy}
+use Rattle.check_fit.proofs.Readings.{one_value}
+use Rattle.tsp_types.specs.ImprintValue.{ImprintValue}
+use Rattle.evidence_types.specs.StampValue.{StampValue}
+use Rattle.check_verdict.specs.Passing.{IsDue, IsImprint}
+use Rattle.check_evidence.specs.declared.rules.StampRule.{StampRule}
+use Rattle.check_evidence.specs.declared.rules.StampRule.TheVariants as rule
+use Rattle.check_evidence.specs.Grounds.{Grounds, terms_of, of_root}
+use Rattle.check_evidence.specs.Places.{Place}
+use Rattle.check_evidence.specs.StampStates.{HasTime, IsUntil, IsUntilBy}
+use Rattle.check_evidence.specs.Standing.{FitsIn, AlgsHold, Lasts, Stands}
+use Rattle.check_evidence.specs.Failing.{FailsToLast}
+use Rattle.evidence_stamps.specs.StateValue.{StateValue, IsState, IsStateOf}
+use Rattle.evidence_stamps.specs.MayLast.{TokenLasts}
+use Rattle.judge_evidence.specs.Running.{ShowsTime, IsFound}
+use Rattle.judge_evidence.proofs.StampTimes.{some_is, passes_at}
+
+-- ---- until when
+
+abbrev pub IsAheadBy : Option StampValue → (last : Bool) → Option StateValue → Type 0
+IsAheadBy next last ahead = MatchOption next (last ≡ true) (λ s. (last ≡ false) × IsStateOf s.stamp ahead)
+
+pub until_last : (next : Option StampValue) (at : Option ℕ) (its : StampValue) (last : Bool) (ahead : Option StateValue)
+    (m until : ℕ) → IsAheadBy next last ahead → last ≡ true → until ≡ unwrap_or at m → HasTime its m
+    → IsUntilBy next at its until
+until_last (Some s) at its last ahead m until h e is time = absurd (let differ : true ≡ false = sym e ∙ h.0 in cc)
+until_last None (Some n) its last ahead m until h e is time = is
+until_last None None its last ahead m until h e is time = subst (λ (x : ℕ). HasTime its x) (sym is) time
+
+pub until_ahead : (next : Option StampValue) (at : Option ℕ) (its : StampValue) (last : Bool) (st : StateValue)
+    (until : ℕ) → IsAheadBy next last (Some st) → last ≡ false → until ≡ generalized_moment st.stated.time
+    → IsUntilBy next at its until
+until_ahead None at its last st until h e is = absurd (let differ : true ≡ false = sym h ∙ e in cc)
+until_ahead (Some s) at its last st until h e is = (st.stated, h.1.states, sym is)
+
+pub no_until : (next : Option StampValue) (last : Bool) → IsAheadBy next last None → last ≡ false
+    → ((s : StampValue) → next ≡ Some s → ShowsTime s) → ⊥
+no_until None last h e shows = let differ : true ≡ false = sym h ∙ e in cc
+no_until (Some s) last h e shows = let time = (shows s refl).1 in h.1 time.0 time.1
+
+pub false_not_true : (b : Bool) → b ≡ false → IsTrue b → ⊥
+false_not_true true e h = cc
+false_not_true false e h = cc
+
+-- ---- what is kept of its token
+
+-- the imprint's algorithm is the one by which the root is due
+imprint_alg : (policy : Policy) (alg : Alg) (root : List ℕ) (imprint : ImprintValue)
+    (i : IsImprint policy imprint (of_root alg root)) → i.alg ≡ alg
+imprint_alg policy alg root imprint i = go (is_alg i.alg alg) refl i.digest
+  where
+    go : (b : Bool) → is_alg i.alg alg ≡ b → IsDue (if b then Some root else None) imprint.digest → i.alg ≡ alg
+    go true e d = alg_says i.alg alg e
+    go false e d = absurd d
+
+first_one : (x y : SignerValue) → x ∷ [] ≡ y ∷ [] → x ≡ y
+first_one x y e = cc
+
+module _ (g : Grounds) (ds : List (List ℕ)) (p : Place) (alg : Alg) (m : ℕ) (f : FitsIn g ds p alg m) (st : StateValue)
+    (is : IsState p.stamp.stamp st) where
+  signed_is : f.imprints.passes.signed ≡ st.signed
+  signed_is = one_value p.stamp.stamp f.imprints.passes.signed is.states.signed f.imprints.passes.encodes
+      is.states.encodes ∙ is.signed
+
+  signers_are : st.signed.signers ≡ f.imprints.passes.signer ∷ []
+  signers_are = ap (λ (v : SignedDataValue). v.signers) (sym signed_is) ∙ f.imprints.passes.one_signer
+
+  imprint_is : f.imprints.passes.imprint.alg ≡ alg
+  imprint_is = imprint_alg (terms_of g).policy alg f.imprints.root _ f.imprints.passes.imprint
+
+  to_algs : (until : ℕ) → AlgsHold g.ends alg alg f.imprints.passes.fits.alg until
+      → AlgsHold g.ends alg f.imprints.passes.imprint.alg f.imprints.passes.fits.alg until
+  to_algs until h = subst (λ (a : Alg). AlgsHold g.ends alg a f.imprints.passes.fits.alg until) (sym imprint_is) h
+
+  from_algs : (until : ℕ) → AlgsHold g.ends alg f.imprints.passes.imprint.alg f.imprints.passes.fits.alg until
+      → AlgsHold g.ends alg alg f.imprints.passes.fits.alg until
+  from_algs until h = subst (λ (a : Alg). AlgsHold g.ends alg a f.imprints.passes.fits.alg until) imprint_is h
+
+  from_lasts : (until : ℕ) → Lasts g f.imprints.passes.signer f.imprints.passes.attributes m until
+      → TokenLasts g st.signed m until
+  from_lasts until h = record {
+    signer = f.imprints.passes.signer;
+    one_signer = signers_are;
+    attributes = f.imprints.passes.attributes;
+    has = f.imprints.passes.has;
+    lasts = h;
+  }
+
+  to_lasts : (until : ℕ) → TokenLasts g st.signed m until
+      → Lasts g f.imprints.passes.signer f.imprints.passes.attributes m until
+  to_lasts until h =
+      let signer : h.signer ≡ f.imprints.passes.signer = first_one h.signer f.imprints.passes.signer
+      (sym h.one_signer ∙ signers_are) in
+      let attributes : h.attributes ≡ f.imprints.passes.attributes = some_is h.attributes f.imprints.passes.attributes
+      f.imprints.passes.signer.signed_attributes
+      (subst (λ (s : SignerValue). s.signed_attributes ≡ Some h.attributes) signer h.has) f.imprints.passes.has in
+      subst (λ (a : List AttributeValue). Lasts g f.imprints.passes.signer a m until) attributes
+      (subst (λ (s : SignerValue). Lasts g s h.attributes m until) signer h.lasts)
+
+  -- the algorithm of its signer is known
+  signer_known : (signer : Option Alg) → ((s : SignerValue) (a : Alg) → st.signed.signers ≡ s ∷ []
+      → Names s.digest_algorithm.oid s.digest_algorithm.parameters a → signer ≡ Some a)
+      → signer ≡ Some f.imprints.passes.fits.alg
+  signer_known signer only = only f.imprints.passes.signer f.imprints.passes.fits.alg signers_are
+      f.imprints.passes.fits.named
+
+  module _ (signer : Option Alg) (until : ℕ) (u : IsUntil g.at p until)
+      (only : (s : SignerValue) (a : Alg) → st.signed.signers ≡ s ∷ []
+      → Names s.digest_algorithm.oid s.digest_algorithm.parameters a → signer ≡ Some a) (holds : Bool)
+      (tells : (a : Alg) → signer ≡ Some a → IsTrue holds ↔ AlgsHold g.ends alg alg a until) where
+    told : IsTrue holds ↔ AlgsHold g.ends alg alg f.imprints.passes.fits.alg until
+    told = tells f.imprints.passes.fits.alg (signer_known signer only)
+
+    pub is_weak : holds ≡ false → FailsToLast g ds p rule.Weak
+    is_weak fails = record {
+      alg = alg;
+      moment = m;
+      fits = f;
+      until = until;
+      is_until = u;
+      not = λ h. absurd (false_not_true holds fails (told.1 (from_algs until h)));
+    }
+
+    module _ (succeeds : holds ≡ true) where
+      strong : AlgsHold g.ends alg f.imprints.passes.imprint.alg f.imprints.passes.fits.alg until
+      strong = to_algs until (told.0 (subst (λ (b : Bool). IsTrue b) (sym succeeds) refl))
+
+      pub is_lapsed : (TokenLasts g st.signed m until → ⊥) → FailsToLast g ds p rule.Lapsed
+      is_lapsed ends = record {
+        alg = alg;
+        moment = m;
+        fits = f;
+        until = until;
+        is_until = u;
+        algs = strong;
+        not = λ h. ends (from_lasts until h);
+      }
+
+      pub it_stands : TokenLasts g st.signed m until → Stands g ds p
+      it_stands h = record {
+        alg = alg;
+        moment = m;
+        fits = f;
+        until = until;
+        is_until = u;
+        algs = strong;
+        lasts = to_lasts until h;
+      }
+
+-- the moment with which it fits is the one that it states
+pub fits_at : (g : Grounds) (ds : List (List ℕ)) (p : Place) (alg : Alg) (m : ℕ) → FitsIn g ds p alg m
+    → HasTime p.stamp m
+fits_at g ds p alg m f = passes_at (terms_of g) p.stamp (of_root alg f.imprints.root) m f.imprints.passes
+
+-- what is found of it is found if it can be told until when it is used
+pub found_if : {E : Type 0} (g : Grounds) (ds : List (List ℕ)) (p : Place) (r : Result (Option StampRule) E)
+    → IfOk r (λ found. MatchOption found (Stands g ds p) (λ failed. FailsToLast g ds p failed))
+    → IfOk r (λ found. IsFound g ds p found)
+found_if g ds p (Ok found) h = λ until. h
+found_if g ds p (Err e) h = tt

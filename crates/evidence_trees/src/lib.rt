@@ -7,6 +7,8 @@ mod laws;
 mod leaf_lists;
 mod leaves;
 mod nodes;
+#[cfg(test)]
+mod tests;
 mod tree;
 mod values;
 

@@ -1,0 +1,191 @@
+//! Trees over documents (RFC 4998 4.2): the roots and lists that another program gave them. Bouncy Castle 1.72 gives the
+//! same roots, and accepts records with these lists.
+ghost use Rattle.std.specs.Prelude.{◌≡◌, IfOk, All};
+ghost use Rattle.digests.specs.Digests.{alg_of};
+
+use crate::{LeafLists, Tree};
+use digests::{Alg, Digest, digest};
+use std::alloc::{AllocError, Global};
+use std::test::Fail;
+
+/// How many documents, and the root over their digests.
+const ROOTS: [(Alg, usize, &str); 12] = [
+    (
+        Alg::Sha256,
+        1,
+        "b30bb20e74f7a295aeaba71bedea2d4c63ebad7ded8d1d6368f9e70fa063d0ad",
+    ),
+    (
+        Alg::Sha256,
+        2,
+        "c3dd95ab57ec3930f6a0c0f0ff7aff589813b3e7c9a5e3e04b4c722efa89709c",
+    ),
+    (
+        Alg::Sha256,
+        3,
+        "5bef1129e60c586a6a1af7a9b4660d6fd8791dbd60e542aa60243932426fbde2",
+    ),
+    (
+        Alg::Sha256,
+        5,
+        "90ee0d13ad8fea93af0d57636d8af0c2154c99222cf95c1f9670aeae6382b523",
+    ),
+    (
+        Alg::Sha256,
+        7,
+        "651bd64e31d982717ddc45c2df789f2df28f7d873e3e6b5d955c6a714729711d",
+    ),
+    (
+        Alg::Sha256,
+        1000,
+        "65bbb0d28c68a593ee742871d1b4e5be18d474a798cb2dd0657ded742a1472b2",
+    ),
+    (
+        Alg::Sha512,
+        1,
+        "ceaa56613ab8e5d1df24800efa21bbb0a8dbf5cbcdddf64f3ae6676bc376518e\
+         816431b40624e3f0a35c8b331c798d7a2dcb25d38c2927c8b017ef0946f0cd17",
+    ),
+    (
+        Alg::Sha512,
+        2,
+        "6d2fa32fbb4b0cd6af91cc3979b4541fae0fb39537c2a4676c9210d5e8bda4f2\
+         fb53fa1483bd362b1a649537ff19b990b76a230c03223dc2a62684fa2064c8d7",
+    ),
+    (
+        Alg::Sha512,
+        3,
+        "b5241d27b43b1debb208ad37c8c17b78ea60bb4cabf952a1ad5ec2d0584cd257\
+         8d6a6ec2af395116e99bb7f8638877c13db14f942c3dcc702307111295e443c0",
+    ),
+    (
+        Alg::Sha512,
+        5,
+        "2ef455d1e367e33ab4e99fa04ccd7f7639bf08248a0762eb8eb7bdfb56670d0e\
+         1dff08bf20adc1d3a4b1e27684a3079dc139617cc825adf60cd609f496eefe0f",
+    ),
+    (
+        Alg::Sha512,
+        7,
+        "2acd30b0b4aeb15b13294c4582e2a0a44d3c212f4e32d6d4fbcca92d80274532\
+         474f4758d6eec03256b567c6b87157ee67d725c4087c62339a582256eec84171",
+    ),
+    (
+        Alg::Sha512,
+        1000,
+        "2364b3bf0b174cbeb8d16a988ae7c3ddabd47b909c1e2f2490d3bff64bfb5474\
+         a63d8910c3d452e094627d85a0317588b249d61b3020e9e2e44f1f34276d1b4c",
+    ),
+];
+
+/// The lists of each document's digest, in the order of the documents: `d2` is the digest of document 2, and a node is
+/// shown by its first octets.
+const LISTS: [(Alg, usize, &str); 10] = [
+    (Alg::Sha256, 1, "d0"),
+    (Alg::Sha256, 2, "d0 d1; d1 d0"),
+    (Alg::Sha256, 3, "d0 d2 d1; d1 1eaf68cc; d2 d0 d1"),
+    (
+        Alg::Sha256,
+        5,
+        "d0 d3 aa29c737 d1; d1 c1015939; d2 d4 66d184d9 d1; d3 d0 aa29c737 d1; d4 d2 66d184d9 d1",
+    ),
+    (
+        Alg::Sha256,
+        7,
+        "d0 d2 2b063cca a71b3d18; d1 4cc2bcca 12bea257; d2 d0 2b063cca a71b3d18; \
+         d3 d6 d1 12bea257; d4 d5 1eaf68cc a71b3d18; d5 d4 1eaf68cc a71b3d18; d6 d3 d1 12bea257",
+    ),
+    (Alg::Sha512, 1, "d0"),
+    (Alg::Sha512, 2, "d0 d1; d1 d0"),
+    (Alg::Sha512, 3, "d0 d1 d2; d1 d0 d2; d2 6d2fa32f"),
+    (
+        Alg::Sha512,
+        5,
+        "d0 d4 357f2052 d2; d1 d3 0d2534b1 d2; d2 05597e07; d3 d1 0d2534b1 d2; d4 d0 357f2052 d2",
+    ),
+    (
+        Alg::Sha512,
+        7,
+        "d0 d4 d2 2f03cea5; d1 d5 e4571f0c 1cf95e5f; d2 0d2534b1 2f03cea5; \
+         d3 d6 b9884b72 1cf95e5f; d4 d0 d2 2f03cea5; d5 d1 e4571f0c 1cf95e5f; \
+         d6 d3 b9884b72 1cf95e5f",
+    ),
+];
+
+/// The digests of the first documents: `document 0` and a line feed, and so on.
+fn documents(alloc: Global, alg: Alg, count: usize) -> Result<Vec<Digest>, AllocError>
+    ensures { IfOk result (λ v. All (λ d. alg_of d ≡ alg) v.items) }
+{
+    let mut documents = Vec::new(alloc);
+    for number in 0..count {
+        let text = format!(in alloc; "document {number}\n")?;
+        let document = digest(alg, text.as_str().as_bytes());
+        documents.push(document)?;
+    }
+    Ok(documents)
+}
+
+/// The name of a value.
+fn name(alloc: Global, documents: &[Digest], value: &[u8]) -> Result<String, AllocError> {
+    for (number, document) in documents.iter().enumerate() {
+        if document.is(value) {
+            return format!(in alloc; "d{number}");
+        }
+    }
+    hex::encode(alloc, value.get(..4).unwrap_or(value))
+}
+
+/// The names of the values of a leaf's lists.
+fn names(alloc: Global, documents: &[Digest], lists: LeafLists<'_>) -> Result<String, AllocError> {
+    let mut text = String::new(alloc);
+    let mut left = lists;
+    for _ in 0..64u8 {
+        let Some((value, others)) = left.next() else {
+            break;
+        };
+        if !text.as_str().is_empty() {
+            text.push_str(" ")?;
+        }
+        text.push_str(name(alloc, documents, value)?.as_str())?;
+        left = others;
+    }
+    Ok(text)
+}
+
+/// The lists of all documents.
+fn all_names(alloc: Global, tree: &Tree, documents: &[Digest]) -> Result<String, AllocError> {
+    let mut text = String::new(alloc);
+    for document in documents {
+        if !text.as_str().is_empty() {
+            text.push_str("; ")?;
+        }
+        if let Some(lists) = tree.lists_of(document) {
+            text.push_str(names(alloc, documents, lists)?.as_str())?;
+        }
+    }
+    Ok(text)
+}
+
+#[test]
+fn roots_are_those_of_another_program(rt: HostRuntime) -> Result<(), Fail> {
+    for (alg, count, root) in ROOTS {
+        let documents = documents(rt.alloc(), alg, count)?;
+        assert!(rt; !documents.is_empty());
+        let tree = Tree::of(rt.alloc(), alg, &documents)?;
+        let digits = hex::encode(rt.alloc(), tree.root().bytes())?;
+        assert_eq!(rt; digits.as_str(), root, "{count} documents");
+    }
+    Ok(())
+}
+
+#[test]
+fn lists_are_those_of_another_program(rt: HostRuntime) -> Result<(), Fail> {
+    for (alg, count, lists) in LISTS {
+        let documents = documents(rt.alloc(), alg, count)?;
+        assert!(rt; !documents.is_empty());
+        let tree = Tree::of(rt.alloc(), alg, &documents)?;
+        let text = all_names(rt.alloc(), &tree, &documents)?;
+        assert_eq!(rt; text.as_str(), lists, "{count} documents");
+    }
+    Ok(())
+}

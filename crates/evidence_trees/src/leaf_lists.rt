@@ -121,6 +121,7 @@ impl<'a> LeafLists<'a> {
 
     /// The value of the first list and those of the others, or `None` if there is none.
     pub fn next(&self) -> Option<(&'a [u8], LeafLists<'a>)>
+        // Gives the values, one after another.
         ensures { MatchOption result (self.now ≡ []) (λ x. self.now ≡ x.0.now ∷ x.1) }
     {
         if let Some(leaf) = self.leaf {

@@ -1,5 +1,5 @@
-//! Trees over documents (RFC 4998 4.2): the roots and lists that another program gave them. Bouncy Castle 1.72 gives the
-//! same roots, and accepts records with these lists.
+//! Trees over documents (RFC 4998 4.2): the roots and lists that another program gave them. Bouncy Castle 1.72 gives
+//! the same roots, and accepts records with these lists.
 ghost use Rattle.std.specs.Prelude.{◌≡◌, IfOk, All};
 ghost use Rattle.digests.specs.Digests.{alg_of};
 

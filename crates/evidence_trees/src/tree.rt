@@ -57,8 +57,12 @@ impl Tree {
     /// The tree over these digests by one algorithm, of which equal ones are one leaf. It takes memory for two digests
     /// a leaf and one a level, and while it sorts for an index of the digests.
     pub fn of(alloc: Global, alg: Alg, leaves: &[Digest]) -> Result<Tree, AllocError>
+        // There is a digest.
         requires some { 0 < length leaves.now }
+        // All are by this algorithm.
         requires algorithm { All (λ d. alg_of d ≡ alg) leaves.now }
+        // It is the tree over them: its leaves are the different ones, and its root is theirs. Only a refusal of memory
+        // is an error.
         ensures { IfOk result (IsTreeOf alg (map octets_of leaves.now)) }
     {
         let mut nodes = leaves_of(alloc, alg, leaves, nodes_over(leaves.len()))?;
@@ -74,7 +78,9 @@ impl Tree {
 
     /// The root: what an archive time-stamp over the leaves is on.
     pub fn root(&self) -> Digest
+        // It is by the algorithm of the tree.
         ensures algorithm { alg_of result ≡ self.now.algorithm }
+        // It has the octets of the root.
         ensures octets { octets_of result ≡ self.now.root }
     {
         match Digest::given(self.alg, self.nodes.get(self.nodes.len() - 1)) {
@@ -89,7 +95,7 @@ impl Tree {
         // Returns lists exactly if the digest is by the algorithm of the tree, and a leaf.
         ensures some { IsSome result
             ↔ (alg_of leaf.now ≡ self.now.algorithm) × Contains self.now.leaves (octets_of leaf.now) }
-        // They show the leaf.
+        // Their root is that of the tree, they cover this leaf and nothing else, and each value is as long as a digest.
         ensures lists { IfSome result (AreListsOf self.now (octets_of leaf.now)) }
     {
         if leaf.alg() != self.alg {

@@ -145,7 +145,8 @@ def judged(work, names, resume):
     """The seconds of the processor that a group of files takes: judged, handed from process to process, printed, and kept."""
     began = time.thread_time()
     found = checking.outcomes_of_several(work, names)
-    several = [pickle.loads(pickle.dumps(telling.all_told(work, outcomes.text_lines, found), PROTOCOL))]
+    handed = pickle.loads(pickle.dumps(telling.all_told(work, outcomes.text_lines, found), PROTOCOL))
+    several = [[told for _, told in handed]]
     found = several if resume is None else resume.kept_of(names, several)
     archive.checked("states", found, Progress("states", len(names)))
     return time.thread_time() - began

@@ -78,8 +78,8 @@ const ROOTS: [(Alg, usize, &str); 12] = [
     ),
 ];
 
-/// The lists of each document's digest, in the order of the documents: `d2` is the digest of document 2, and a node is
-/// shown by its first octets.
+/// The lists of each document's digest, in the order of the documents: `d` and a number is the digest of the document
+/// that has this number in its text, and a node is shown by its first octets.
 const LISTS: [(Alg, usize, &str); 10] = [
     (Alg::Sha256, 1, "d0"),
     (Alg::Sha256, 2, "d0 d1; d1 d0"),
@@ -112,7 +112,7 @@ const LISTS: [(Alg, usize, &str); 10] = [
     ),
 ];
 
-/// The digests of the first documents: `document 0` and a line feed, and so on.
+/// The digests of the first documents: the text of each is `document`, a space, its number from 0, and a line feed.
 fn documents(alloc: Global, alg: Alg, count: usize) -> Result<Vec<Digest>, AllocError>
     ensures { IfOk result (λ v. All (λ d. alg_of d ≡ alg) v.items) }
 {

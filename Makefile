@@ -70,8 +70,8 @@ check:
 	@$(NEED_RT)
 	@rt all check
 
-# The whole gate: whether dist/ says that it is of these sources, docs/PROVED.md has the clauses of their calls, and none of their lines
-# is too wide; the edits that are owed because something changed that they stand on; every proof (from nothing, unless this machine proved
+# The whole gate: whether dist/ says that it is of these sources, docs/PROVED.md has the clauses of their calls, and their lines are
+# narrow and as rt fmt lays them out; the edits that are owed because something changed that they stand on; every proof (from nothing, unless this machine proved
 # the same text before), the edits that the gate keeps, none of them bad, the tests, the program as two compilers build it; then whether
 # dist/ is what those proved sources compile to, the rows of the tests on the program that is built from it, whether all of the tools is
 # installed and packed, what jobs of the program cost, and rows on aarch64's if it can be emulated.

@@ -54,7 +54,7 @@ typedef uint32_t cmsproof_status;
 #define CMSPROOF_DONE UINT32_C(1)      /* it did what it says; of a check: accepted */
 #define CMSPROOF_REFUSED UINT32_C(2)   /* a rule refuses; of a comparison: different, or a collision */
 #define CMSPROOF_MALFORMED UINT32_C(3) /* octets are not of the form that they should have, or a list is refused */
-#define CMSPROOF_USAGE UINT32_C(4)     /* a value of a request is not as it must be, or no type to show */
+#define CMSPROOF_USAGE UINT32_C(4)     /* a value of a request or of an evidence check is not as it must be, or no type to show */
 #define CMSPROOF_FAILED UINT32_C(5)    /* a content has more than 2^40 octets */
 #define CMSPROOF_NO_ROOM UINT32_C(6)   /* the text is longer than its room; `*length` would do */
 #define CMSPROOF_NO_MEMORY UINT32_C(7) /* memory was refused */
@@ -63,15 +63,15 @@ typedef uint32_t cmsproof_status;
 /* What a call says, in numbers. 0 in any field: it does not apply. */
 typedef struct cmsproof_answer {
     uint32_t verdict;     /* one of those below */
-    uint32_t letter;      /* of the code of the rule, as 'S' of S9 */
+    uint32_t letter;      /* of the code of the rule, as 'S' of S9; of W4 'K', and the numbers are those of the token's rule */
     uint32_t number;      /* of the code of the rule, as 9 */
     uint32_t inner;       /* K5, E4: the number of the rule S1 to S6 that fails */
     uint32_t kind;        /* of a fault of form: 1 to 15 for M1 to M15, and `at` is its octet, from 0 */
     uint32_t nanoseconds; /* accepted: the fraction of the moment's second */
     int64_t seconds;      /* accepted: the moment's whole seconds from 1970-01-01 00:00:00 UTC, negative before it */
     uint64_t at;          /* of a fault of form, if `kind` is not 0 */
-    uint64_t signer;      /* the signer's number, from 1; of a file that fits, how many signers it has */
-    uint64_t token;       /* the token's number, from 1 */
+    uint64_t signer;      /* the signer's number, from 1; of a file that fits, how many; of an evidence record the chain's */
+    uint64_t token;       /* the token's number, from 1; of an evidence record the archive time-stamp's in its chain */
     uint64_t line;        /* the line of a list, from 1; of two inputs, which one, 1 or 2 */
 } cmsproof_answer;
 
@@ -162,6 +162,28 @@ cmsproof_status cmsproof_stamp_check(cmsproof_trust *trust, cmsproof_answers *an
  * NO_MEMORY; NO_LIST. If it is refused, no text is made. */
 cmsproof_status cmsproof_stamp_questions(cmsproof_trust *trust, const uint8_t *stamp, size_t stamp_length, char *text, size_t room,
                                          size_t *length, cmsproof_answer *answer);
+
+/* Whether an evidence record (RFC 4998) shows that data objects existed, and by which moment, as `cmsproof evidence check` says it.
+ * The data objects are a group, and the record must cover each: `data` has them one after the other, and `lengths` how many octets
+ * each of them has, `count` numbers whose sum is `data_length`. `ends` has words with one space between them, each the name of a
+ * digest algorithm, `=`, and the last moment at which it holds, as "sha1=20160101000000Z": SHA-1 holds only until such an end. `at`
+ * is the moment at which the last time-stamp must hold, as "20261231000000Z", in place of its own. Either may have the length 0.
+ * With `whole` the first list of hash values may have none but those of the data objects.
+ * Statuses: DONE, only if it is accepted; REFUSED, with V2, V3 (no data object) or W1 to W8, whose chain is in `signer` and whose
+ * archive time-stamp in `token`, and of W4 with the letter K, by which alone it is known, and the numbers of the token's rule;
+ * MALFORMED, with V1 and the fault; USAGE, with no verdict, and the line names the first that is not as it must be, of `end`, `at`
+ * and `lengths`; NO_ROOM; NO_MEMORY; NO_LIST. `answer` has the whole verdict also with NO_ROOM; with NO_MEMORY it has it, or says
+ * CMSPROOF_NONE, also if `room` is 0. */
+cmsproof_status cmsproof_evidence_check(cmsproof_trust *trust, cmsproof_answers *answers, const uint8_t *record,
+                                        size_t record_length, const uint8_t *data, size_t data_length, const uint64_t *lengths,
+                                        size_t count, const char *ends, size_t ends_length, const char *at, size_t at_length,
+                                        bool whole, char *text, size_t room, size_t *length, cmsproof_answer *answer);
+
+/* The questions of an evidence record, as `cmsproof evidence questions` prints them.
+ * Statuses: DONE, and `text` has the questions; REFUSED, with V2 in `answer`, or MALFORMED, with V1 and the fault; NO_ROOM;
+ * NO_MEMORY; NO_LIST. If it is refused, no text is made. */
+cmsproof_status cmsproof_evidence_questions(cmsproof_trust *trust, const uint8_t *record, size_t record_length, char *text,
+                                            size_t room, size_t *length, cmsproof_answer *answer);
 
 /* Whether the content and the signed attributes of each signer of a file belong together, as `cmsproof fit` says it. File and
  * content are handed in as for `cmsproof_check`. Statuses: DONE, with CMSPROOF_FITS and how many signers there are in `signer`;

@@ -93,7 +93,7 @@ tree() {
     documents=$1$2/share/doc/cmsproof
     install -m 644 "$top/README.md" "$top/docs/PROVED.md" "$top/dist/PROVENANCE" "$documents"
     # the guide, whose files are the examples, and what it sends its readers to
-    install -m 644 "$top/docs/GUIDE.md" "$top/docs/guide.svg" "$top/docs/TOOLS.md" "$documents"
+    install -m 644 "$top/docs/GUIDE.md" "$top/docs/guide.svg" "$top/docs/records.svg" "$top/docs/TOOLS.md" "$documents"
     install -d "$documents/examples"
     for example in $examples; do install -m 644 "$top/data/guide/$example" "$documents/examples"; done
 }

@@ -29,10 +29,10 @@ WHOLE = ("check_names", "cli_commands", "cli_files")
 VERBS = ("read", "write", "make", "ask")  # what the methods are called that read, write and make whole values, and that ask
 DEVICES = ("telling",)  # the clauses that say of a device what the document says of all
 READS = ("Certificate::read", "SigningCert::read_v1", "SigningCert::read_v2", "cmsproof_check", "cmsproof_check_token")
-READS += ("cmsproof_stamp_check",)
+READS += ("cmsproof_evidence_check", "cmsproof_stamp_check")
 # devices, verifiers for tests, parts of other types, calls that judge nothing, and those of cli_commands that cli_files makes
 LEFT_OUT = ("Sink", "Source", "FusedVerifier", "Int", "Oid", "Signers", "print")
-LEFT_OUT += ("answers_in", "ask_by", "check_by", "stamp_questions_by", "text_of", "trust_in")
+LEFT_OUT += ("answers_in", "ask_by", "check_by", "line_of", "stamp_questions_by", "text_of", "trust_in")
 TEXTS = ("Display", "Debug")  # the traits that print
 EXACT = "The exact text."
 FEW = 4  # words that are as short as a reference to them

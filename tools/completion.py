@@ -23,7 +23,7 @@ FOLDER = TOP / "packaging" / "completion"
 MADE = "made by tools/completion.py of the parsers of the tools and the help of the program"
 # what a value is, by the name that a help has for it; a name that is not here is a fault
 FILES = set("A ANSWERS B CONTENT DIR FILE LIST NEW OLD OUT QUESTIONS REQUEST RESPONSE STATE TOKEN TRUST ZIP".split())
-WORDS = set("ADDRESS HEX KIND N NAME OID PART SHA256 SUFFIX=ENDING TIME VERDICT".split())
+WORDS = set("ADDRESS ALG=TIME HEX KIND N NAME OID PART SHA256 SUFFIX=ENDING TIME VERDICT".split())
 # the tools, and the first words of one that stand for other parsers
 TOOLS = {"archive": archive_words, "extract": extract, "trust": trust, "verify": verify}
 SUBTOOLS = {"report": report, "evidence": evidence}
@@ -85,7 +85,7 @@ def choices_in(text: str) -> tuple[str, ...]:
 
 def options_in(text: str) -> Iterator[Option]:
     """The options in a help of the program, each on one line."""
-    for name, value, about in re.findall(r"^ +(?:-\w, +)?(--[a-z0-9-]+)(?: <([A-Z0-9]+)>)?  +(\S.*)$", text, re.M):
+    for name, value, about in re.findall(r"^ +(?:-\w, +)?(--[a-z0-9-]+)(?: <([A-Z0-9=]+)>)?  +(\S.*)$", text, re.M):
         yield Option(name, brief(about), (value,) if value else (), choices_in(about))
 
 

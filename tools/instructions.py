@@ -53,11 +53,12 @@ def check_of(trust, answers, *files):
     return ["check", "--trust", f"{trust}.txt", "--answers", f"{answers}.answers", *files]
 
 
-# each answers list: the list and the files of whose questions it has all
+# each answers list: the words that print the questions of which it has all
 ANSWERS = {
-    "small": ("fifty", SMALL),
-    "signers": ("few", ["many_ecdsa.p7s", "many_rsa.p7s", "twenty.p7s"]),
-    "large": ("few", ["large.p7s"]),
+    "small": ["questions", "--trust", "fifty.txt", *SMALL],
+    "signers": ["questions", "--trust", "few.txt", "many_ecdsa.p7s", "many_rsa.p7s", "twenty.p7s"],
+    "large": ["questions", "--trust", "few.txt", "large.p7s"],
+    "record": ["evidence", "questions", "--trust", "tsa.txt", "record.ers"],
 }
 # each job: the program, and its words; one that begins with `<` is a file that comes through a pipe
 JOBS = {
@@ -83,6 +84,8 @@ JOBS = {
     "fit-content": ("cmsproof", ["fit", "--content", "content", "detached.p7s"]),
     # (refused by K9, once it has been read)
     "stamp-content": ("cmsproof", ["stamp", "check", "--trust", "few.txt", "--answers", "large.answers", "token.tok", "content"]),
+    "evidence-check": ("cmsproof", ["evidence", *check_of("tsa", "record", "record.ers", "recorded")]),
+    "evidence-questions": ("cmsproof", ["evidence", "questions", "--trust", "tsa.txt", "record.ers"]),
     "check-large": ("cmsproof", check_of("few", "large", "large.p7s")),
     "check-pipe": ("cmsproof", check_of("few", "large", "/dev/stdin", "<large.p7s")),
     "library": ("library_job", ["fifty.txt", "small.answers", SMALL[2], "token.tok", "unstamped.p7s"]),
@@ -231,8 +234,8 @@ def measured(names, source=linking.of_here):
         folder.mkdir()
         programs = Programs(Path(place), {JOBS[name][0] for name in names} | {"cmsproof"}, source)
         measured_files.make(folder)
-        for name, (trust, files) in ANSWERS.items():
-            asked = ran([Path(place) / "cmsproof.usual"], ["questions", "--trust", f"{trust}.txt", *files], folder)[1]
+        for name, words in ANSWERS.items():
+            asked = ran([Path(place) / "cmsproof.usual"], words, folder)[1]
             (folder / f"{name}.answers").write_bytes(asked.replace(b"cmsproof questions 1", b"cmsproof answers 1", 1))
         with ThreadPoolExecutor(slots) as pool:
             ordered = sorted(names, key=lambda it: (it not in HEAVY, it))

@@ -1,5 +1,6 @@
 #!/usr/bin/env python3
-"""lines.py [--check] [CRATE ..]: breaks lines of the crates that are wider than 120 columns; --check only names them.
+"""lines.py [--check] [CRATE ..]: breaks lines of the crates that are wider than 120 columns; --check only names them,
+and the files that `rt fmt` lays out otherwise, for which `rt ci` would refuse the crate.
 
 A line of an .antt file is broken where it has a space, outermost first, before an operator or an argument and never in
 a text. A comment of whole lines goes on in the next line, a long list of a `use` line in a second `use` line of that
@@ -10,10 +11,12 @@ and no `///` where clap reads it.
 
 The status is 1 if a line stays too wide; it is named. So are files that were left.
 """
+import concurrent.futures
 import re
 import shutil
 import subprocess
 import sys
+import tempfile
 from pathlib import Path
 
 TOP = Path(__file__).resolve().parent.parent
@@ -221,6 +224,29 @@ def narrow(top, crates):
     return bool(changed) and not left, left
 
 
+def laid_out_otherwise(top, crates):
+    """The files of the crates, or of all, that `rt fmt` lays out otherwise, by what it makes of a copy."""
+    if not shutil.which("rt"):
+        return []
+    with tempfile.TemporaryDirectory(prefix="lines-") as folder:
+        copy = Path(folder)
+        for path in files_of(top, crates) + [top / name for name in ("crates.txt", "HANDLES") if (top / name).exists()]:
+            place = copy / path.relative_to(top)
+            place.parent.mkdir(parents=True, exist_ok=True)
+            shutil.copy(path, place)
+        folders = sorted((copy / "crates").iterdir())
+        with concurrent.futures.ThreadPoolExecutor() as pool:
+            ran = pool.map(lambda it: subprocess.run(["rt", "fmt"], cwd=it, capture_output=True, text=True), folders)
+        refused = [
+            f"crates/{it.name}: rt fmt refused it: {(done.stdout + done.stderr).strip()}"
+            for it, done in zip(folders, ran)
+            if done.returncode
+        ]
+        paths = [path.relative_to(top) for path in files_of(top, crates)]
+        other = [path for path in paths if (top / path).read_bytes() != (copy / path).read_bytes()]
+    return refused + [f"{path}: rt fmt lays it out otherwise, so that rt ci would refuse it" for path in other]
+
+
 def main(words, top=TOP):
     crates = [word for word in words if word != "--check"]
     unknown = [crate for crate in crates if not (top / "crates" / crate).is_dir()]
@@ -238,7 +264,10 @@ def main(words, top=TOP):
         print(f"lines: {line}")
     if left and "--check" in words:
         print("lines: these are wider than 120 columns: tools/lines.py breaks what it can, the others by hand")
-    return 1 if left else 0
+    other = laid_out_otherwise(top, crates) if "--check" in words else []
+    for line in other:
+        print(f"lines: {line}")
+    return 1 if left or other else 0
 
 
 if __name__ == "__main__":

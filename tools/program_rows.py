@@ -204,6 +204,20 @@ def stamp(row, place):
     return place.run([*words, "data"]).said()
 
 
+def evidence(row, place):
+    """What `evidence check` says of a record over its data."""
+    row.takes("trust record data silent words")
+    put_trust(row, place)
+    place.put("record.er", row.octets("record"))
+    put_answers(row, place, "evidence+questions+--trust+trusted.txt+record.er")
+    words = words_of("evidence+check+--trust+trusted.txt+--answers+answers.txt")
+    words += [*words_of(row.values.get("words", "")), "record.er"]
+    for number, part in enumerate(row.text("data").split(";")):
+        place.put(f"data-{number}", octets_of(part, row.blobs))
+        words.append(f"data-{number}")
+    return place.run(words).said()
+
+
 def cuts(row, place):
     """What `check` says of a file that is cut, at each of some places, if it is the same."""
     row.takes("trust file from to words")
@@ -336,7 +350,7 @@ def untold(why):
 
 KINDS = {
     "commands": {
-        **{"run": run, "check": check, "ask": ask, "stamp": stamp, "cuts": cuts, "lengths": lengths},
+        **{"run": run, "check": check, "ask": ask, "stamp": stamp, "evidence": evidence, "cuts": cuts, "lengths": lengths},
         "task": untold("the task that words ask for is not printed"),
     },
     "files": {

@@ -12,26 +12,28 @@ _cmsproof_options() {
     'cmsproof check') echo '--trust --answers --content --sha1 --buffer --files-from --null --help' ;;
     'cmsproof questions') echo '--trust --buffer --files-from --null --help' ;;
     'cmsproof stamp') echo '--trust --answers --sha1 --help --files-from --null' ;;
+    'cmsproof evidence') echo '--trust --answers --end --at --whole --help --files-from --null' ;;
     'cmsproof attach') echo '--signer --token --help' ;;
     'cmsproof compare') echo '--first --second --help' ;;
     'cmsproof migrate') echo '--help' ;;
     'cmsproof help') echo '' ;;
-    'cmsproof-archive') echo '--help --version --trust --issuer --tsa-issuer --intermediate --crl --crl-dir --ocsp --trusted-list --scheme-operator --write-trust --content --pair --no-pairs --pairs-from --sha1 --partial --stamps --jobs --json --explain --files-from --null --state --since --only --recheck --known --dask --progress --log' ;;
+    'cmsproof-archive') echo '--help --version --trust --issuer --tsa-issuer --intermediate --crl --crl-dir --ocsp --trusted-list --scheme-operator --write-trust --content --pair --no-pairs --pairs-from --sha1 --partial --stamps --records --under --end --at --whole --jobs --json --explain --files-from --null --state --since --only --recheck --known --dask --progress --log' ;;
     'cmsproof-extract') echo '--help --version --to --partial --mend' ;;
     'cmsproof-trust') echo '--help --version --signer --tsa --issuer --tsa-issuer --intermediate --crl --crl-dir --ocsp --trusted-list --scheme-operator --from-files --files-from --null --sha1 --explain --diff --merge --all --from --until' ;;
     'cmsproof-verify') echo '--help --version' ;;
     'cmsproof-archive report') echo '--help --version --html --csv --json --known --only' ;;
-    'cmsproof-archive evidence') echo '--help --version --trust --content --sha1 --part --without-content --to --verify --list-of-the-bundle' ;;
+    'cmsproof-archive evidence') echo '--help --version --trust --content --sha1 --record --end --at --whole --part --without-content --to --verify --list-of-the-bundle' ;;
     esac
 }
 
 # _cmsproof_firsts PLACE: what the first other word of a command can be.
 _cmsproof_firsts() {
     case $1 in
-    'cmsproof') echo 'request show cert fit match check questions stamp attach compare migrate help' ;;
+    'cmsproof') echo 'request show cert fit match check questions stamp evidence attach compare migrate help' ;;
     'cmsproof show') echo 'evidence request response signed tst' ;;
     'cmsproof stamp') echo 'check questions' ;;
-    'cmsproof help') echo 'request show cert fit match check questions stamp attach compare migrate help' ;;
+    'cmsproof evidence') echo 'check questions' ;;
+    'cmsproof help') echo 'request show cert fit match check questions stamp evidence attach compare migrate help' ;;
     'cmsproof-archive') echo 'report evidence' ;;
     esac
 }
@@ -58,6 +60,11 @@ _cmsproof_values() {
     'cmsproof stamp --trust') echo files ;;
     'cmsproof stamp --answers') echo files ;;
     'cmsproof stamp --files-from') echo files ;;
+    'cmsproof evidence --trust') echo files ;;
+    'cmsproof evidence --answers') echo files ;;
+    'cmsproof evidence --end') echo '' ;;
+    'cmsproof evidence --at') echo '' ;;
+    'cmsproof evidence --files-from') echo files ;;
     'cmsproof attach --signer') echo '' ;;
     'cmsproof attach --token') echo files ;;
     'cmsproof compare --first') echo '' ;;
@@ -75,11 +82,15 @@ _cmsproof_values() {
     'cmsproof-archive --content') echo files ;;
     'cmsproof-archive --pair') echo '' ;;
     'cmsproof-archive --pairs-from') echo files ;;
+    'cmsproof-archive --records') echo files ;;
+    'cmsproof-archive --under') echo files ;;
+    'cmsproof-archive --end') echo '' ;;
+    'cmsproof-archive --at') echo '' ;;
     'cmsproof-archive --jobs') echo '' ;;
     'cmsproof-archive --files-from') echo files ;;
     'cmsproof-archive --state') echo files ;;
     'cmsproof-archive --since') echo '' ;;
-    'cmsproof-archive --only') echo 'accepted stamped refused malformed failed' ;;
+    'cmsproof-archive --only') echo 'accepted stamped evidenced refused malformed failed' ;;
     'cmsproof-archive --known') echo files ;;
     'cmsproof-archive --dask') echo '' ;;
     'cmsproof-archive --log') echo files ;;
@@ -105,9 +116,12 @@ _cmsproof_values() {
     'cmsproof-archive report --csv') echo files ;;
     'cmsproof-archive report --json') echo files ;;
     'cmsproof-archive report --known') echo files ;;
-    'cmsproof-archive report --only') echo 'accepted stamped refused malformed failed' ;;
+    'cmsproof-archive report --only') echo 'accepted stamped evidenced refused malformed failed' ;;
     'cmsproof-archive evidence --trust') echo files ;;
     'cmsproof-archive evidence --content') echo files ;;
+    'cmsproof-archive evidence --record') echo files ;;
+    'cmsproof-archive evidence --end') echo '' ;;
+    'cmsproof-archive evidence --at') echo '' ;;
     'cmsproof-archive evidence --part') echo '' ;;
     'cmsproof-archive evidence --to') echo files ;;
     'cmsproof-archive evidence --verify') echo files ;;
@@ -133,6 +147,7 @@ _cmsproof() {
     'cmsproof check') place=$tool\ ${COMP_WORDS[1]} ;;
     'cmsproof questions') place=$tool\ ${COMP_WORDS[1]} ;;
     'cmsproof stamp') place=$tool\ ${COMP_WORDS[1]} ;;
+    'cmsproof evidence') place=$tool\ ${COMP_WORDS[1]} ;;
     'cmsproof attach') place=$tool\ ${COMP_WORDS[1]} ;;
     'cmsproof compare') place=$tool\ ${COMP_WORDS[1]} ;;
     'cmsproof migrate') place=$tool\ ${COMP_WORDS[1]} ;;

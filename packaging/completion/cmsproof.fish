@@ -6,7 +6,7 @@ function __cmsproof_at
     set -l place -
     set -l words (commandline -opc)
     set -e words[1]
-    if set -q words[1]; and contains -- $words[1] request show cert fit match check questions stamp attach compare migrate help
+    if set -q words[1]; and contains -- $words[1] request show cert fit match check questions stamp evidence attach compare migrate help
         set place $words[1]
         set -e words[1]
     end
@@ -26,6 +26,7 @@ complete -c cmsproof -n '__cmsproof_at 1 -' -a match -d 'Says whether the respon
 complete -c cmsproof -n '__cmsproof_at 1 -' -a check -d 'Says by when each signature of the CMS SignedData in FILE existed, if the file is accepted'
 complete -c cmsproof -n '__cmsproof_at 1 -' -a questions -d 'Prints what a verifier must be asked of the signatures in the CMS SignedData in FILE'
 complete -c cmsproof -n '__cmsproof_at 1 -' -a stamp -d 'Says by when a file existed, by a time-stamp token or response that stands beside it'
+complete -c cmsproof -n '__cmsproof_at 1 -' -a evidence -d 'Says by when files existed, by an evidence record that stands beside them'
 complete -c cmsproof -n '__cmsproof_at 1 -' -a attach -d 'Attaches the time-stamp token in TOKEN to a signer of the CMS SignedData in FILE'
 complete -c cmsproof -n '__cmsproof_at 1 -' -a compare -d 'Says whether a signature in the CMS SignedData in A and one in B sign the same'
 complete -c cmsproof -n '__cmsproof_at 1 -' -a migrate -d 'Reads the trust list in LIST, of version 1 or 2, and writes it in version 2 into OUT'
@@ -76,6 +77,17 @@ complete -c cmsproof -n '__cmsproof_at stamp' -l sha1 -d 'Allows SHA-1 as a dige
 complete -c cmsproof -n '__cmsproof_at stamp' -l help -d 'Print help'
 complete -c cmsproof -n '__cmsproof_at stamp' -l files-from -r -F -d 'Reads the names of the stamps from LIST, a line for each, in place of STAMP'
 complete -c cmsproof -n '__cmsproof_at stamp' -l null -d 'Each name in LIST ends in an octet 0'
+complete -c cmsproof -n '__cmsproof_at 1 evidence' -f
+complete -c cmsproof -n '__cmsproof_at 1 evidence' -a check -d 'Says by when the files DATA existed, if the evidence record in RECORD is accepted for each of them'
+complete -c cmsproof -n '__cmsproof_at 1 evidence' -a questions -d 'Prints what a verifier must be asked of the time-stamps in the evidence record in RECORD'
+complete -c cmsproof -n '__cmsproof_at evidence' -l trust -r -F -d 'The trust list'
+complete -c cmsproof -n '__cmsproof_at evidence' -l answers -r -F -d 'The answers list'
+complete -c cmsproof -n '__cmsproof_at evidence' -l end -x -d 'The last moment at which the digest algorithm ALG holds'
+complete -c cmsproof -n '__cmsproof_at evidence' -l at -x -d 'The moment at which the last time-stamp must still hold'
+complete -c cmsproof -n '__cmsproof_at evidence' -l whole -d 'Refuses a record whose first list has other hash values than those of DATA'
+complete -c cmsproof -n '__cmsproof_at evidence' -l help -d 'Print help'
+complete -c cmsproof -n '__cmsproof_at evidence' -l files-from -r -F -d 'Reads the names of the records from LIST, a line for each, in place of RECORD'
+complete -c cmsproof -n '__cmsproof_at evidence' -l null -d 'Each name in LIST ends in an octet 0'
 complete -c cmsproof -n '__cmsproof_at attach' -l signer -x -d 'The number of the signer'
 complete -c cmsproof -n '__cmsproof_at attach' -l token -r -F -d 'The token to attach'
 complete -c cmsproof -n '__cmsproof_at attach' -l help -d 'Print help'
@@ -92,6 +104,7 @@ complete -c cmsproof -n '__cmsproof_at 1 help' -a match -d 'Says whether the res
 complete -c cmsproof -n '__cmsproof_at 1 help' -a check -d 'Says by when each signature of the CMS SignedData in FILE existed, if the file is accepted'
 complete -c cmsproof -n '__cmsproof_at 1 help' -a questions -d 'Prints what a verifier must be asked of the signatures in the CMS SignedData in FILE'
 complete -c cmsproof -n '__cmsproof_at 1 help' -a stamp -d 'Says by when a file existed, by a time-stamp token or response that stands beside it'
+complete -c cmsproof -n '__cmsproof_at 1 help' -a evidence -d 'Says by when files existed, by an evidence record that stands beside them'
 complete -c cmsproof -n '__cmsproof_at 1 help' -a attach -d 'Attaches the time-stamp token in TOKEN to a signer of the CMS SignedData in FILE'
 complete -c cmsproof -n '__cmsproof_at 1 help' -a compare -d 'Says whether a signature in the CMS SignedData in A and one in B sign the same'
 complete -c cmsproof -n '__cmsproof_at 1 help' -a migrate -d 'Reads the trust list in LIST, of version 1 or 2, and writes it in version 2 into OUT'

@@ -7,7 +7,8 @@ import shutil
 from pathlib import Path
 
 from oracle.identifiers import DIGEST_OIDS
-from samples.building import digest_alg, signed_data, signer
+from samples.building import CT, digest_alg, sha, signed_data, signer
+from samples.recorded import Growing
 
 TOP = Path(__file__).resolve().parent.parent.parent
 LARGE = 4 << 20
@@ -106,6 +107,12 @@ def large(algorithm, attached=True):
     return signed_data([info], content if attached else None, algorithms=digest_alg(algorithm))
 
 
+def in_tree(covered):
+    """The lists of a tree of sixteen documents that lead from one to the root (RFC 4998 4.2)."""
+    beside = [sha(octets_of(f"document {number}", 3000)) for number in range(4)]
+    return [[*covered, beside[0]], *([one] for one in beside[1:])]
+
+
 def make(folder):
     """Writes all into a folder, but for answers lists, which follow from questions."""
     parts = Parts()
@@ -123,6 +130,9 @@ def make(folder):
     (folder / "content").write_bytes(octets_of("large", LARGE))
     (folder / "token.tok").write_bytes(parts.files["token"])
     (folder / "unstamped.p7s").write_bytes(parts.files["unstamped"])
+    (folder / "recorded").write_bytes(octets_of("recorded", 3000))
+    (folder / "record.ers").write_bytes(Growing(octets_of("recorded", 3000)).begin("20240115100000Z", make=in_tree).whole())
+    (folder / "tsa.txt").write_text(f"cmsproof trust 1\ntsa {CT.hex()}\n", encoding="ascii")
     shutil.copy(TOP / "bench" / "parts.txt", folder)
     for name, of in REAL.items():
         shutil.copy(TOP / "crates" / "real_files" / "data" / of, folder / name)

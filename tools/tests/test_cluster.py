@@ -9,11 +9,11 @@ import sys
 import time
 import unittest
 
-from making import INSTALLED, MODULES, REAL, folder_of, need_tools, run_tool
+from making import INSTALLED, MODULES, REAL, TOP, folder_of, need_tools, run_tool
 
 need_tools()
 
-from cmsproof_tools import cluster, outcomes
+from cmsproof_tools import cluster, outcomes, rows
 from cmsproof_tools.state import State
 
 HAS_DASK = subprocess.run([sys.executable, "-c", "import distributed"], capture_output=True, check=False).returncode == 0
@@ -173,6 +173,26 @@ class Cluster(unittest.TestCase):
                 found.append([row._replace(judged=0) for row, _ in state.rows()])
         self.assertEqual(found[0], found[1])
         self.assertEqual(self.run_dask("--state", "by_dask", *names)[1], b"")
+
+    def test_evidence_records(self):
+        """The lines and the rows are those of this machine, wherever the workers are; a second run has nothing to do."""
+        self.worker(), self.worker()
+        folder, data = self.folder / "archive", TOP / "data" / "records"
+        for number, path in enumerate(sorted((data / "records").iterdir())):
+            for name, source in (("files", data / "files" / "document_0"), ("records/files", path)):
+                (folder / name).mkdir(parents=True, exist_ok=True)
+                shutil.copyfile(source, folder / name / (f"{number}" + (".ers" if path == source else "")))
+        (folder / "files" / "none").write_bytes(b"")
+        shutil.copyfile(data / "records" / "encrypted.ers", folder / "records" / "files" / "gone.ers")
+        time.sleep(rows.STEP / 1e9 + 0.1)
+        words = ["--records", "records", "--end", "sha1=20160101000000Z", "files"]
+        command = [INSTALLED / "cmsproof-archive", "--trust", data / "trust.txt"]
+        by_workers = [PYTHON, *command, "--dask", self.address, "--state", "state", *words]
+        here = subprocess.run([PYTHON, *command, *words], cwd=folder, capture_output=True, check=False)
+        there = subprocess.run(by_workers, cwd=folder, capture_output=True, check=False)
+        self.assertEqual((there.returncode, there.stdout), (here.returncode, here.stdout), there.stderr)
+        self.assertIn(b"files/none: refused F16 NoRecord\nrecords/files/gone.ers: refused F17 RecordAlone\n", there.stdout)
+        self.assertEqual(subprocess.run(by_workers, cwd=folder, capture_output=True, check=False).stdout, b"")
 
     def test_workers_of_another_version_alone_judge_nothing(self):
         self.worker(self.other_version())

@@ -90,10 +90,11 @@ class Offered:
     def test_values(self):
         text = " ".join(help_of(PROGRAM, "request", "--help").split())
         digests = set(re.search(r"--alg\W.*?\[possible values: (.*?)\]", text)[1].split(", "))
-        verdicts = {"accepted", "stamped", "refused", "malformed", "failed"}
+        verdicts = {"accepted", "stamped", "evidenced", "refused", "malformed", "failed"}
         table = [
             ("cmsproof show ", {"evidence", "request", "response", "signed", "tst"}),
             ("cmsproof stamp ", {"check", "questions"}),
+            ("cmsproof evidence ", {"check", "questions"}),
             ("cmsproof request --alg ", digests),
             ("cmsproof-archive --only ", verdicts),
             ("cmsproof-archive report --only ", verdicts),
@@ -108,6 +109,8 @@ class Offered:
             ("cmsproof check l", there),
             ("cmsproof check --trust l", there),
             ("cmsproof check --buffer ", nothing),
+            ("cmsproof evidence check --answers l", there),
+            ("cmsproof evidence check --end ", nothing),
             ("cmsproof show signed l", there),
             ("cmsproof-archive l", there),
             ("cmsproof-archive --files-from l", there),

@@ -41,6 +41,15 @@ OTHERS = {
     "A3": "TokenMalformed",
     "A4": "ImprintDiffers",
     "A5": "TooLong",
+    "V2": "Encrypted",
+    "V3": "NoData",
+    "W1": "Algorithm",
+    "W2": "HashLength",
+    "W3": "NotCovered",
+    "W5": "Order",
+    "W6": "Weak",
+    "W7": "Lapsed",
+    "W8": "Others",
 }
 
 
@@ -58,7 +67,7 @@ class Table(unittest.TestCase):
 
     def test_each_code_that_is_printed(self):
         known, rows = known_cures(), " ".join(row.codes for row in ROWS)
-        self.assertEqual(set(known) - set(names()), {"E4", "K5", "K6"})
+        self.assertEqual(set(known) - set(names()), {"E4", "K5", "K6", "V1", "W4"})
         for code, name in names().items():
             self.assertRegex(rows, rf"\b{code}\b(?: FAULT, {code})?(?:, [A-Z][0-9])* {name}\b")
 

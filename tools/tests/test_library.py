@@ -15,6 +15,7 @@ need_tools()
 
 NEEDED = ("cc", "ar", "ld", "objcopy", "nm", "readelf")
 SOURCES = TOP / "tools" / "tests" / "library"
+RECORDS = TOP / "data" / "records"
 # the programs that the document names
 CHECK, STAMP = TOP / "docs" / "check.c", TOP / "docs" / "stamp.c"
 SANITIZED = ["-fsanitize=address,undefined", "-fno-sanitize-recover=all"]
@@ -133,6 +134,25 @@ class Library(unittest.TestCase):
         messages = [TOP / "crates" / "real_files" / "data" / f"rsa_attached.1.{end}" for end in ("tok", "tsq", "tsr")]
         said = run(program, *self.known(), *messages, *sorted(REAL.glob("*.p7s")))
         self.assertGreater(int(said.split()[1]), 2000)
+
+    def test_evidence_records_and_each_allocation_refused(self):
+        program = self.program(SOURCES / "evidence.c", "-Wl,--wrap=malloc,--wrap=realloc,--wrap=free")
+        trust, until, late = RECORDS / "trust.txt", "sha1=20160101000000Z sha256=20350101000000Z", "20261231000000Z"
+        two, trees, tokens = "two_documents_in_the_first_list", *(f"bouncy_castle_renewed_by_a_{by}" for by in ("hash_tree", "time_stamp"))
+        for name, numbers, ends, at, whole, said in (
+            (trees, "0", until, late, "0", ("accepted 20150601120000Z", "1 -0 0 0")),
+            (trees, "0", "sha512=20250101000000Z", late, "0", ("refused chain 2 stamp 1 W6 Weak", "2 W6 2 1")),
+            (tokens, "0", "sha256=20200101000000Z", late, "0", ("refused chain 1 stamp 2 W6 Weak", "2 W6 1 2")),
+            (two, "01", "", "", "1", ("accepted 20160201120000Z", "1 -0 0 0")),
+            (two, "1", "", "", "1", ("refused chain 1 stamp 1 W8 Others", "2 W8 1 1")),
+            (two, "", "", "", "0", ("refused V3 NoData", "2 V3 0 0")),
+            ("changed_signature", "0", "", "", "0", ("refused chain 1 stamp 1 W4 K14 SignatureFails", "2 K14 1 1")),
+            ("encrypted", "3", "", "", "0", ("refused V2 Encrypted", "2 V2 0 0")),
+            ("octet_behind_the_record", "3", "", "", "0", ("malformed M7 Trailing at 1100", "3 V1 0 0")),
+        ):
+            data = [RECORDS / "files" / f"document_{number}" for number in numbers]
+            words = [program, trust, RECORDS / "answers.txt", ends, at, whole, RECORDS / "records" / f"{name}.ers", *data]
+            self.assertEqual(tuple(run(*words, text=True).splitlines()), said)
 
     def test_threads_with_lists_of_their_own(self):
         program = self.program(SOURCES / "threads.c", "-pthread")

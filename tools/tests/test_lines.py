@@ -1,7 +1,9 @@
 """Tests of tools/lines.py on lines that are made up: where they are broken, that a second run leaves them, what is not
-broken, and that a file whose tokens might change, and a line that stays too wide, are told."""
+broken, and that a file whose tokens might change, a line that stays too wide, and one that `rt fmt` lays out otherwise,
+are told."""
 import contextlib
 import io
+import shutil
 import sys
 import tempfile
 import unittest
@@ -95,6 +97,21 @@ class Lines(unittest.TestCase):
                 status, said, kept = self.run_on(begun, words)
                 self.assertEqual((status, kept), (1, begun))
                 self.assertIn(says, said)
+
+    @unittest.skipUnless(shutil.which("rt"), "rt isn't there")
+    def test_layout(self):
+        for text, wanted in (("pub fn one() -> u8 {\n    1\n}\n", 0), ("pub fn one() -> u8 { 1 }\n", 1)):
+            with self.subTest(text), tempfile.TemporaryDirectory() as folder:
+                top = Path(folder)
+                path = top / "crates" / "cups" / "src" / "lib.rt"
+                path.parent.mkdir(parents=True)
+                path.write_text(text)
+                (top / "crates.txt").write_text("cups:\n")
+                said = io.StringIO()
+                with contextlib.redirect_stdout(said):
+                    status = lines.main(["--check"], top)
+                self.assertEqual((status, "lib.rt: rt fmt lays it out otherwise" in said.getvalue()), (wanted, wanted == 1))
+                self.assertEqual(path.read_text(), text)
 
 
 if __name__ == "__main__":

@@ -125,7 +125,8 @@ class Packages(unittest.TestCase):
         wanted = {"bin/cmsproof", "bin/cmsproof-archive", "INSTALL", "share/doc/cmsproof/PROVENANCE"}
         wanted |= {f"share/doc/cmsproof/examples/{path.name}" for path in (self.trees[0] / "data" / "guide").iterdir()}
         wanted |= {f"lib/cmsproof/{name}" for name in modules_there()}
-        wanted |= {f"share/doc/cmsproof/{name}" for name in ("GUIDE.md", "guide.svg", "TOOLS.md", "REFUSALS.md", "PROVED.md")}
+        documents = ("GUIDE.md", "guide.svg", "records.svg", "TOOLS.md", "REFUSALS.md", "PROVED.md")
+        wanted |= {f"share/doc/cmsproof/{name}" for name in documents}
         wanted |= {"include/cmsproof.h", *(f"lib/{name}" for name in DEVELOPMENT)}
         self.assertEqual(wanted - {member.name.partition("/")[2] for member in members}, set())
         subprocess.run(["sha256sum", "--check", "--quiet", "SHA256SUMS"], cwd=folder, check=True)

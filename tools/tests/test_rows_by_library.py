@@ -10,6 +10,7 @@ need_tools()
 import cmsproof
 from cmsproof import commands
 from cmsproof.calls import asked_of, written
+from cmsproof.evidence import words_of
 from cmsproof.lists import Held
 from cmsproof.octets import of_bytes
 from cmsproof import library as lib
@@ -20,18 +21,21 @@ from program_rows import Untold  # noqa: E402
 
 
 ALGORITHMS = ("sha1", "sha224", "sha256", "sha384", "sha512", "sha512-224", "sha512-256")
+REPEATED = ("--end",)
 
 
 class Given:
-    """The words of a command: its options, those of them that stand alone, and the files."""
+    """The words of a command: its options, those that may stand more than once, those that stand alone, and the files."""
 
     def __init__(self, place, words, options, flags=()):
-        self.place, self.found, self.flags, self.files = place, {}, set(), []
+        self.place, self.found, self.many, self.flags, self.files = place, {}, {}, set(), []
         rest = list(words)
         while rest:
             word = rest.pop(0)
             if word in flags and word not in self.flags:
                 self.flags.add(word)
+            elif word in REPEATED and word in options and rest:
+                self.many.setdefault(word, []).append(rest.pop(0))
             elif word in options and word not in self.found and rest:
                 self.found[word] = rest.pop(0)
             elif word.startswith("-"):
@@ -133,6 +137,29 @@ def stamp(given):
     return status, answer, text
 
 
+def evidence(given):
+    """What `evidence check` and `evidence questions` say. The command judges words before files, and reads no data for a record that has
+    none to be judged over."""
+    kind, *files = given.files
+    trust = cmsproof.TrustList(given.option("--trust"))
+    if (kind, len(files)) == ("questions", 1) and not given.flags and "--answers" not in given.found:
+        with trust.held.taken() as trusted:
+            said = written(lib.library().cmsproof_evidence_questions, trusted, *of_bytes(given.octets(files[0])))
+        if said[0] != lib.DONE:
+            raise Untold("the library has no line of a file without questions")
+        return said
+    if kind != "check" or len(files) < 2:
+        raise Untold("no call of the library has such words")
+    ends, at = given.many.get("--end", []), given.found.get("--at")
+    if at == "" or any(not word or " " in word for word in ends):
+        raise Untold("an empty value is none, and a space ends a word")
+    answers, octets = Held("answers", given.option("--answers")), of_bytes(given.octets(files[0]))
+    objects = [of_bytes(given.octets(name)) for name in files[1:]]
+    words = words_of(objects, " ".join(ends).encode(), (at or "").encode(), "--whole" in given.flags)
+    with trust.held.taken() as trusted, answers.taken() as vouched:
+        return written(lib.library().cmsproof_evidence_check, trusted, vouched, *octets, *words)
+
+
 def number_in(given, name):
     """The number that an option has, or 1."""
     text = given.found.get(name, "1")
@@ -221,6 +248,7 @@ CALLS = {
     "check": (check, ("--trust", "--answers", "--content", "--buffer"), ("--sha1",), (1,)),
     "questions": (questions, ("--trust",), (), (1,)),
     "stamp": (stamp, ("--trust", "--answers"), ("--sha1",), (2, 3)),
+    "evidence": (evidence, ("--trust", "--answers", "--end", "--at"), ("--whole",), range(2, 99)),
     "fit": (fit, ("--content",), ("--sha1",), (1,)),
     "compare": (compare, ("--first", "--second"), (), (2,)),
     "match": (match, (), (), (2, 3)),

@@ -13,9 +13,10 @@ import sys
 from pathlib import Path
 
 sys.path.insert(0, str(Path(__file__).resolve().parent.parent))
-from oracle import expected  # noqa: E402
+from oracle import evidence, expected  # noqa: E402
 from trying.hostile_inputs import CHECK, DETACHED, FILE, REQUEST, RESPONSE, STAMP_CHECK, STAMP_QUESTIONS  # noqa: E402
 from trying.hostile_inputs import TERMS, TOKEN, TRUST, UNSTAMPED, migrated, signature_request, write  # noqa: E402
+from trying.record_inputs import BEGUN, EVIDENCE_CHECK, EVIDENCE_QUESTIONS, OF_OLD, SAID  # noqa: E402
 
 OUT = "/dev/stdout"
 CASES = [
@@ -24,6 +25,8 @@ CASES = [
     (["questions", "--trust", "trust", "file"], expected.questions(FILE, TERMS)[0]),
     (STAMP_CHECK + ["response", "content"], expected.stamp_check(RESPONSE, lambda: b"abc", TERMS)[0]),
     (STAMP_QUESTIONS + ["token"], expected.stamp_questions(TOKEN, TERMS)[0]),
+    (EVIDENCE_CHECK + SAID + ["of-old", "content"], f"accepted {BEGUN}\n"),
+    (EVIDENCE_QUESTIONS + ["of-old"], evidence.questions(OF_OLD, TERMS)[0]),
     (["fit", "file"], expected.fits(FILE)[0]),
     (["match", "request", "response", OUT], expected.matched(REQUEST, RESPONSE)[2] + b"answers\n"),
     (["attach", "--signer", "1", "--token", "token", "unstamped", OUT], expected.attached(UNSTAMPED, 1, TOKEN)[2]),

@@ -8,10 +8,11 @@ those of the whole run, or say what failed, and a run that stops has a beginning
 
 With --test PROGRAM is that of a crate's tests, which `rt ci` builds as out/CRATE_tests, and the test of this name must pass with each
 growth refused, as `--test tests::memory::the_next_call_gives_all` of failure_tests does.
-A library that stands before the C library's calls does it; it is compiled here (it needs `cc`). A run that met the fault and ends
-with the status 0 must have printed and written all that the command gives; another one must say on the standard error what failed,
-`failed memory` for memory and nothing but that, with status 4, and have printed a beginning at most, and written a beginning at
-most. After a short move all is as ever. The last run, which met no fault, gives all. Prints a line for each command and fault.
+A library that stands before the C library's calls does it; it is compiled here (it needs `cc`). A run that met the fault and ends with
+the status 0 must have printed and written all that the command gives; another one must say on the standard error what failed, `failed
+memory` for memory, or X4 if it is `evidence check`, and nothing but that, with status 4, and have printed a beginning at most, and
+written a beginning at most. After a short move all is as ever. The last run, which met no fault, gives all. Prints a line for each
+command and fault.
 """
 from __future__ import annotations
 
@@ -31,6 +32,7 @@ from trying import hostile_devices  # noqa: E402
 from trying.hostile_inputs import CHECK, QUESTIONS, write  # noqa: E402
 from trying.hostile_runs import octets_in  # noqa: E402
 from trying.hostile_sizes import OTHER, stamped_with  # noqa: E402
+from trying.record_inputs import EVIDENCE_CHECK, EVIDENCE_QUESTIONS  # noqa: E402
 
 LIBRARY = r"""
 #define _GNU_SOURCE
@@ -98,7 +100,13 @@ MORE = [
     ["fit", "missing"],
     ["fit", "--frob"],
     ["check", "--help"],
+    EVIDENCE_CHECK + ["--whole", "of-group", "content", "other"],
+    EVIDENCE_CHECK + ["tree", "missing"],
+    EVIDENCE_CHECK + ["tree", "long"],
+    EVIDENCE_CHECK + ["--end", "x", "tree", "content"],
 ]
+# the second one is that of `evidence check` while it judges
+NO_MEMORY = b"failed memory\n", b"failed X4 OutOfMemory\n"
 MIB = 1 << 20
 # files over 1 MiB: how long an attribute is that nobody reads, and where the file is cut. A pass has room for 1 MiB, the one after it
 # for as many octets as the file has, the next one for 8 MiB, the last one for as many as the words allow: `long` takes two passes,
@@ -120,6 +128,7 @@ SEVERAL = [
     (QUESTIONS, ["file", "missing", "stamp", "file"]),
     (CHECK, ["file", "cut", "long", "detached"]),
     (QUESTIONS, ["cut", "file", "long"]),
+    (EVIDENCE_QUESTIONS, ["tree", "missing", "encrypted", "of-old", "file"]),
 ]
 
 
@@ -161,8 +170,9 @@ class Failing:
         return met, statuses, wrong
 
 
-def fault_of(fault, whole, answer):
-    """What is wrong with an answer, each being status, standard output, standard error and output file; or None."""
+def fault_of(fault, whole, answer, memory=NO_MEMORY[:1]):
+    """What is wrong with an answer, each being status, standard output, standard error and output file, where `memory` is what may be told
+    of a want of it; or None."""
     status, out, err, file = answer
     if answer == whole:
         return None
@@ -170,7 +180,7 @@ def fault_of(fault, whole, answer):
         return "a short move changes the answer"
     if status != 4 and (status, out, file) != (whole[0], whole[1], whole[3]):
         return "another answer in place of a failure"
-    if status == 4 and fault == "memory" and err not in (b"failed memory\n", b""):
+    if status == 4 and fault == "memory" and err not in (*memory, b""):
         return "want of memory is told as something else"
     if not whole[1].startswith(out) and out:
         return "what was printed is no beginning"
@@ -246,10 +256,15 @@ def test(failing, name):
         met += 1
 
 
+def told_of(words):
+    """What says what is wrong with an answer of this command."""
+    return functools.partial(fault_of, memory=NO_MEMORY) if words[:2] == EVIDENCE_CHECK[:2] else fault_of
+
+
 def all_commands(failing):
     runs, differing = 0, 0
     several = [(words + names, functools.partial(fault_of_several, names)) for words, names in SEVERAL]
-    for words, told in [(words, fault_of) for words in commands()] + several:
+    for words, told in [(words, told_of(words)) for words in commands()] + several:
         for fault in FAULTS:
             met, statuses, wrong = failing.sweep(words, fault, told)
             runs, differing = runs + met + 1, differing + len(wrong)

@@ -5,7 +5,8 @@
 
 PROGRAM is ./cmsproof by default, M is 1, S is chosen and printed. The files are those of data/real and crates/real_files/data:
 SignedData and tokens (.p7s, .tok), responses (.tsr), requests (.tsq), certificates (.der), a trust list (trust.txt), and the
-content of the detached ones (.bin). A mutation changes octets, or an element with the lengths of all that are round it made anew, so
+content of the detached ones (.bin); and the evidence records of data/records, with the documents, the options and the lists of its
+rows. A mutation changes octets, or an element with the lengths of all that are round it made anew, so
 that the inside is reached. Each answer is held against
 
 - the form of docs/LINES.md: one line, on the stream that belongs to the status;
@@ -27,13 +28,15 @@ import time
 from pathlib import Path
 
 sys.path.insert(0, str(Path(__file__).resolve().parent.parent))
-from oracle import der, expected, forms, lists, openssl_judge, rules  # noqa: E402
+from oracle import der, evidence, expected, forms, lists, openssl_judge, records, rules  # noqa: E402
 from trying.hostile_runs import Runs, fault_of_form  # noqa: E402
 
 TOP = Path(__file__).resolve().parent.parent.parent
 FOLDERS = "data/real", "crates/real_files/data"
+RECORDS = TOP / "data" / "records"
 OCTETS = bytes.fromhex("00017f80818283848586feff0203040506080a0c0d131617181e1f30313680a0a1a2a3a4a5")
 STAMP_CHECK = ["stamp", "check", "--trust", "trust", "--answers", "answers", "in", "data"]
+RECORD_CHECK = ["evidence", "check", "--trust", "trust-records", "--answers", "answers-records"]
 # whose questions are asked of files of a kind
 ASKED = {
     "p7s": [expected.questions],
@@ -56,6 +59,30 @@ def read_files(folders):
                     octets = file.read()
                 found.setdefault(octets, (name, kind))
     return [(name, kind, octets) for octets, (name, kind) in found.items()]
+
+
+def policy_of(options):
+    """The policy that options of `evidence check` state."""
+    given = dict(zip(options, options[1:]))
+    pairs = [word.split("=") for before, word in zip(options, options[1:]) if before == "--end"]
+    ends = [(name, lists.end_of_period(last.encode())) for name, last in pairs]
+    at = lists.end_of_period(given["--at"].encode()) if "--at" in given else None
+    return evidence.Policy(ends, at, "--whole" in options)
+
+
+class Records:
+    """Evidence records, their lists, and what each is asked: a document and options."""
+
+    def __init__(self, folder):
+        self.trust, self.answers = ((folder / name).read_bytes() for name in ("trust.txt", "answers.txt"))
+        self.terms = rules.Terms(lists.entries_of(self.trust), lists.answers_of(self.answers))
+        self.asked = {}
+        for line in (folder / "rows.txt").read_text().splitlines():
+            if not line.startswith("#"):
+                name, document, options, _ = line.split("|")
+                data = (folder / "files" / document.strip()).read_bytes()
+                self.asked.setdefault((folder / "records" / f"{name.strip()}.ers").read_bytes(), []).append((data, options.split()))
+        self.all = [(f"record {number}", "ers", octets) for number, octets in enumerate(self.asked)]
 
 
 def signatures_of(files):
@@ -193,7 +220,10 @@ def elements(octets):
 
 class Fuzz:
     def __init__(self, program, folder, files, keep):
-        self.runs, self.keep = Runs(program, folder), keep
+        self.runs, self.keep, self.records, self.row = Runs(program, folder), keep, Records(RECORDS), (b"", [])
+        files = files + self.records.all
+        self.runs.put("trust-records", self.records.trust)
+        self.runs.put("answers-records", self.records.answers)
         self.content = ([octets for _, kind, octets in files if kind == "bin"] or [b""])[0]
         self.runs.put("content", self.content)
         self.files = files = [file for file in files if file[1] != "bin"]
@@ -204,6 +234,7 @@ class Fuzz:
             "tsq": self.request,
             "der": self.certificate,
             "trust": self.list,
+            "ers": self.record,
         }
         self.donors = sorted({e for _, kind, octets in files if kind != "trust" for e in elements(octets) if len(e) < 400})
         self.known = set()
@@ -271,9 +302,19 @@ class Fuzz:
         _, fault = lists.trust(octets)
         yield ["migrate", "in", "out"], (fault or "", 2 if fault else 0)
 
+    def record(self, octets):
+        data, options = self.row
+        terms, policy = self.records.terms, policy_of(options)
+        yield ["show", "evidence", "in"], expected.reads(octets, records.evidence_record)
+        yield RECORD_CHECK + options + ["in", "data"], evidence.check(octets, [data], terms, policy)
+        yield ["evidence", "questions", "--trust", "trust-records", "in"], evidence.questions(octets, terms)
+
     def one(self, chance, number):
         name, kind, octets = chance.choice(self.files)
         self.data = stamped_by(octets, self.signatures)
+        if kind == "ers":
+            self.row = chance.choice(self.records.asked[octets])
+            self.data = self.row[0]
         octets = mutated_octets(chance, octets) if kind == "trust" else mutated(chance, octets, self.donors)
         self.runs.put("in", octets)
         self.runs.put("data", self.data)

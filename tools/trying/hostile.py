@@ -20,7 +20,7 @@ from pathlib import Path
 
 sys.path.insert(0, str(Path(__file__).resolve().parent.parent))
 from oracle import der, expected, openssl_judge  # noqa: E402
-from trying import hostile_devices, hostile_sizes  # noqa: E402
+from trying import hostile_devices, hostile_sizes, record_sizes  # noqa: E402
 from trying.hostile_inputs import CHECK, COMMANDS, FILE, TERMS, TOKEN, UNSTAMPED, WITH_ALL, write  # noqa: E402
 from trying.hostile_runs import Runs  # noqa: E402
 
@@ -143,6 +143,7 @@ FAMILIES = {
     "every": every,
     **hostile_devices.FAMILIES,
     **hostile_sizes.FAMILIES,
+    **record_sizes.FAMILIES,
 }
 
 

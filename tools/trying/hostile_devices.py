@@ -7,14 +7,16 @@ import resource
 import signal
 import subprocess
 
-from oracle import expected, lists, rules
+from oracle import evidence, expected, lists, rules
 from samples.building import request_of, sha
 from trying.hostile_inputs import CHECK, FILE, REQUEST, RESPONSE, SIGNER, STAMP_CHECK, STAMP_QUESTIONS, TERMS, TRUST, migrated
+from trying.record_inputs import BEGUN, EVIDENCE_CHECK, EVIDENCE_QUESTIONS, OF_OLD, SAID
 
 ACCEPTED = "accepted 20240115100000Z\n"
 DIGEST = sha(b"abc").hex()
 QUESTIONS = expected.questions(FILE, TERMS)[0]
 OF_STAMP = expected.stamp_questions(RESPONSE, TERMS)[0]
+OF_RECORD = evidence.questions(OF_OLD, TERMS)[0]
 # words with their input files, and what they print where all is well; None is some text
 PRINTING = [
     (CHECK + ["file"], ACCEPTED),
@@ -24,6 +26,10 @@ PRINTING = [
     (STAMP_CHECK + ["token", "content"], ACCEPTED),
     (STAMP_CHECK + ["response", "file"], "refused K9 ImprintDiffers\n"),
     (STAMP_QUESTIONS + ["response"], OF_STAMP),
+    (EVIDENCE_CHECK + SAID + ["of-old", "content"], f"accepted {BEGUN}\n"),
+    (EVIDENCE_CHECK + ["of-old", "content"], "refused chain 1 stamp 1 W6 Weak\n"),
+    (EVIDENCE_CHECK + ["encrypted", "missing"], "refused V2 Encrypted\n"),
+    (EVIDENCE_QUESTIONS + ["of-old"], OF_RECORD),
     (["compare", "unstamped", "file"], "same\n"),
     (["cert", "signer"], None),
     (["show", "signed", "file"], None),
@@ -61,6 +67,13 @@ READING = [
     (STAMP_CHECK + ["response", "?"], "X1"),
     (["stamp", "questions", "--trust", "?", "token"], "read"),
     (STAMP_QUESTIONS + ["?"], "read"),
+    (["evidence", "check", "--trust", "?", "--answers", "answers", "tree", "content"], "read"),
+    (["evidence", "check", "--trust", "trust", "--answers", "?", "tree", "content"], "read"),
+    (EVIDENCE_CHECK + ["?", "content"], "read"),
+    (EVIDENCE_CHECK + ["tree", "?"], "X1"),
+    (EVIDENCE_CHECK + ["of-group", "content", "?"], "X1"),
+    (["evidence", "questions", "--trust", "?", "tree"], "read"),
+    (EVIDENCE_QUESTIONS + ["?"], "read"),
     (["match", "?", "response"], "read"),
     (["match", "request", "?"], "read"),
     (["match", "?", "response", "out"], "read"),
@@ -393,6 +406,18 @@ BAD_POLICIES = [
 ]
 BAD_NONCES = ["", "0", "0005", "ffff", "zz", "5 "]
 BAD_NUMBERS = ["", "x", "-1", "1.0", "18446744073709551616", "0x1"]
+BAD_TIMES = ["", "-", "2024", "20240131000000", "20240230000000Z", "20240131000000.50Z", "240131000000Z", "20240131000000Z "]
+BAD_ENDS = [
+    "",
+    "sha256",
+    "=",
+    "sha256=",
+    "=20240131000000Z",
+    "md5=20240131000000Z",
+    "SHA256=20240131000000Z",
+    "sha1==20240131000000Z",
+]
+BAD_ENDS += [f"sha256={time}" for time in BAD_TIMES] + ["sha256=20240131000000Z=", " sha1=20240131000000Z", "a" * 50000]
 # words, and what is told of them; None is the text of the parser
 WORDS = [
     *((["request", "--digest", digest, "out"], "usage digest\n") for digest in BAD_DIGESTS),
@@ -402,6 +427,9 @@ WORDS = [
     (REQUEST_OF + ["--policy", "x", "--nonce", "x", "out"], "usage policy\n"),
     (["request", "--of", "missing", "--nonce", "x", "out"], "usage nonce\n"),
     (["request", "out"], "usage digest\n"),
+    *((EVIDENCE_CHECK + ["--end", end, "missing", "missing"], "usage end\n") for end in BAD_ENDS),
+    *((EVIDENCE_CHECK + [f"--at={time}", "missing", "missing"], "usage at\n") for time in BAD_TIMES),
+    (EVIDENCE_CHECK + ["--at", "x", "--end", "sha1=20240131000000Z", "--end", "x", "missing", "missing"], "usage end\n"),
     (REQUEST_OF + ["--of", "file", "out"], "usage digest\n"),
     (REQUEST_OF + ["--signer", "1", "out"], "usage digest\n"),
     *(
@@ -439,6 +467,18 @@ WORDS = [
             STAMP_QUESTIONS,
             STAMP_QUESTIONS + ["--answers", "answers", "token"],
             ["stamp", "request", "--digest", DIGEST, "out"],
+            ["evidence"],
+            ["evidence", "frob", "tree"],
+            ["evidence", "check", "tree", "content"],
+            EVIDENCE_CHECK + ["tree"],
+            EVIDENCE_CHECK + ["--sha1", "tree", "content"],
+            EVIDENCE_CHECK + ["--end"],
+            EVIDENCE_CHECK + ["--at", "20240131000000Z", "--at", "20240131000000Z", "tree", "content"],
+            EVIDENCE_CHECK + ["-", "-"],
+            EVIDENCE_CHECK + ["tree", "-", "content", "-"],
+            ["evidence", "questions", "tree"],
+            EVIDENCE_QUESTIONS,
+            EVIDENCE_QUESTIONS + ["--answers", "answers", "tree"],
             *(["attach", "--signer", number, "--token", "token", "file", "out"] for number in BAD_NUMBERS),
             *(["compare", "--first", number, "file", "file"] for number in BAD_NUMBERS),
         )

@@ -16,6 +16,7 @@ from oracle import der, expected, forms, lists, records, rules  # noqa: E402
 from oracle.der import element, number, octets, oid, sequence  # noqa: E402
 from samples import building, signed_files as made  # noqa: E402
 from samples.building import request_of, sha  # noqa: E402
+from trying import record_inputs  # noqa: E402
 
 FILE = building.stamped(made.TOKEN)
 UNSTAMPED = building.signed_data([made.PLAIN.stamped()])
@@ -194,6 +195,7 @@ COMMANDS = [
     ),
     ("stamp questions, token", TOKEN, STAMP_QUESTIONS + ["in"], lambda o: expected.stamp_questions(o, TERMS)),
     ("stamp questions, response", RESPONSE, STAMP_QUESTIONS + ["in"], lambda o: expected.stamp_questions(o, TERMS)),
+    *record_inputs.COMMANDS,
 ]
 BESIDE = {
     "trust": TRUST,
@@ -212,6 +214,7 @@ BESIDE = {
     "stamp": STAMP,
     "record": RECORD,
     "empty": b"",
+    **record_inputs.BESIDE,
 }
 
 

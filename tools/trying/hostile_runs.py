@@ -6,7 +6,7 @@ import subprocess
 
 MALFORMED = re.compile(r"malformed (?:(?:request|response|first|second) )?M\d+ \w+ at \d+\n")
 REFUSED = re.compile(
-    r"(?:refused (?:(?:first|second) )?(?:signer \d+ )?(?:token 1 )?(?:[A-Z]\d+ )*(?:\w+|M\d+ \w+ at \d+)"
+    r"(?:refused (?:(?:first|second) )?(?:signer \d+ |chain \d+ stamp \d+ )?(?:token 1 )?(?:[A-Z]\d+ )*(?:\w+|M\d+ \w+ at \d+)"
     r"|different|collision)\n"
 )
 LIST = re.compile(r"(?:trust|answers) [LB]\d \w+ at line \d+\n")

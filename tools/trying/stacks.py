@@ -23,6 +23,7 @@ sys.path.insert(0, str(Path(__file__).resolve().parent.parent))
 from trying import hostile_devices, hostile_sizes  # noqa: E402
 from trying.failing import write_long  # noqa: E402
 from trying.hostile_inputs import CHECK, QUESTIONS, STAMP_CHECK, STAMP_QUESTIONS, write  # noqa: E402
+from trying.record_inputs import EVIDENCE_CHECK, EVIDENCE_QUESTIONS, SAID  # noqa: E402
 
 STEP, MOST = 4, 1024
 NAMES = ["f%03d" % number for number in range(256)]
@@ -57,6 +58,14 @@ ROWS = {
         STAMP_CHECK + words for words in (["token", "content"], ["response", "content"], ["token", PIPE])
     ],
     "`stamp questions` of one file and of 256": [STAMP_QUESTIONS + ["response"], STAMP_QUESTIONS + NAMES],
+    "`evidence check`, also of data through a pipe and of a group of 256": [
+        *(
+            EVIDENCE_CHECK + words
+            for words in ([*SAID, "of-old", "content"], ["tree", PIPE], ["--whole", "of-group", "content", "other"])
+        ),
+        EVIDENCE_CHECK + ["tree", *NAMES],
+    ],
+    "`evidence questions` of one record and of 256": [EVIDENCE_QUESTIONS + ["of-old"], EVIDENCE_QUESTIONS + NAMES],
     "`check --content`": [CHECK + ["--content", "content", name] for name in ("detached", "long-detached")],
 }
 

@@ -13,3 +13,4 @@ pub mod Failing
 pub mod Refusing
 pub mod Laws
 pub mod Rows
+pub mod EvidenceTexts

@@ -4,6 +4,8 @@ use Rattle.std.specs.Io.KnownBytes.{Appends}
 use Rattle.check_fit.specs.declared.rules.FileRule.TheVariants as file
 use Rattle.check_questions.specs.declared.fault.QuestionsFault.TheVariants as questions
 use Rattle.check_fit.specs.declared.rules.Refused.TheVariants as refused
+use Rattle.check_evidence.specs.declared.rules.RecordRule.TheVariants as record_rule
+use Rattle.check_evidence.specs.declared.rules.EvidenceRefused.TheVariants as evidence
 use Rattle.cli_failures.specs.declared.failure.Failure.{Failure}
 use Rattle.cli_failures.specs.declared.failure.Failure.TheVariants as failure
 use Rattle.cli_failures.specs.declared.status.Status.{Status}
@@ -26,6 +28,14 @@ fault_told failure.Different before after ends told = absurd (let no : ⊥ = cc 
 fault_told failure.Collision before after ends told = absurd (let no : ⊥ = cc in no)
 fault_told (failure.Unattached why) before after ends told = absurd (let no : ⊥ = cc in no)
 fault_told (failure.Unstamped why) before after ends told = absurd (let no : ⊥ = cc in no)
+fault_told (failure.Unshown (evidence.Record (record_rule.Malformed fault))) before after ends told =
+    inl (record { message = None; fault = fault; line = told })
+fault_told (failure.Unshown (evidence.Record record_rule.Encrypted)) before after ends told =
+    absurd (let no : ⊥ = cc in no)
+fault_told (failure.Unshown (evidence.Record record_rule.NoData)) before after ends told =
+    absurd (let no : ⊥ = cc in no)
+fault_told (failure.Unshown (evidence.Stamp chain stamp rule)) before after ends told = absurd (let no : ⊥ = cc in no)
+fault_told (failure.Unshown (evidence.Device fault)) before after ends told = absurd (let no : ⊥ = cc in no)
 fault_told (failure.Unasked (questions.Malformed fault)) before after ends told =
     inl (record { message = None; fault = fault; line = told })
 fault_told (failure.Unasked questions.NotSignedData) before after ends told = absurd (let no : ⊥ = cc in no)
@@ -55,12 +65,15 @@ refusal_told (failure.Words text) before after ends told = absurd (let no : ⊥ 
 refusal_told failure.NotText before after ends told = absurd (let no : ⊥ = cc in no)
 refusal_told failure.NotSignedData before after ends told = inl told
 refusal_told (failure.Unmatched why) before after ends told = inr (inl (why, told))
-refusal_told (failure.Refused why) before after ends told = inr (inr (inr (inr (inr (inr (inr (why, ends, told)))))))
+refusal_told (failure.Refused why) before after ends told =
+    inr (inr (inr (inr (inr (inr (inr (inr (why, ends, told))))))))
 refusal_told failure.Different before after ends told = inr (inr (inr (inl (inl told))))
 refusal_told failure.Collision before after ends told = inr (inr (inr (inl (inr told))))
 refusal_told (failure.Uncompared why) before after ends told = inr (inr (inr (inr (inl (why, ends, told)))))
 refusal_told (failure.Unattached why) before after ends told = inr (inr (inr (inr (inr (inl (why, told))))))
 refusal_told (failure.Unstamped why) before after ends told = inr (inr (inr (inr (inr (inr (inl (why, told)))))))
+refusal_told (failure.Unshown why) before after ends told =
+    inr (inr (inr (inr (inr (inr (inr (inl (why, ends, told))))))))
 refusal_told (failure.Unasked questions.NotSignedData) before after ends told = inr (inr (inl told))
 refusal_told (failure.Unasked (questions.Malformed fault)) before after ends told = absurd (let no : ⊥ = cc in no)
 refusal_told (failure.Unasked questions.WriteFailed) before after ends told = absurd (let no : ⊥ = cc in no)

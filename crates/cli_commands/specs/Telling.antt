@@ -16,9 +16,11 @@ use Rattle.cli_failures.specs.declared.failure.Message.{Message}
 use Rattle.check_fit.specs.declared.rules.Refused.{Refused}
 use Rattle.check_fit.specs.declared.rules.TokenRule.{TokenRule}
 use Rattle.check_fit.specs.RuleTexts.{refused_text, token_rule_text}
+use Rattle.check_evidence.specs.declared.rules.EvidenceRefused.{EvidenceRefused}
+use Rattle.check_evidence.specs.EvidenceTexts.{evidence_refused_text}
 use Rattle.cli_failures.specs.declared.status.Status.{Status}
 use Rattle.cli_failures.specs.declared.status.Status.TheVariants as status
-use Rattle.cli_failures.specs.Failures.{said, malformed_line, refused_status, uncompared_status}
+use Rattle.cli_failures.specs.Failures.{said, malformed_line, refused_status, uncompared_status, unshown_status}
 
 -- a writer took the line of a fault, if what it takes is known
 pub record TellsFault (before after : Option (List ℕ)) : Type 0 where
@@ -75,10 +77,15 @@ abbrev pub TellsUnstamped : (before after : Option (List ℕ)) → Type 0
 TellsUnstamped before after = (why : TokenRule) × Appends before after
     (said (codes "refused") (token_rule_text why))
 
+-- a writer took the line of a rule by which an evidence record is refused, if what it takes is known
+abbrev pub TellsUnshown : (before after : Option (List ℕ)) → Type 0
+TellsUnshown before after = (why : EvidenceRefused) × (unshown_status why ≡ status.Refused)
+    × Appends before after (evidence_refused_text why ++ (10 ∷ []))
+
 -- a writer took the line of a rule that refuses a file, if what it takes is known
 abbrev pub TellsRefusal : (before after : Option (List ℕ)) → Type 0
 TellsRefusal before after = TellsAnotherType before after
     ⊎ (TellsUnmatched before after ⊎ (TellsUnasked before after
     ⊎ (TellsUnlike before after ⊎ (TellsUncompared status.Refused before after ⊎ (TellsUnattached before after
-    ⊎ (TellsUnstamped before after ⊎ ((why : Refused) × (refused_status why ≡ status.Refused)
-    × Appends before after (refused_text why ++ (10 ∷ [])))))))))
+    ⊎ (TellsUnstamped before after ⊎ (TellsUnshown before after ⊎ ((why : Refused)
+    × (refused_status why ≡ status.Refused) × Appends before after (refused_text why ++ (10 ∷ []))))))))))

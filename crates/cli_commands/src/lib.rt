@@ -20,7 +20,7 @@ mod telling;
 mod texts;
 
 pub use asking::ask_by;
-pub use checking::check_by;
+pub use checking::{check_by, line_of};
 pub use lists::{answers_in, trust_in};
 pub use rereading::Describes;
 pub use stamping::stamp_questions_by;

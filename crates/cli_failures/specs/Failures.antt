@@ -23,6 +23,10 @@ use Rattle.check_fit.specs.declared.rules.FileRule.TheVariants as file
 use Rattle.check_fit.specs.declared.rules.Refused.{Refused}
 use Rattle.check_fit.specs.declared.rules.Refused.TheVariants as refused
 use Rattle.check_fit.specs.RuleTexts.{refused_text, token_rule_text}
+use Rattle.check_evidence.specs.declared.rules.RecordRule.TheVariants as record_rule
+use Rattle.check_evidence.specs.declared.rules.EvidenceRefused.{EvidenceRefused}
+use Rattle.check_evidence.specs.declared.rules.EvidenceRefused.TheVariants as evidence
+use Rattle.check_evidence.specs.EvidenceTexts.{evidence_refused_text}
 use Rattle.tsp_requester.specs.AttachFaultTexts.{attach_fault_text}
 use Rattle.cms_compare.specs.declared.fault.CompareRule.{CompareRule}
 use Rattle.cms_compare.specs.declared.fault.CompareRule.TheVariants as compare
@@ -59,6 +63,7 @@ failure_text (failure.MalformedMessage m fault) = malformed_line (Some m) fault
 failure_text (failure.Unmatched why) = said (codes "refused") (match_fault_text why)
 failure_text (failure.Refused why) = refused_text why ++ (10 ∷ [])
 failure_text (failure.Unstamped why) = said (codes "refused") (token_rule_text why)
+failure_text (failure.Unshown why) = evidence_refused_text why ++ (10 ∷ [])
 failure_text (failure.Unasked fault) = questions_fault_text fault ++ (10 ∷ [])
 failure_text failure.Different = codes "different" ++ (10 ∷ [])
 failure_text failure.Collision = codes "collision" ++ (10 ∷ [])
@@ -77,6 +82,12 @@ abbrev pub refused_status : Refused → Status
 refused_status (refused.File (file.Malformed fault)) = status.Malformed
 refused_status (refused.Device fault) = status.Failed
 refused_status _ = status.Refused
+
+-- the same of an evidence record
+abbrev pub unshown_status : EvidenceRefused → Status
+unshown_status (evidence.Record (record_rule.Malformed fault)) = status.Malformed
+unshown_status (evidence.Device fault) = status.Failed
+unshown_status _ = status.Refused
 
 abbrev pub unasked_status : QuestionsFault → Status
 unasked_status (questions.Malformed fault) = status.Malformed
@@ -98,6 +109,7 @@ status_of (failure.MalformedMessage m fault) = status.Malformed
 status_of (failure.Unmatched why) = status.Refused
 status_of (failure.Refused why) = refused_status why
 status_of (failure.Unstamped why) = status.Refused
+status_of (failure.Unshown why) = unshown_status why
 status_of (failure.Unasked fault) = unasked_status fault
 status_of failure.Different = status.Refused
 status_of failure.Collision = status.Refused

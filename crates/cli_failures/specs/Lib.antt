@@ -7,3 +7,4 @@ pub mod Signatures
 pub mod Tokens
 pub mod Stamps
 pub mod Requests
+pub mod Ends

@@ -1,12 +1,13 @@
 ghost use Rattle.std.specs.Prelude.{◌≡◌};
-ghost use Rattle.cli_failures.specs.Failures.{refused_status, unasked_status, uncompared_status};
+ghost use Rattle.cli_failures.specs.Failures.{refused_status, unasked_status, uncompared_status, unshown_status};
 
 use crate::output::put;
 use crate::status::Status;
 use arrayvec::ArrayVec;
 use cmsproof_api::{
-    AnswersFault, AnswersRule, AttachFault, CmsFault, CompareFault, CompareRule, Fault, FileRule,
-    MatchFault, QuestionsFault, ReadFault, Refused, TokenRule, TrustFault, TrustRule,
+    AnswersFault, AnswersRule, AttachFault, CmsFault, CompareFault, CompareRule, EvidenceRefused,
+    Fault, FileRule, MatchFault, QuestionsFault, ReadFault, RecordRule, Refused, TokenRule,
+    TrustFault, TrustRule,
 };
 use std::alloc::{AllocError, AllocFailed};
 use std::fmt;
@@ -17,7 +18,8 @@ use thiserror::Error;
 pub const STANDARD_OUTPUT: &str = "-";
 
 /// The room for a line that goes to the standard output. None of these has a path. By `failure_text` and the texts that
-/// it names, the longest is `refused signer N token N K1 M4 LengthForm at N`: 104 octets, if each number has 20 digits.
+/// it names, the longest is `refused chain N stamp N W4 K1 M4 LengthForm at N`: 106 octets, if each number has 20
+/// digits.
 const ROOM: usize = 256;
 
 /// Which message of the time-stamp protocol a file holds, if a command reads both.
@@ -64,6 +66,8 @@ pub enum Failure<'a> {
     Refused(Refused),
     /// The token doesn't pass for what it should stamp, by this rule.
     Unstamped(TokenRule),
+    /// The evidence record does not show that the data existed, by this rule, or a device failed.
+    Unshown(EvidenceRefused),
     /// The questions of the file were not printed.
     Unasked(QuestionsFault),
     /// Other digest algorithms are named, or other octets are signed.
@@ -107,6 +111,7 @@ impl fmt::Display for Failure<'_> {
             Failure::Unmatched(fault) => write!(f, "refused {fault}\n"),
             Failure::Refused(refused) => write!(f, "{refused}\n"),
             Failure::Unstamped(rule) => write!(f, "refused {rule}\n"),
+            Failure::Unshown(refused) => write!(f, "{refused}\n"),
             Failure::Unasked(fault) => write!(f, "{fault}\n"),
             Failure::Different => f.write_str("different\n"),
             Failure::Collision => f.write_str("collision\n"),
@@ -238,6 +243,17 @@ fn refused_status(refused: Refused) -> Status
     }
 }
 
+/// How a command ends whose evidence record was refused for this reason.
+fn unshown_status(refused: EvidenceRefused) -> Status
+    ensures { result ≡ unshown_status refused }
+{
+    match refused {
+        EvidenceRefused::Record(RecordRule::Malformed(_)) => Status::Malformed,
+        EvidenceRefused::Device(_) => Status::Failed,
+        _ => Status::Refused,
+    }
+}
+
 impl<'a> Failure<'a> {
     ghost use Rattle.std.specs.Prelude.{◌≡◌, ◌≢◌, ◌⊎◌, IfErr, OnOk};
     ghost use Rattle.std.specs.IoError.{error_kind};
@@ -272,6 +288,7 @@ impl<'a> Failure<'a> {
             Failure::Trust(_) | Failure::Answers(_) => Status::Malformed,
             Failure::Unasked(fault) => unasked_status(*fault),
             Failure::Refused(refused) => refused_status(*refused),
+            Failure::Unshown(refused) => unshown_status(*refused),
             Failure::Words(_) | Failure::NotText | Failure::Usage(_) => Status::Usage,
             _ => Status::Failed,
         }

@@ -10,13 +10,16 @@ use Rattle.check_stream.specs.declared.fault.StreamQuestionsFault.TheVariants as
 use Rattle.check_fit.specs.declared.rules.FileRule.TheVariants as file
 use Rattle.check_fit.specs.declared.rules.Refused.{Refused}
 use Rattle.check_fit.specs.declared.rules.Refused.TheVariants as refused
+use Rattle.check_evidence.specs.declared.rules.RecordRule.{RecordRule}
+use Rattle.check_evidence.specs.declared.rules.RecordRule.TheVariants as record_rule
+use Rattle.check_evidence.specs.declared.rules.EvidenceRefused.TheVariants as evidence
 use Rattle.der_core.specs.Form.{Form}
 use Rattle.cli_failures.specs.Causes.{IsMalformed}
 use Rattle.cli_failures.specs.declared.failure.Failure.{Failure}
 use Rattle.cli_failures.specs.declared.failure.Failure.TheVariants as failure
 use Rattle.cli_failures.specs.declared.status.Status.{Status}
 use Rattle.cli_failures.specs.declared.status.Status.TheVariants as status
-use Rattle.cli_failures.specs.Failures.{failure_text, refused_status, status_of, unasked_status}
+use Rattle.cli_failures.specs.Failures.{failure_text, refused_status, status_of, unasked_status, unshown_status}
 use Rattle.cli_failures.specs.Files.{IsFailureToOpen, IsFailureToRead}
 use Rattle.cli_failures.specs.Output.{Begins, IsLost}
 use Rattle.cli_tasks.specs.declared.task.About.{About}
@@ -35,6 +38,7 @@ use Rattle.cli_commands.specs.Fit.{ShowsUnfit}
 use Rattle.cli_commands.specs.Lists.{IsFailureOfAnswers, IsFailureOfTrust}
 use Rattle.cli_commands.specs.Rereading.{Sayings}
 use Rattle.cli_commands.specs.Stamping.{HasNoStampQuestions}
+use Rattle.cli_evidence.specs.Questions.{HasNoRecordQuestions}
 use Rattle.cli_files.specs.Lines.{AreAll, AreTold, none, next, EndsFiles, IsAsked, IsCut, IsFailureOfList}
 use Rattle.cli_files.specs.Lines.{IsLine, TellsNotAll}
 use Rattle.cli_files.specs.Lines.{FailsAbout, check_of, fit_of, questions_of}
@@ -140,10 +144,23 @@ module _ {F : Type 0} (holds : F → Option (List ℕ)) (says : Sayings F) where
   stamp_not_usage path f (inr (inr (token, held, inl (fault, is, e)))) = λ is. let no : ⊥ = cc in no
   stamp_not_usage path f (inr (inr (token, held, inr (is, e)))) = λ is. let no : ⊥ = cc in no
 
+  unshown_not_usage : (failed : RecordRule) → unshown_status (evidence.Record failed) ≢ status.Usage
+  unshown_not_usage (record_rule.Malformed fault) = λ is. let no : ⊥ = cc in no
+  unshown_not_usage record_rule.Encrypted = λ is. let no : ⊥ = cc in no
+  unshown_not_usage record_rule.NoData = λ is. let no : ⊥ = cc in no
+
+  record_not_usage : (path : Bor (List ℕ)) (f : Failure) → HasNoRecordQuestions holds path f
+      → status_of f ≢ status.Usage
+  record_not_usage path f (inl fails) = not_usage f (inr (read_fails path f fails))
+  record_not_usage path f (inr (octets, failed, held, fails, e)) =
+      λ used. unshown_not_usage failed
+      (let same : unshown_status (evidence.Record failed) ≡ status_of f = cc in same ∙ used)
+
   about_not_usage : (trust : Bor (List ℕ)) (a : About) (path : Bor (List ℕ)) (f : Failure)
       → FailsAbout holds says trust a path f → status_of f ≢ status.Usage
   about_not_usage trust (about.Signed buffer) path f fails = asking_not_usage (questions_of trust buffer path) f fails
   about_not_usage trust about.Stamps path f fails = stamp_not_usage path f fails
+  about_not_usage trust about.Records path f fails = record_not_usage path f fails
 
   check_line : (e : CheckEach) (path : Bor (List ℕ)) (line : List ℕ) (ends : Status)
       → IsLine holds says (check_of e) path line ends

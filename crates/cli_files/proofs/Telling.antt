@@ -121,6 +121,7 @@ begins_so : {F : Type 0} (holds : F → Option (List ℕ)) (a : About) (text : L
 begins_so holds (about.Signed buffer) text (trust, file, listed, ((signers, qs, are, is), known)) =
     (question_lines qs, is)
 begins_so holds about.Stamps text (trust, token, qs, listed, held, are, is) = (question_lines qs, is)
+begins_so holds about.Records text (trust, octets, qs, listed, held, are, is) = (question_lines qs, is)
 
 -- what is printed of a file by `questions`, by what the function that makes it returned
 pub headed_by :

@@ -2,11 +2,11 @@
 -- known, and `says` what it may say of itself. Begin here.
 --
 -- `check` and `fit` print a line for each file, in the order of the files: its name, a colon and a space, and what the
--- command for that file alone says. `questions` and `stamp questions` print one text: its first line once, and for each
--- file a comment with its name and the questions that the command for that file alone prints, or a comment with the
--- line of a file that fails. The command ends with the worst of the statuses with which the commands for each file
--- alone end. So it goes on after a file that fails. If a list fails, its line stands alone. If the output fails, or
--- memory runs out, the command stops behind a beginning of that.
+-- command for that file alone says. `questions`, `stamp questions` and `evidence questions` print one text: its first
+-- line once, and for each file a comment with its name and the questions that the command for that file alone prints,
+-- or a comment with the line of a file that fails. The command ends with the worst of the statuses with which the
+-- commands for each file alone end. So it goes on after a file that fails. If a list fails, its line stands alone. If
+-- the output fails, or memory runs out, the command stops behind a beginning of that.
 use Rattle.std.specs.Prelude.{◌≡◌, ◌≤◌, ◌⊎◌, ℕ, List, [], ◌∷◌, ◌++◌, codes, map, take, Option, Result, MatchResult}
 use Rattle.std.specs.Borrow.{Bor}
 use Rattle.std.specs.Io.KnownBytes.{Appends, Keeps}
@@ -36,6 +36,7 @@ use Rattle.cli_commands.specs.Lists.{IsFailureOfAnswers, IsFailureOfTrust, IsTru
 use Rattle.cli_commands.specs.Rereading.{Sayings}
 use Rattle.cli_commands.specs.Stamping.{HasNoStampQuestions, ShowsStampQuestions}
 use Rattle.cli_commands.specs.Tasks.{MakesText, MakesNoText}
+use Rattle.cli_evidence.specs.Questions.{HasNoRecordQuestions, ShowsRecordQuestions}
 use Rattle.cli_files.specs.Names.{heading_of, line_of}
 use Rattle.cli_files.specs.Paths.{ListsNone, end_of, path_of_name, names_of}
 
@@ -62,12 +63,14 @@ questions_of trust buffer path = record { trust = trust; buffer = buffer; file =
 abbrev pub ShowsAbout : {F : Type 0} → (holds : F → Option (List ℕ)) → About → (text : List ℕ) → Type 0
 ShowsAbout holds (about.Signed buffer) text = ShowsQuestions holds text
 ShowsAbout holds about.Stamps text = ShowsStampQuestions holds text
+ShowsAbout holds about.Records text = ShowsRecordQuestions holds text
 
 -- or fails so, once the list was read
 abbrev pub FailsAbout : {F : Type 0} → (holds : F → Option (List ℕ)) → (says : Sayings F) → (trust : Bor (List ℕ))
     → About → (path : Bor (List ℕ)) → Failure → Type 0
 FailsAbout holds says trust (about.Signed buffer) path f = AsksNot holds says (questions_of trust buffer path) f
 FailsAbout holds says trust about.Stamps path f = HasNoStampQuestions holds path f
+FailsAbout holds says trust about.Records path f = HasNoRecordQuestions holds path f
 
 -- what a task says, and how it ends: it is done and gives a text, or it fails
 abbrev pub Says : {F : Type 0} → (holds : F → Option (List ℕ)) → (says : Sayings F) → TextTask → (said : List ℕ)

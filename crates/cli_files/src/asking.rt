@@ -1,4 +1,4 @@
-//! `questions` and `stamp questions` of several files.
+//! `questions`, `stamp questions` and `evidence questions` of several files.
 ghost use Rattle.std.specs.Prelude.{◌≡◌, ◌++◌, ℕ, List, IfErr, IfOk, OnOk};
 ghost use Rattle.std.specs.Io.KnownBytes.{Appends};
 ghost use Rattle.cli_failures.specs.declared.status.Status.{Status};
@@ -13,6 +13,7 @@ use crate::lines::put_failure;
 use crate::names::heading_of;
 use crate::worst::worse;
 use cli_commands::{Describes, ask_by, stamp_questions_by, trust_in};
+use cli_evidence::record_questions_by;
 use cli_failures::output::put;
 use cli_failures::{Failure, Status};
 use cli_tasks::{About, QuestionsEach, QuestionsWords};
@@ -79,6 +80,7 @@ where
 {
     match each.about {
         About::Stamps => stamp_questions_by(rt, path, trust),
+        About::Records => record_questions_by(rt, path, trust),
         About::Signed(buffer) => {
             let words = QuestionsWords {
                 trust: each.trust,

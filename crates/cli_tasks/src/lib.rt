@@ -4,7 +4,8 @@
 mod task;
 
 pub use task::{
-    About, AttachWords, CheckEach, CheckWords, CompareWords, Each, FitEach, FitWords, ListWords,
-    Many, MatchWords, MigrateWords, QuestionsEach, QuestionsWords, RequestWords, Several,
-    StampQuestionsWords, StampWords, Stamped, Task, TextTask,
+    About, AttachWords, CheckEach, CheckWords, CompareWords, Each, EvidenceQuestionsWords,
+    EvidenceTask, EvidenceWords, FitEach, FitWords, ListWords, Many, MatchWords, MigrateWords,
+    QuestionsEach, QuestionsWords, RequestWords, Several, StampQuestionsWords, StampWords, Stamped,
+    Task, TextTask,
 };

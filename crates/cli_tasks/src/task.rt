@@ -177,6 +177,44 @@ pub struct StampQuestionsWords<'a> {
     pub stamp: &'a str,
 }
 
+/// What a command about an evidence record is asked to do.
+#[derive(Debug, Drop)]
+pub enum EvidenceTask<'a> {
+    /// To say by when data existed, by a record.
+    Check(EvidenceWords<'a>),
+    /// To print what a verifier must be asked about a record.
+    Questions(EvidenceQuestionsWords<'a>),
+}
+
+/// The evidence record that is checked, the data that it should be for, the lists that it is checked with, and how long
+/// algorithms and its last time-stamp hold.
+#[derive(Debug, Drop)]
+pub struct EvidenceWords<'a> {
+    /// The path of the file that holds the trust list.
+    pub trust: &'a str,
+    /// The path of the file that holds the answers list.
+    pub answers: &'a str,
+    /// The ends of algorithms: a name, `=` and a time each.
+    pub ends: Vec<&'a str>,
+    /// The moment at which the last time-stamp must hold, if the words say.
+    pub at: Option<&'a str>,
+    /// Whether the first list may have no hash values but those of the data.
+    pub whole: bool,
+    /// The path of the file that holds the record.
+    pub record: &'a str,
+    /// The paths of the files that it should be for.
+    pub data: Vec<&'a str>,
+}
+
+/// The evidence record whose questions are printed, and who is trusted.
+#[derive(Clone, Copy, Debug, PartialEq, Eq)]
+pub struct EvidenceQuestionsWords<'a> {
+    /// The path of the file that holds the trust list.
+    pub trust: &'a str,
+    /// The path of the file that holds the record.
+    pub record: &'a str,
+}
+
 /// What a command asks of each of several files.
 #[derive(Debug, Drop)]
 pub struct Many<'a> {
@@ -255,4 +293,6 @@ pub enum About {
     Signed(Option<u64>),
     /// Time-stamp tokens, or responses with them.
     Stamps,
+    /// Evidence records.
+    Records,
 }

@@ -1,5 +1,5 @@
 -- The files that a command takes if it takes several, and what it asks of each.
-use Rattle.std.specs.Prelude.{◌≡◌, ℕ, Bool, true, false, List, Some, map, option_map, codes}
+use Rattle.std.specs.Prelude.{◌≡◌, ℕ, List, Some, map, option_map, codes}
 use Rattle.clap.specs.Matches.{first_value, matched_of, raw_values}
 use Rattle.clap.specs.declared.parser.matches.Found.{Found}
 use Rattle.cli_tasks.specs.declared.task.About.{About}
@@ -12,7 +12,9 @@ use Rattle.cli_tasks.specs.declared.task.Many.{Many}
 use Rattle.cli_tasks.specs.declared.task.QuestionsEach.{QuestionsEach}
 use Rattle.cli_tasks.specs.declared.task.Several.{Several}
 use Rattle.cli_tasks.specs.declared.task.Several.TheVariants as several
+use Rattle.cli_words.specs.Groups.{each_group_of, place_of}
 use Rattle.cli_words.specs.Words.{IsBufferIn, IsFlagIn}
+use Rattle.cli_words.specs.declared.group.Group.{Group}
 
 -- the files are those that the words name in the places of this name, in their order, or those of the list that the
 -- words name
@@ -39,6 +41,7 @@ pub record IsFitEachIn (given : Found) (words : FitEach) : Type 0 where
 abbrev pub IsAboutIn : Found → About → Type 0
 IsAboutIn given (about.Signed buffer) = IsBufferIn given buffer
 IsAboutIn given about.Stamps = Unit {0}
+IsAboutIn given about.Records = Unit {0}
 
 -- the same for who is trusted, whatever the file is
 pub record IsQuestionsEachIn (given : Found) (words : QuestionsEach) : Type 0 where
@@ -51,24 +54,10 @@ IsEachIn given (each.Check words) = IsCheckEachIn given words
 IsEachIn given (each.Fit words) = IsFitEachIn given words
 IsEachIn given (each.Questions words) = IsQuestionsEachIn given words
 
--- whether what is asked of each file is asked of a stamp
-abbrev pub is_about_stamps : About → Bool
-is_about_stamps (about.Signed buffer) = false
-is_about_stamps about.Stamps = true
-
-abbrev pub is_each_of_stamp : Each → Bool
-is_each_of_stamp (each.Questions words) = is_about_stamps words.about
-is_each_of_stamp _ = false
-
--- the name of the places of the files, in this group of commands
-abbrev pub place_of : (stamps : Bool) → List ℕ
-place_of true = codes "STAMP"
-place_of false = codes "FILE"
-
 -- the same for what a command asks of several files, in this group of commands
-abbrev pub IsManyIn : (stamps : Bool) → Found → Many → Type 0
-IsManyIn stamps given many = IsEachIn given many.each × IsSeveralIn (place_of stamps) given many.files
-    × (is_each_of_stamp many.each ≡ stamps)
+abbrev pub IsManyIn : Group → Found → Many → Type 0
+IsManyIn group given many = IsEachIn given many.each × IsSeveralIn (place_of group) given many.files
+    × (each_group_of many.each ≡ group)
 
 -- the command that asks this of each file
 abbrev pub each_command_of : Each → List ℕ

@@ -37,6 +37,7 @@ asks_for_help _ = false
 abbrev pub IsHelp : Meaning → Type 0
 IsHelp (meaning.Help text) = Unit {0}
 IsHelp (meaning.Task task) = ⊥
+IsHelp (meaning.Evidence task) = ⊥
 IsHelp (meaning.Many many) = ⊥
 
 -- a fault of the words, as a text reports it
@@ -198,17 +199,7 @@ text_command_of (text.Attach words) = codes "attach"
 text_command_of (text.CheckStamp words) = codes "check"
 text_command_of (text.AskStamp words) = codes "questions"
 
--- whether it stands behind `stamp`
-abbrev pub is_of_stamp : TextTask → Bool
-is_of_stamp (text.CheckStamp words) = true
-is_of_stamp (text.AskStamp words) = true
-is_of_stamp _ = false
-
 -- the command that asks for a task
 abbrev pub command_of : Task → List ℕ
 command_of (task.Questions words) = codes "questions"
 command_of (task.Text t) = text_command_of t
-
-abbrev pub is_behind_stamp : Task → Bool
-is_behind_stamp (task.Questions words) = false
-is_behind_stamp (task.Text t) = is_of_stamp t

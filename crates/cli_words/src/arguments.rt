@@ -44,7 +44,11 @@ fn taking_one<'a>(arg: Arg<'a>, word: &'static Word) -> Arg<'a> {
     match word.takes {
         Takes::Place | Takes::Places(_) => valued(arg, word.name),
         Takes::Kind => valued(arg, word.name).value_parser(KINDS.as_slice()),
+        Takes::Several => valued(arg, word.name)
+            .num_args(1..)
+            .action(ArgAction::Append),
         Takes::Text(value) | Takes::List(_, value) => valued(arg.long(word.name), value),
+        Takes::Texts(value) => valued(arg.long(word.name), value).action(ArgAction::Append),
         Takes::Number => { valued(arg.long(word.name), "N").value_parser(clap::value_parser!(u64)) }
         Takes::Octets => valued(arg.long(word.name), "N").value_parser(clap::value_parser!(
             u64

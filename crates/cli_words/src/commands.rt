@@ -1,13 +1,14 @@
 use crate::arguments::with_words;
-use crate::grammar::ABOUT_STAMPS;
+use crate::grammar::{ABOUT_EVIDENCE, ABOUT_STAMPS};
 use crate::help::{
-    ATTACH_LINES, CERTIFICATE_LINES, CHECK_LINES, COMPARE_LINES, FIT_LINES, MATCH_LINES,
-    MIGRATE_LINES, QUESTIONS_LINES, REQUEST_LINES, SHOW_LINES, STAMP_CHECK_LINES, STAMP_LINES,
+    ATTACH_LINES, CERTIFICATE_LINES, CHECK_LINES, COMPARE_LINES, EVIDENCE_CHECK_LINES,
+    EVIDENCE_LINES, EVIDENCE_QUESTIONS_LINES, FIT_LINES, MATCH_LINES, MIGRATE_LINES,
+    QUESTIONS_LINES, REQUEST_LINES, SHOW_LINES, STAMP_CHECK_LINES, STAMP_LINES,
     STAMP_QUESTIONS_LINES,
 };
 use crate::vocabulary::{
-    ATTACH, CERTIFICATE, CHECK, COMPARE, FIT, MATCH, MIGRATE, QUESTIONS, REQUEST, SHOW,
-    STAMP_CHECK, STAMP_QUESTIONS,
+    ATTACH, CERTIFICATE, CHECK, COMPARE, EVIDENCE_CHECK, EVIDENCE_QUESTIONS, FIT, MATCH, MIGRATE,
+    QUESTIONS, REQUEST, SHOW, STAMP_CHECK, STAMP_QUESTIONS,
 };
 use clap::Command;
 use std::alloc::{AllocError, Global};
@@ -28,6 +29,10 @@ pub enum Named {
     Stamp,
     StampCheck,
     StampQuestions,
+    /// The group of the commands about evidence records.
+    Evidence,
+    EvidenceCheck,
+    EvidenceQuestions,
 }
 
 impl Named {
@@ -39,18 +44,19 @@ impl Named {
             Named::Certificate => "cert",
             Named::Fit => "fit",
             Named::Matching => "match",
-            Named::Check | Named::StampCheck => "check",
-            Named::Questions | Named::StampQuestions => "questions",
+            Named::Check | Named::StampCheck | Named::EvidenceCheck => "check",
+            Named::Questions | Named::StampQuestions | Named::EvidenceQuestions => "questions",
             Named::Attach => "attach",
             Named::Compare => "compare",
             Named::Migrate => "migrate",
             Named::Stamp => "stamp",
+            Named::Evidence => "evidence",
         }
     }
 }
 
 /// The commands, in the order of the help.
-pub static ALL: [Named; 11] = [
+pub static ALL: [Named; 12] = [
     Named::Request,
     Named::Show,
     Named::Certificate,
@@ -59,6 +65,7 @@ pub static ALL: [Named; 11] = [
     Named::Check,
     Named::Questions,
     Named::Stamp,
+    Named::Evidence,
     Named::Attach,
     Named::Compare,
     Named::Migrate,
@@ -66,6 +73,9 @@ pub static ALL: [Named; 11] = [
 
 /// Those about stamps.
 pub static STAMPS: [Named; 2] = [Named::StampCheck, Named::StampQuestions];
+
+/// Those about evidence records.
+pub static EVIDENCE: [Named; 2] = [Named::EvidenceCheck, Named::EvidenceQuestions];
 
 /// The words of one command. Each command is a function of its own, since a proof of all in one takes minutes.
 pub fn command<'a>(alloc: Global, named: &Named) -> Result<Command<'a>, AllocError> {
@@ -83,6 +93,9 @@ pub fn command<'a>(alloc: Global, named: &Named) -> Result<Command<'a>, AllocErr
         Named::Stamp => Ok(stamp(alloc)),
         Named::StampCheck => stamp_check(alloc),
         Named::StampQuestions => stamp_questions(alloc),
+        Named::Evidence => Ok(evidence(alloc)),
+        Named::EvidenceCheck => evidence_check(alloc),
+        Named::EvidenceQuestions => evidence_questions(alloc),
     }
 }
 
@@ -197,4 +210,29 @@ fn stamp_questions<'a>(alloc: Global) -> Result<Command<'a>, AllocError> {
         .about("Prints what a verifier must be asked of the time-stamp token in STAMP.")
         .after_help(STAMP_QUESTIONS_LINES);
     with_words(alloc, command, STAMP_QUESTIONS.as_slice())
+}
+
+fn evidence<'a>(alloc: Global) -> Command<'a> {
+    Command::new(alloc, "evidence")
+        .about(ABOUT_EVIDENCE)
+        .after_help(EVIDENCE_LINES)
+}
+
+fn evidence_check<'a>(alloc: Global) -> Result<Command<'a>, AllocError> {
+    let command = Command::new(alloc, "check")
+        .about(
+            "Says by when the files DATA existed, if the evidence record in RECORD is accepted for each of them \
+                (RFC 4998 3.3, 5.3).",
+        )
+        .after_help(EVIDENCE_CHECK_LINES);
+    with_words(alloc, command, EVIDENCE_CHECK.as_slice())
+}
+
+fn evidence_questions<'a>(alloc: Global) -> Result<Command<'a>, AllocError> {
+    let command = Command::new(alloc, "questions")
+        .about(
+            "Prints what a verifier must be asked of the time-stamps in the evidence record in RECORD.",
+        )
+        .after_help(EVIDENCE_QUESTIONS_LINES);
+    with_words(alloc, command, EVIDENCE_QUESTIONS.as_slice())
 }

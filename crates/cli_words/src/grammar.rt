@@ -1,5 +1,6 @@
-use crate::commands::{ALL, STAMPS, command};
-use crate::help::{STAMP_LINES, STATUSES};
+use crate::commands::{ALL, EVIDENCE, Named, STAMPS, command};
+use crate::group::Group;
+use crate::help::{EVIDENCE_LINES, STAMP_LINES, STATUSES};
 use clap::Command;
 use std::alloc::{AllocError, Global};
 
@@ -16,17 +17,32 @@ const ABOUT: &str =
      certificates, CMS SignedData and evidence records (RFC 4998); says whether a content and its signed\n\
      attributes belong together, whether a response answers a request, by when the signatures of a file\n\
      existed, and whether two signatures sign the same; prints what a verifier must be asked about a\n\
-     file; judges a time-stamp that stands beside a file; attaches time-stamp tokens; and brings trust\n\
-     lists to their newest version.";
+     file; judges a time-stamp, or an evidence record, that stands beside files; attaches time-stamp\n\
+     tokens; and brings trust lists to their newest version.";
 
 /// What the commands about stamps do.
 pub const ABOUT_STAMPS: &str =
     "Says by when a file existed, by a time-stamp token or response that stands beside it (RFC 3161).";
 
+/// What the commands about evidence records do.
+pub const ABOUT_EVIDENCE: &str =
+    "Says by when files existed, by an evidence record that stands beside them (RFC 4998).";
+
+/// What the program takes behind the word that names a group of commands, or behind its own name, where this word
+/// stands.
+#[inline(never)]
+pub fn group_line<'a>(alloc: Global, group: Group, word: &str) -> Result<Command<'a>, AllocError> {
+    match group {
+        Group::Program => command_line(alloc, word),
+        Group::Stamps => stamp_line(alloc),
+        Group::Evidence => evidence_line(alloc),
+    }
+}
+
 /// What the program takes on its command line, where this word stands behind its name. If that is a command, no other
 /// one is made, and none if it asks for the version: each takes thousands of instructions.
 #[inline(never)]
-pub fn command_line<'a>(alloc: Global, word: &str) -> Result<Command<'a>, AllocError> {
+fn command_line<'a>(alloc: Global, word: &str) -> Result<Command<'a>, AllocError> {
     let mut line = program(alloc);
     if word == VERSION_WORD {
         return Ok(line);
@@ -52,9 +68,23 @@ fn is_command(word: &str) -> bool {
 
 /// What the program takes behind `stamp`.
 #[inline(never)]
-pub fn stamp_line<'a>(alloc: Global) -> Result<Command<'a>, AllocError> {
-    let mut line = stamps(alloc)?;
-    for named in STAMPS.as_slice() {
+fn stamp_line<'a>(alloc: Global) -> Result<Command<'a>, AllocError> {
+    with_commands(alloc, stamps(alloc)?, STAMPS.as_slice())
+}
+
+/// What the program takes behind `evidence`.
+#[inline(never)]
+fn evidence_line<'a>(alloc: Global) -> Result<Command<'a>, AllocError> {
+    with_commands(alloc, records(alloc)?, EVIDENCE.as_slice())
+}
+
+/// The line with these commands.
+fn with_commands<'a>(
+    alloc: Global,
+    mut line: Command<'a>,
+    commands: &'static [Named],
+) -> Result<Command<'a>, AllocError> {
+    for named in commands {
         line = line.subcommand(command(alloc, named)?)?;
     }
     Ok(line)
@@ -67,6 +97,18 @@ fn stamps<'a>(alloc: Global) -> Result<Command<'a>, AllocError> {
     Ok(
         line.about(ABOUT_STAMPS)
             .after_help(STAMP_LINES)
+            .subcommand_required(true)
+            .arg_required_else_help(true),
+    )
+}
+
+/// The commands about evidence records, with none yet.
+#[inline(never)]
+fn records<'a>(alloc: Global) -> Result<Command<'a>, AllocError> {
+    let line = Command::new(alloc, "evidence").bin_name("cmsproof evidence")?;
+    Ok(
+        line.about(ABOUT_EVIDENCE)
+            .after_help(EVIDENCE_LINES)
             .subcommand_required(true)
             .arg_required_else_help(true),
     )

@@ -14,14 +14,14 @@ Exit status:
 For one file that is read, `-` names standard input; a file of that name is written ./- instead. A
 file to write must not be one to read, except that attach's OUT may be FILE.
 
-`check`, `fit` and `questions` take several FILEs, and `stamp questions` several STAMPs, or with
---files-from a list of their names, where `-` is a file of that name. They read the other lists
-once, go on after a file that fails, and end with the greatest of the statuses. `check` and `fit`
-print a line for each file on standard output, `FILE: ` and what is printed for it alone.
-`questions` prints one text, with a comment before the questions of each file, `# FILE`, or
-`# FILE: ` and the line of one that fails. In FILE and in these lines each octet that isn't one of
-ASCII from space to tilde, a backslash, and a space behind a colon is `\\x` and two digits. Without
---files-from, -0 changes nothing.
+`check`, `fit` and `questions` take several FILEs, `stamp questions` several STAMPs, and `evidence
+questions` several RECORDs, or with --files-from a list of their names, where `-` is a file of that
+name. They read the other lists once, go on after a file that fails, and end with the greatest of
+the statuses. `check` and `fit` print a line for each file on standard output, `FILE: ` and what is
+printed for it alone. The others print one text, with a comment before the questions of each file,
+`# FILE`, or `# FILE: ` and the line of one that fails. In FILE and in these lines each octet that
+isn't one of ASCII from space to tilde, a backslash, and a space behind a colon is `\\x` and two
+digits. Without --files-from, -0 changes nothing.
 
 An option that is the name of a file too is refused, `usage WORD`, and so is `-`: a shell can have
 put it in the place of `*`. Write ./* for *, or -- before it.
@@ -36,6 +36,7 @@ Example:
   cmsproof questions --trust trusted.txt signed.p7s > questions.txt
   cmsproof check --trust trusted.txt --answers answers.txt signed.p7s
   cmsproof stamp check --trust trusted.txt --answers answers.txt response.tsr document.pdf
+  cmsproof evidence check --trust trusted.txt --answers answers.txt record.ers document.pdf
   cmsproof attach --signer 1 --token token.tok signed.p7s stamped.p7s
   cmsproof compare signed.p7s stamped.p7s
   cmsproof migrate trusted.txt trusted-2.txt";
@@ -337,6 +338,85 @@ TRUST is read and judged before STAMP is opened. No signature is checked.
 Examples:
   cmsproof stamp questions --trust trusted.txt response.tsr > questions.txt
   cmsproof stamp questions --trust trusted.txt *.tsr | cmsproof-verify > answers.txt";
+
+/// What the commands about evidence records are.
+pub const EVIDENCE_LINES: &str = "\
+The commands are `evidence check` and `evidence questions`; `cmsproof evidence check --help` says
+what each takes and prints. What is in a record `cmsproof show evidence` shows.
+
+Examples:
+  cmsproof evidence questions --trust trusted.txt record.ers > questions.txt
+  cmsproof evidence check --trust trusted.txt --answers answers.txt record.ers document.pdf";
+
+/// What `evidence check` prints.
+pub const EVIDENCE_CHECK_LINES: &str = "\
+RECORD is an evidence record (RFC 4998, DER): chains of archive time-stamps, each of which has lists
+of hash values, and a time-stamp token for their root. Prints `accepted TIME` if each of them holds:
+its hash values cover each DATA, and all that it renews (5.2, 5.3); a trusted authority made its
+token for the root of its lists (4.3); and its algorithms and its authority still held at the end of
+its use, which is the time of the next one. TIME is the time of the first one, a GeneralizedTime in
+UTC, as 20240131235959Z: by then each DATA existed.
+
+TRUST is a trust list, as the help of `migrate` says, and only its entries `tsa` count; ANSWERS says
+which signatures are good, as the help of `check` says. It is made from what `evidence questions`
+prints.
+
+--end ALG=TIME says until when a digest algorithm holds, that moment included. ALG is a name of
+--alg in the help of `request`, and TIME a GeneralizedTime in UTC, as 20160101000000Z. Without an
+--end an algorithm holds at any time, but SHA-1 at none: it holds only if an --end is given for it.
+If several are given for one algorithm, the earliest counts.
+--at TIME names the end of the use of the last time-stamp, the moment at which it must still hold.
+Without it that is its own time, and nothing is said of what held later, as today.
+--whole refuses a record (W8) whose first list has other hash values than those of DATA: the files
+are then all that it was made for, as a group. Without it the record may be for other files too.
+
+The words are judged first: `usage end` if an --end isn't ALG=TIME, and then `usage at` if the TIME
+of --at is none (status 3). Otherwise one line is printed. For the lists, as by `check`: `trust ..`,
+`answers ..` (status 2). For RECORD, the first of these that fails (status 1):
+  malformed FAULT           RECORD isn't an evidence record in DER (V1, status 2)
+  refused V2 Encrypted      its data are encrypted
+Then `refused chain C stamp S RULE`, for the time-stamp S of the chain C, both counted from 1: the
+first that fails one of W1 to W5; if none does, the first that fails W6 or W7; and then W8.
+  W1 Algorithm              its algorithm isn't known, or isn't that of the first of its chain
+  W2 HashLength             a hash value isn't as long as a digest by its algorithm
+  W3 NotCovered             its lists don't cover DATA, or what it renews
+  W4 RULE                   its token fails this one of K1 to K14, which the help of `stamp check`
+                            has, with the root in place of DATA; here SHA-1 is a matter of W6
+  W5 Order                  it isn't later than the one before; or it is the last, and later than
+                            the TIME of --at
+  W6 Weak                   a digest algorithm doesn't hold at the end of its use: that of its
+                            lists, of its token's imprint or of its token's signer
+  W7 Lapsed                 no certificate under which its token passes is valid and listed then
+  W8 Others                 with --whole: its first list has other hash values than those of DATA
+TRUST is opened, read and judged first, then ANSWERS, then RECORD by V1 and V2. Then each DATA is
+opened and read, once and in pieces, and then the time-stamps are judged. If a DATA can't be read,
+the line is `failed X1 ReadFailed`; if it has more than 2^40 octets, `failed X5 ContentTooLong`;
+both on the standard error (status 4).
+
+Examples:
+  cmsproof evidence check --trust trusted.txt --answers answers.txt record.ers document.pdf
+  cmsproof evidence check --trust trusted.txt --answers answers.txt --end sha1=20160101000000Z \
+--at 20261231235959Z record.ers document.pdf
+  cmsproof evidence check --trust trusted.txt --answers answers.txt --whole record.ers *.pdf";
+
+/// What `evidence questions` prints.
+pub const EVIDENCE_QUESTIONS_LINES: &str = "\
+The text is one of questions, as the help of `questions` says. For the token of each archive
+time-stamp of RECORD, in their order, if it has one signer, who has signed attributes, there is a
+line for each entry of the list in the role `tsa` that its identifier matches. RECORD is an evidence
+record, as the help of `evidence check` says.
+
+Of several RECORDs there is one text, as the help of `cmsproof` says. The answers to it serve for
+all of them.
+
+Otherwise one line is printed: `trust ..` for the list, as by `questions`, and for RECORD:
+  malformed FAULT           RECORD isn't an evidence record in DER (V1, status 2)
+  refused V2 Encrypted      its data are encrypted (status 1)
+TRUST is read and judged before RECORD is opened. No signature is checked.
+
+Examples:
+  cmsproof evidence questions --trust trusted.txt record.ers > questions.txt
+  cmsproof evidence questions --trust trusted.txt *.ers | cmsproof-verify > answers.txt";
 
 /// What `attach` writes and prints.
 pub const ATTACH_LINES: &str = "\

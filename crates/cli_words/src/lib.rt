@@ -5,7 +5,9 @@
 mod arguments;
 mod commands;
 mod grammar;
+mod group;
 mod help;
+mod inputs;
 mod meaning;
 mod several;
 mod vocabulary;

@@ -1,4 +1,4 @@
-ghost use Rattle.std.specs.Prelude.{◌≡◌, ◌⊎◌, codes, option_map, Err, IfErr, IfOk, IfSome, Some, true, false};
+ghost use Rattle.std.specs.Prelude.{◌≡◌, ◌⊎◌, ◌<◌, ◌≤◌, codes, option_map, Err, IfErr, IfOk, IfSome, Some, true, false};
 ghost use Rattle.clap.specs.Matches.{found_of, subcommand_name_of};
 ghost use Rattle.clap.specs.Simple.{subcommand_rows_of};
 ghost use Rattle.clap.specs.Walk.{rows_of};
@@ -6,69 +6,85 @@ ghost use Rattle.clap.specs.declared.parser.matches.Found.{Found};
 ghost use Rattle.clap.specs.Values.{kind_of};
 ghost use Rattle.cli_failures.specs.Causes.{Names};
 ghost use Rattle.cli_words.specs.Words.{asks_for_help, command_of, text_command_of, IsHelp, IsTaskIn, IsTextTaskIn};
-ghost use Rattle.cli_words.specs.Words.{IsWords, is_behind_stamp, is_of_stamp};
-ghost use Rattle.cli_words.specs.Several.{IsManyIn, each_command_of, place_of};
+ghost use Rattle.cli_words.specs.Words.{IsWords};
+ghost use Rattle.cli_words.specs.Groups.{group_of, text_group_of};
+ghost use Rattle.cli_words.specs.Several.{IsManyIn, each_command_of};
+ghost use Rattle.cli_words.specs.Records.{IsEvidenceTaskIn, evidence_command_of};
+ghost use Rattle.cli_words.specs.Meanings.{AsksFor, IsMeaningIn};
+ghost use Rattle.cli_words.specs.Inputs.{evidence_paths, inputs_among, task_paths, IsReadAgain};
 
-use crate::grammar::{command_line, stamp_line};
-use crate::several::{each_in, several_in, stamp_each_in};
+use crate::grammar::group_line;
+use crate::group::{Group, group_named, place_of};
+use crate::inputs::{STANDARD_INPUT, is_evidence_read_twice, is_read_again, is_read_twice};
+use crate::several::{each_of, several_in};
 use crate::words::{
-    attach_words, check_words, compare_words, fit_words, match_words, migrate_words,
-    questions_words, request_words, shown, stamp_questions_words, stamp_words, value,
+    attach_words, check_words, compare_words, evidence_questions_words, evidence_words, fit_words,
+    match_words, migrate_words, questions_words, request_words, shown, stamp_questions_words,
+    stamp_words, value,
 };
 use clap::error::ErrorKind;
 use clap::{ArgMatches, Command};
 use cli_failures::Failure;
-use cli_tasks::{Each, Many, Several, Task, TextTask};
+use cli_tasks::{EvidenceTask, Many, Task, TextTask};
 use std::alloc::Global;
 use std::convert::AsStr;
-
-/// What stands before the commands about stamps by themselves.
-const STAMP: &str = "stamp";
-
-/// Standard input, in the place of the path of a file that is read.
-const STANDARD_INPUT: &str = "-";
 
 /// What the words of the command line ask for.
 #[derive(Debug, Drop)]
 pub enum Meaning<'a> {
     /// A task.
     Task(Task<'a>),
+    /// A task about an evidence record.
+    Evidence(EvidenceTask<'a>),
     /// What a command asks of several files.
     Many(Many<'a>),
     /// Help, or the version: this text.
     Help(String),
 }
 
-/// The name of the places of the files, in the group of commands about stamps or in the other.
-fn place_of(stamps: bool) -> &'static str
-    ensures { result.now ≡ place_of stamps }
+/// What the words ask for, by what the parser found in the grammar of this group. (It is a call of its own, so that its
+/// room on the stack does not lie below the parser.)
+#[inline(never)]
+fn meaning_in<'a>(
+    alloc: Global,
+    group: Group,
+    matches: &ArgMatches<'a>,
+) -> Result<Meaning<'a>, Failure<'a>>
+    ensures command { IfOk result (AsksFor (subcommand_name_of matches.now)) }
+    // The values are those of the arguments that the parser found for this command.
+    ensures words { IfOk result (λ meaning. (given : Found)
+        × (option_map (λ p. p.1) (subcommand_rows_of matches.now) ≡ Some (rows_of given))
+        × IsMeaningIn group given meaning) }
 {
-    if stamps { "STAMP" } else { "FILE" }
+    if let Some(many) = many_in(alloc, group, matches)? {
+        return unambiguous_many(many);
+    }
+    match group {
+        Group::Program => unambiguous(task_in(matches)?),
+        Group::Stamps => unambiguous(stamp_task_in(matches)?),
+        Group::Evidence => unambiguous_evidence(evidence_task_in(alloc, matches)?),
+    }
 }
 
-/// What the words ask of several files, or stamps, if they name several, or a list of them.
+/// What the words ask of several files, or stamps, or records, if they name several, or a list of them.
 fn many_in<'a>(
     alloc: Global,
-    stamps: bool,
+    group: Group,
     matches: &ArgMatches<'a>,
 ) -> Result<Option<Many<'a>>, Failure<'a>>
     ensures command { IfOk result (λ many. IfSome many (λ m.
         subcommand_name_of matches.now ≡ Some (each_command_of m.each))) }
     // The values are those of the arguments that the parser found for this command.
     ensures words { IfOk result (λ many. IfSome many (λ m. (given : Found)
-        × (option_map (λ p. p.1) (subcommand_rows_of matches.now) ≡ Some (rows_of given)) × IsManyIn stamps given m)) }
+        × (option_map (λ p. p.1) (subcommand_rows_of matches.now) ≡ Some (rows_of given)) × IsManyIn group given m)) }
 {
     let Some((command, given)) = matches.subcommand() else {
         return Ok(None);
     };
-    let Some(files) = several_in(alloc, place_of(stamps), given)? else {
+    let Some(files) = several_in(alloc, place_of(group), given)? else {
         return Ok(None);
     };
-    if stamps {
-        let each = stamp_each_in(command, given)?;
-        return Ok(Some(Many { each, files }));
-    }
-    let each = each_in(command, given)?;
+    let each = each_of(group, command, given)?;
     Ok(Some(Many { each, files }))
 }
 
@@ -78,7 +94,7 @@ fn task_in<'a>(matches: &ArgMatches<'a>) -> Result<Task<'a>, Failure<'a>>
     // The values of the task are those of the arguments that the parser found for this command.
     ensures words { IfOk result (λ task. (given : Found)
         × (option_map (λ p. p.1) (subcommand_rows_of matches.now) ≡ Some (rows_of given)) × IsTaskIn given task) }
-    ensures group { IfOk result (λ task. is_behind_stamp task ≡ false) }
+    ensures group { IfOk result (λ task. group_of task ≡ Group.Program) }
 {
     match matches.subcommand() {
         Some(("questions", given)) => Ok(Task::Questions(questions_words(given)?)),
@@ -92,7 +108,7 @@ fn task_in<'a>(matches: &ArgMatches<'a>) -> Result<Task<'a>, Failure<'a>>
 fn text_task_in<'a>(command: &str, given: &ArgMatches<'a>) -> Result<TextTask<'a>, Failure<'a>>
     ensures command { IfOk result (λ task. command.now ≡ text_command_of task) }
     ensures words { IfOk result (IsTextTaskIn (found_of given.now)) }
-    ensures group { IfOk result (λ task. is_of_stamp task ≡ false) }
+    ensures group { IfOk result (λ task. text_group_of task ≡ Group.Program) }
 {
     match command {
         "request" => Ok(TextTask::Request(request_words(given)?)),
@@ -114,7 +130,7 @@ fn stamp_task_in<'a>(matches: &ArgMatches<'a>) -> Result<Task<'a>, Failure<'a>>
     ensures command { IfOk result (λ task. subcommand_name_of matches.now ≡ Some (command_of task)) }
     ensures words { IfOk result (λ task. (given : Found)
         × (option_map (λ p. p.1) (subcommand_rows_of matches.now) ≡ Some (rows_of given)) × IsTaskIn given task) }
-    ensures group { IfOk result (λ task. is_behind_stamp task ≡ true) }
+    ensures group { IfOk result (λ task. group_of task ≡ Group.Stamps) }
 {
     match matches.subcommand() {
         Some((command, given)) => Ok(Task::Text(stamp_text_task_in(command, given)?)),
@@ -130,12 +146,33 @@ fn stamp_text_task_in<'a>(
 ) -> Result<TextTask<'a>, Failure<'a>>
     ensures command { IfOk result (λ task. command.now ≡ text_command_of task) }
     ensures words { IfOk result (IsTextTaskIn (found_of given.now)) }
-    ensures group { IfOk result (λ task. is_of_stamp task ≡ true) }
+    ensures group { IfOk result (λ task. text_group_of task ≡ Group.Stamps) }
 {
     match command {
         "check" => Ok(TextTask::CheckStamp(stamp_words(given)?)),
         "questions" => Ok(TextTask::AskStamp(stamp_questions_words(given)?)),
         // The parser knows no other command.
+        _ => Err(Failure::Usage("command")),
+    }
+}
+
+/// The task that the words name behind `evidence`.
+fn evidence_task_in<'a>(
+    alloc: Global,
+    matches: &ArgMatches<'a>,
+) -> Result<EvidenceTask<'a>, Failure<'a>>
+    ensures command { IfOk result (λ task.
+        subcommand_name_of matches.now ≡ Some (evidence_command_of task)) }
+    ensures words { IfOk result (λ task. (given : Found)
+        × (option_map (λ p. p.1) (subcommand_rows_of matches.now) ≡ Some (rows_of given))
+        × IsEvidenceTaskIn given task) }
+{
+    match matches.subcommand() {
+        Some(("check", given)) => Ok(EvidenceTask::Check(evidence_words(alloc, given)?)),
+        Some(("questions", given)) => {
+            Ok(EvidenceTask::Questions(evidence_questions_words(given)?))
+        }
+        // The parser knows no other command, and demands one.
         _ => Err(Failure::Usage("command")),
     }
 }
@@ -165,33 +202,27 @@ fn meaning_of_error<'a>(alloc: Global, error: &clap::Error) -> Result<Meaning<'a
     }
 }
 
-/// What the words ask for; the first word is the program's name. Behind the word `stamp` stand commands of their own.
-/// (The grammar is made before the words are parsed: each gives its room on the stack back, so that none of it lies
-/// below the other, or below the command.)
+/// What the words ask for; the first word is the program's name. Behind `stamp` and `evidence` stand commands of their
+/// own. (The grammar is made before the words are parsed: each gives its room on the stack back, so that none of it
+/// lies below the other, or below the command.)
 #[inline(never)]
 pub fn meaning_of<'a, S: AsStr>(alloc: Global, words: &'a [S]) -> Result<Meaning<'a>, Failure<'a>> {
-    let stamps = command_word(words) == STAMP;
-    let line = if stamps {
-        stamp_line(alloc)?
-    } else {
-        command_line(alloc, command_word(words))?
-    };
-    meaning_by(alloc, stamps, line, words)
+    let word = command_word(words);
+    let group = group_named(word);
+    let line = group_line(alloc, group, word)?;
+    meaning_by(alloc, group, line, words)
 }
 
-/// The same by this grammar, which is that of the commands about stamps or of the others.
+/// The same by this grammar, which is that of this group.
 #[inline(never)]
 fn meaning_by<'a, S: AsStr>(
     alloc: Global,
-    stamps: bool,
+    group: Group,
     line: Command<'a>,
     words: &'a [S],
 ) -> Result<Meaning<'a>, Failure<'a>> {
-    match line.try_get_matches_from(words_of(stamps, words)) {
-        Ok(matches) => match many_in(alloc, stamps, &matches)? {
-            Some(many) => unambiguous_many(many),
-            None => unambiguous(task_behind(stamps, &matches)?),
-        },
+    match line.try_get_matches_from(words_of(group, words)) {
+        Ok(matches) => meaning_in(alloc, group, &matches),
         Err(error) => meaning_of_error(alloc, &error),
     }
 }
@@ -204,32 +235,19 @@ fn command_word<S: AsStr>(words: &[S]) -> &str {
     }
 }
 
-/// The words that the grammar is for: behind the program's name, or behind `stamp`.
-fn words_of<S>(stamps: bool, words: &[S]) -> &[S] {
-    match words {
-        [_, behind @ ..] if stamps => behind,
+/// The words that the grammar of this group is for: behind the program's name, or behind the word that names the group.
+fn words_of<S>(group: Group, words: &[S]) -> &[S] {
+    match (group, words) {
+        (Group::Stamps | Group::Evidence, [_, behind @ ..]) => behind,
         _ => words,
-    }
-}
-
-/// The task that the words name, behind `stamp` or behind the program's name.
-fn task_behind<'a>(stamps: bool, matches: &ArgMatches<'a>) -> Result<Task<'a>, Failure<'a>>
-    ensures command { IfOk result (λ task. subcommand_name_of matches.now ≡ Some (command_of task)) }
-    ensures words { IfOk result (λ task. (given : Found)
-        × (option_map (λ p. p.1) (subcommand_rows_of matches.now) ≡ Some (rows_of given)) × IsTaskIn given task) }
-    ensures group { IfOk result (λ task. is_behind_stamp task ≡ stamps) }
-{
-    if stamps {
-        stamp_task_in(matches)
-    } else {
-        task_in(matches)
     }
 }
 
 /// The task, unless it would read standard input in the place of two files.
 fn unambiguous<'a>(task: Task<'a>) -> Result<Meaning<'a>, Failure<'a>>
     ensures task { IfOk result (λ meaning. meaning ≡ Meaning.Task task.entry) }
-    ensures refused { IfErr result (Names (codes "-")) }
+    ensures once { IfOk result (λ _. inputs_among (task_paths task.entry) ≤ 1) }
+    ensures refused { IfErr result (λ f. Names (codes "-") f × (1 < inputs_among (task_paths task.entry))) }
 {
     if is_read_twice(&task) {
         Err(Failure::Usage(STANDARD_INPUT))
@@ -238,94 +256,28 @@ fn unambiguous<'a>(task: Task<'a>) -> Result<Meaning<'a>, Failure<'a>>
     }
 }
 
+/// The same for a task about an evidence record.
+fn unambiguous_evidence<'a>(task: EvidenceTask<'a>) -> Result<Meaning<'a>, Failure<'a>>
+    ensures task { IfOk result (λ meaning. meaning ≡ Meaning.Evidence task.entry) }
+    ensures once { IfOk result (λ _. inputs_among (evidence_paths task.entry) ≤ 1) }
+    ensures refused { IfErr result (λ f. Names (codes "-") f × (1 < inputs_among (evidence_paths task.entry))) }
+{
+    if is_evidence_read_twice(&task) {
+        Err(Failure::Usage(STANDARD_INPUT))
+    } else {
+        Ok(Meaning::Evidence(task))
+    }
+}
+
 /// What is asked of several files, unless it would read standard input more than once.
 fn unambiguous_many<'a>(many: Many<'a>) -> Result<Meaning<'a>, Failure<'a>>
     ensures many { IfOk result (λ meaning. meaning ≡ Meaning.Many many.entry) }
-    ensures refused { IfErr result (Names (codes "-")) }
+    ensures once { IfOk result (λ _. ¬ (IsReadAgain many.entry)) }
+    ensures refused { IfErr result (λ f. Names (codes "-") f × IsReadAgain many.entry) }
 {
     if is_read_again(&many) {
         Err(Failure::Usage(STANDARD_INPUT))
     } else {
         Ok(Meaning::Many(many))
-    }
-}
-
-/// Whether two of the files that a task reads are standard input.
-fn is_read_twice(task: &Task<'_>) -> bool {
-    let mut is_read = false;
-    is_among_twice(&inputs_of(task), &mut is_read)
-}
-
-/// Whether a path is standard input that was read already, in these paths or before; and whether it is read then.
-fn is_among_twice(paths: &[Option<&str>], is_read: &mut bool) -> bool {
-    for path in paths {
-        if *path == Some(STANDARD_INPUT) {
-            if *is_read {
-                return true;
-            }
-            *is_read = true;
-        }
-    }
-    false
-}
-
-/// Whether what is asked of several files reads standard input more than once: a content is read for each file.
-fn is_read_again(many: &Many<'_>) -> bool {
-    let (content, lists) = inputs_of_each(&many.each);
-    let mut is_read = false;
-    if content == Some(STANDARD_INPUT) || is_among_twice(&lists, &mut is_read) {
-        return true;
-    }
-    match &many.files {
-        Several::Listed(words) => is_among_twice(&[Some(words.list)], &mut is_read),
-        Several::Words(paths) => {
-            for path in paths {
-                if is_among_twice(&[Some(*path)], &mut is_read) {
-                    return true;
-                }
-            }
-            false
-        }
-    }
-}
-
-/// The paths of the content and of the lists that are read for several files.
-fn inputs_of_each<'a>(each: &Each<'a>) -> (Option<&'a str>, [Option<&'a str>; 2]) {
-    match each {
-        Each::Check(words) => (words.content, [Some(words.trust), Some(words.answers)]),
-        Each::Fit(words) => (words.content, [None, None]),
-        Each::Questions(words) => (None, [Some(words.trust), None]),
-    }
-}
-
-/// The paths of the files that a task reads, of those that may read more than one.
-fn inputs_of<'a>(task: &Task<'a>) -> [Option<&'a str>; 4] {
-    match task {
-        Task::Questions(words) => [Some(words.trust), Some(words.file), None, None],
-        Task::Text(task) => inputs_of_text(task),
-    }
-}
-
-/// The same for a task whose text is made before it is printed.
-fn inputs_of_text<'a>(task: &TextTask<'a>) -> [Option<&'a str>; 4] {
-    match task {
-        TextTask::Check(words) => [
-            Some(words.trust),
-            Some(words.answers),
-            words.content,
-            Some(words.file),
-        ],
-        TextTask::Fit(words) => [words.content, Some(words.file), None, None],
-        TextTask::Match(words) => [Some(words.request), Some(words.response), None, None],
-        TextTask::Compare(words) => [Some(words.first_file), Some(words.second_file), None, None],
-        TextTask::Attach(words) => [Some(words.token), Some(words.file), None, None],
-        TextTask::CheckStamp(words) => [
-            Some(words.trust),
-            Some(words.answers),
-            Some(words.stamp),
-            Some(words.data),
-        ],
-        TextTask::AskStamp(words) => [Some(words.trust), Some(words.stamp), None, None],
-        _ => [None, None, None, None],
     }
 }

@@ -1,9 +1,11 @@
 //! The files that a command takes if it takes several, and what it asks of each.
-ghost use Rattle.std.specs.Prelude.{◌≡◌, true, false, IfOk, IfSome};
+ghost use Rattle.std.specs.Prelude.{◌≡◌, IfOk, IfSome};
 ghost use Rattle.clap.specs.Matches.{found_of};
 ghost use Rattle.cli_words.specs.Several.{IsCheckEachIn, IsEachIn, IsFitEachIn, IsQuestionsEachIn, IsSeveralIn};
-ghost use Rattle.cli_words.specs.Several.{each_command_of, is_about_stamps, is_each_of_stamp};
+ghost use Rattle.cli_words.specs.Several.{each_command_of};
+ghost use Rattle.cli_words.specs.Groups.{about_group_of, each_group_of};
 
+use crate::group::Group;
 use crate::words::{buffer_octets, value};
 use clap::ArgMatches;
 use cli_failures::Failure;
@@ -34,11 +36,28 @@ pub fn several_in<'a>(
     }
 }
 
-/// What the command of this name asks of each of several files.
-pub fn each_in<'a>(command: &str, given: &ArgMatches<'a>) -> Result<Each<'a>, Failure<'a>>
+/// What the command of this name, in this group, asks of each of several files.
+pub fn each_of<'a>(
+    group: Group,
+    command: &str,
+    given: &ArgMatches<'a>,
+) -> Result<Each<'a>, Failure<'a>>
     ensures command { IfOk result (λ each. command.now ≡ each_command_of each) }
     ensures words { IfOk result (IsEachIn (found_of given.now)) }
-    ensures group { IfOk result (λ each. is_each_of_stamp each ≡ false) }
+    ensures group { IfOk result (λ each. each_group_of each ≡ group) }
+{
+    match group {
+        Group::Program => each_in(command, given),
+        Group::Stamps => stamp_each_in(command, given),
+        Group::Evidence => evidence_each_in(command, given),
+    }
+}
+
+/// The same behind the program's name.
+fn each_in<'a>(command: &str, given: &ArgMatches<'a>) -> Result<Each<'a>, Failure<'a>>
+    ensures command { IfOk result (λ each. command.now ≡ each_command_of each) }
+    ensures words { IfOk result (IsEachIn (found_of given.now)) }
+    ensures group { IfOk result (λ each. each_group_of each ≡ Group.Program) }
 {
     match command {
         "check" => Ok(Each::Check(check_each(given)?)),
@@ -50,10 +69,10 @@ pub fn each_in<'a>(command: &str, given: &ArgMatches<'a>) -> Result<Each<'a>, Fa
 }
 
 /// The same behind `stamp`.
-pub fn stamp_each_in<'a>(command: &str, given: &ArgMatches<'a>) -> Result<Each<'a>, Failure<'a>>
+fn stamp_each_in<'a>(command: &str, given: &ArgMatches<'a>) -> Result<Each<'a>, Failure<'a>>
     ensures command { IfOk result (λ each. command.now ≡ each_command_of each) }
     ensures words { IfOk result (IsEachIn (found_of given.now)) }
-    ensures group { IfOk result (λ each. is_each_of_stamp each ≡ true) }
+    ensures group { IfOk result (λ each. each_group_of each ≡ Group.Stamps) }
 {
     match command {
         "questions" => Ok(Each::Questions(stamps_each(given)?)),
@@ -62,10 +81,35 @@ pub fn stamp_each_in<'a>(command: &str, given: &ArgMatches<'a>) -> Result<Each<'
     }
 }
 
+/// The same behind `evidence`.
+fn evidence_each_in<'a>(command: &str, given: &ArgMatches<'a>) -> Result<Each<'a>, Failure<'a>>
+    ensures command { IfOk result (λ each. command.now ≡ each_command_of each) }
+    ensures words { IfOk result (IsEachIn (found_of given.now)) }
+    ensures group { IfOk result (λ each. each_group_of each ≡ Group.Evidence) }
+{
+    match command {
+        "questions" => Ok(Each::Questions(records_each(given)?)),
+        // The parser takes several records for no other command.
+        _ => Err(Failure::Usage("RECORD")),
+    }
+}
+
+/// Who is trusted, whatever the record is whose questions are printed.
+fn records_each<'a>(given: &ArgMatches<'a>) -> Result<QuestionsEach<'a>, Failure<'a>>
+    ensures words { IfOk result (IsQuestionsEachIn (found_of given.now)) }
+    ensures group { IfOk result (λ words. about_group_of words.about ≡ Group.Evidence) }
+{
+    let listed = value(given, "trust")?;
+    Ok(QuestionsEach {
+        trust: listed,
+        about: About::Records,
+    })
+}
+
 /// Who is trusted, whatever the stamp is whose questions are printed.
 fn stamps_each<'a>(given: &ArgMatches<'a>) -> Result<QuestionsEach<'a>, Failure<'a>>
     ensures words { IfOk result (IsQuestionsEachIn (found_of given.now)) }
-    ensures group { IfOk result (λ words. is_about_stamps words.about ≡ true) }
+    ensures group { IfOk result (λ words. about_group_of words.about ≡ Group.Stamps) }
 {
     let listed = value(given, "trust")?;
     Ok(QuestionsEach {
@@ -100,7 +144,7 @@ fn fit_each<'a>(given: &ArgMatches<'a>) -> FitEach<'a>
 /// Who is trusted, whatever the file is whose questions are printed.
 fn questions_each<'a>(given: &ArgMatches<'a>) -> Result<QuestionsEach<'a>, Failure<'a>>
     ensures words { IfOk result (IsQuestionsEachIn (found_of given.now)) }
-    ensures group { IfOk result (λ words. is_about_stamps words.about ≡ false) }
+    ensures group { IfOk result (λ words. about_group_of words.about ≡ Group.Program) }
 {
     let trust = value(given, "trust")?;
     let about = About::Signed(buffer_octets(given)?);

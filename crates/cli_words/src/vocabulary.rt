@@ -14,6 +14,8 @@ pub enum Takes {
     Kind,
     /// `--name` and a value, of which this is the name in the help.
     Text(&'static str),
+    /// The same, any number of times.
+    Texts(&'static str),
     /// `--name` and a number.
     Number,
     /// `--name` and how many octets may be kept.
@@ -22,7 +24,9 @@ pub enum Takes {
     Algorithm,
     /// `--name` alone.
     Nothing,
-    /// One or more values in their places, whose name in the help is the word's; or the word of this name instead.
+    /// One or more values in their places, whose name in the help is the word's.
+    Several,
+    /// The same; or the word of this name instead.
     Places(&'static str),
     /// `--name` and a value, instead of the places of the first name; the second is the value's name in the help.
     List(&'static str, &'static str),
@@ -44,7 +48,7 @@ pub static ALGORITHMS: [&str; 7] = [
 /// What a file may be read as.
 pub static KINDS: [&str; 5] = ["evidence", "request", "response", "signed", "tst"];
 
-/// The list of whom to trust, of `check` and `questions`.
+/// The list of whom to trust, of all commands `check` and `questions`.
 const TRUST: Word = Word {
     name: "trust",
     takes: Takes::Text("TRUST"),
@@ -52,7 +56,7 @@ const TRUST: Word = Word {
     help: "The trust list, as --trust trusted.txt (no default)",
 };
 
-/// The list of what a verifier found good, of `check` and `stamp check`.
+/// The list of what a verifier found good, of all commands `check`.
 const ANSWERS: Word = Word {
     name: "answers",
     takes: Takes::Text("ANSWERS"),
@@ -358,5 +362,64 @@ pub static STAMP_QUESTIONS: [Word; 4] = [
         takes: Takes::Places("files-from"),
         required: false,
         help: "The stamps to read, as document.pdf.tsr or token.tok (no default)",
+    },
+];
+
+/// The words of `evidence check`, in the order of its help.
+pub static EVIDENCE_CHECK: [Word; 7] = [
+    TRUST,
+    ANSWERS,
+    Word {
+        name: "end",
+        takes: Takes::Texts("ALG=TIME"),
+        required: false,
+        help: "The last moment at which the digest algorithm ALG holds, as --end sha1=20160101000000Z; may be given \
+               more than once (by default SHA-1 never holds, and each other algorithm always does)",
+    },
+    Word {
+        name: "at",
+        takes: Takes::Text("TIME"),
+        required: false,
+        help: "The moment at which the last time-stamp must still hold, as --at 20261231235959Z (by default the time \
+               of that time-stamp)",
+    },
+    Word {
+        name: "whole",
+        takes: Takes::Nothing,
+        required: false,
+        help: "Refuses a record whose first list has other hash values than those of DATA (by default it may have \
+               them)",
+    },
+    Word {
+        name: "RECORD",
+        takes: Takes::Place,
+        required: true,
+        help: "The evidence record to read, as record.ers (no default)",
+    },
+    Word {
+        name: "DATA",
+        takes: Takes::Several,
+        required: true,
+        help: "The files that the record must cover, each of them, as document.pdf or /dev/stdin (no default); each \
+               is read once, in pieces, and may have up to 2^40 octets",
+    },
+];
+
+/// The words of `evidence questions`, in the order of its help.
+pub static EVIDENCE_QUESTIONS: [Word; 4] = [
+    TRUST,
+    Word {
+        name: "files-from",
+        takes: Takes::List("RECORD", "LIST"),
+        required: false,
+        help: "Reads the names of the records from LIST, a line for each, in place of RECORD, as --files-from \
+               names.txt or --files-from - (by default the records are named on the command line)",
+    },
+    NULL,
+    Word {
+        name: "RECORD",
+        takes: Takes::Places("files-from"),
+        required: false,
+        help: "The evidence records to read, as record.ers (no default)",
     },
 ];

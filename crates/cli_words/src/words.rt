@@ -1,17 +1,20 @@
-ghost use Rattle.std.specs.Prelude.{◌≡◌, codes, IfErr, IfOk, Some};
+ghost use Rattle.std.specs.Prelude.{◌≡◌, ◌≢◌, [], codes, map, IfErr, IfOk, Some};
 ghost use Rattle.clap.specs.Matches.{found_of, first_value};
 ghost use Rattle.cli_tasks.specs.declared.task.Stamped.{Stamped};
 ghost use Rattle.cli_failures.specs.Causes.{Names};
 ghost use Rattle.cli_words.specs.Words.{IsNumberIn, IsSignerIn, IsStampedIn, IsRequestIn, IsFitIn, IsMatchIn};
 ghost use Rattle.cli_words.specs.Words.{IsMigrateIn, IsQuestionsIn, IsBufferIn, IsCheckIn, IsCompareIn, IsAttachIn};
 ghost use Rattle.cli_words.specs.Words.{IsShownIn, IsStampIn, IsStampQuestionsIn};
+ghost use Rattle.cli_words.specs.Records.{IsEvidenceIn, IsEvidenceQuestionsIn, all_values};
 
 use clap::ArgMatches;
 use cli_failures::Failure;
 use cli_tasks::{
-    AttachWords, CheckWords, CompareWords, FitWords, MatchWords, MigrateWords, QuestionsWords,
-    RequestWords, StampQuestionsWords, StampWords, Stamped, TextTask,
+    AttachWords, CheckWords, CompareWords, EvidenceQuestionsWords, EvidenceWords, FitWords,
+    MatchWords, MigrateWords, QuestionsWords, RequestWords, StampQuestionsWords, StampWords,
+    Stamped, TextTask,
 };
+use std::alloc::Global;
 
 /// The most octets that the words may allow to be kept of a file, 2^30. Decision 132 of `docs/DECISIONS.md`.
 const MOST_BUFFER: u64 = 1_073_741_824;
@@ -181,6 +184,73 @@ pub fn stamp_questions_words<'a>(
     Ok(StampQuestionsWords {
         trust: value(given, "trust")?,
         stamp: value(given, "STAMP")?,
+    })
+}
+
+/// All values of an argument, in the order of the words; none if it is absent.
+fn values<'a>(
+    alloc: Global,
+    given: &ArgMatches<'a>,
+    name: &'static str,
+) -> Result<Vec<&'a str>, Failure<'a>>
+    ensures values { IfOk result (λ found. map (λ s. s.now) found.items ≡ all_values (found_of given.now) name.now) }
+    ensures memory { IfErr result (λ f. f ≡ Failure.Memory) }
+{
+    let mut found = Vec::new(alloc);
+    if let Some(values) = given.get_strs(name) {
+        found.extend_from_slice(values)?;
+    }
+    Ok(found)
+}
+
+/// The same for an argument that the parser demands.
+fn some_values<'a>(
+    alloc: Global,
+    given: &ArgMatches<'a>,
+    name: &'static str,
+) -> Result<Vec<&'a str>, Failure<'a>>
+    ensures values { IfOk result (λ found. map (λ s. s.now) found.items ≡ all_values (found_of given.now) name.now) }
+    ensures some { IfOk result (λ found. found.items ≢ []) }
+{
+    let found = values(alloc, given, name)?;
+    if found.is_empty() {
+        return Err(Failure::Usage(name));
+    }
+    Ok(found)
+}
+
+/// The record that is checked, the files that it should be for, the lists, and how long algorithms and the last
+/// time-stamp must hold.
+pub fn evidence_words<'a>(
+    alloc: Global,
+    given: &ArgMatches<'a>,
+) -> Result<EvidenceWords<'a>, Failure<'a>>
+    ensures { IfOk result (IsEvidenceIn (found_of given.now)) }
+{
+    let (trust, answers) = (value(given, "trust")?, value(given, "answers")?);
+    let record = value(given, "RECORD")?;
+    let ends = values(alloc, given, "end")?;
+    let data = some_values(alloc, given, "DATA")?;
+    Ok(EvidenceWords {
+        trust,
+        answers,
+        ends,
+        at: given.get_str("at"),
+        whole: given.get_flag("whole"),
+        record,
+        data,
+    })
+}
+
+/// The record whose questions are printed, and the trust list.
+pub fn evidence_questions_words<'a>(
+    given: &ArgMatches<'a>,
+) -> Result<EvidenceQuestionsWords<'a>, Failure<'a>>
+    ensures { IfOk result (IsEvidenceQuestionsIn (found_of given.now)) }
+{
+    Ok(EvidenceQuestionsWords {
+        trust: value(given, "trust")?,
+        record: value(given, "RECORD")?,
     })
 }
 

@@ -7,6 +7,8 @@ use Rattle.cms_compare.specs.declared.fault.CompareRule.TheVariants as compare
 use Rattle.check_questions.specs.declared.fault.QuestionsFault.TheVariants as questions
 use Rattle.check_fit.specs.declared.rules.FileRule.TheVariants as file
 use Rattle.check_fit.specs.declared.rules.Refused.TheVariants as refused
+use Rattle.check_evidence.specs.declared.rules.RecordRule.TheVariants as record_rule
+use Rattle.check_evidence.specs.declared.rules.EvidenceRefused.TheVariants as evidence
 use Rattle.cli_failures.specs.declared.failure.Failure.{Failure}
 use Rattle.cli_failures.specs.declared.failure.Failure.TheVariants as failure
 use Rattle.cli_failures.specs.declared.status.Status.{Status}
@@ -51,6 +53,11 @@ never_done failure.Collision ends = cc
 never_done (failure.Uncompared why) ends = uncompared why.rule ends
 never_done (failure.Unattached why) ends = cc
 never_done (failure.Unstamped why) ends = cc
+never_done (failure.Unshown (evidence.Record (record_rule.Malformed fault))) ends = cc
+never_done (failure.Unshown (evidence.Record record_rule.Encrypted)) ends = cc
+never_done (failure.Unshown (evidence.Record record_rule.NoData)) ends = cc
+never_done (failure.Unshown (evidence.Stamp chain stamp rule)) ends = cc
+never_done (failure.Unshown (evidence.Device fault)) ends = cc
 never_done (failure.Trust fault) ends = cc
 never_done (failure.Answers fault) ends = cc
 never_done (failure.Open path) ends = cc

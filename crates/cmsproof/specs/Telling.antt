@@ -11,6 +11,7 @@ use Rattle.cli_words.specs.declared.meaning.Meaning.TheVariants as meaning
 use Rattle.cli_commands.specs.Rereading.{Sayings}
 use Rattle.cli_commands.specs.Tasks.{IsDoneBy, StopsBy}
 use Rattle.cli_commands.specs.Telling.{TellsMalformed, TellsRefusal}
+use Rattle.cli_evidence.specs.Tasks as evidence
 use Rattle.cli_files.specs.Lines.{AreAll, AreFiles, EndsMany, TellsMany}
 
 -- of a task what its command prints, of what is asked of several files the lines of all, and of help its text
@@ -19,6 +20,7 @@ abbrev pub IsToldBy : {F : Type 0} → (holds : F → Option (List ℕ)) → (sa
 IsToldBy holds says (meaning.Task task) text = IsDoneBy holds task text
 IsToldBy holds says (meaning.Many many) text = (paths : List (Bor (List ℕ))) × AreFiles holds many.files paths
     × AreAll holds says many.each paths text status.Done
+IsToldBy holds says (meaning.Evidence task) text = evidence.IsDoneBy holds task text
 IsToldBy holds says (meaning.Help help) text = text ≡ string_bytes help
 
 -- a command failed: a writer took a beginning of what is printed of a task, of several files or of help, if what it
@@ -28,6 +30,7 @@ abbrev pub IsStoppedBy : {F : Type 0} → (holds : F → Option (List ℕ)) → 
 IsStoppedBy holds says (meaning.Task task) before after = StopsBy holds says task before after
 IsStoppedBy holds says (meaning.Many many) before after =
     EndsMany holds says many.each many.files status.Failed before after
+IsStoppedBy holds says (meaning.Evidence task) before after = evidence.StopsBy holds task before after
 IsStoppedBy holds says (meaning.Help help) before after = Begins before after (string_bytes help)
 
 -- a writer took the line of a file that isn't of its form, or the lines of several of which this is the worst that is

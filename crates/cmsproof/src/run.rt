@@ -69,6 +69,7 @@ where
     match meaning {
         Meaning::Task(task) => cli_commands::run(rt, task, out, err),
         Meaning::Many(many) => cli_files::run(rt, &many, out, err),
+        Meaning::Evidence(task) => cli_evidence::run(rt, &task, out, err),
         Meaning::Help(text) => cli_commands::print(text.as_str(), out, err),
     }
 }

@@ -15,12 +15,18 @@
 //! window through which the files pass, as `questions_stream` does, and a `Checker`, the trust list and the policy with
 //! what is kept of the list.
 //!
+//! `check_evidence` judges an evidence record (RFC 4998) by digests of data objects; `wanted_by` says by which
+//! algorithms they must be digested, which `digests_from` does; `questions_of_record` lists what a verifier will be
+//! asked. An `End` says until when an algorithm holds.
+//!
 //! A content and a file come from a `Source`, which `Slice` makes of octets and `FromRead` of a reader; what is written
 //! goes to a `Sink`, which `FromWrite` makes of a writer.
 #![tactic(auto)]
 
+pub use check_evidence::{EvidenceRefused, RecordRule, StampRule};
 pub use check_fit::{
-    DeviceFault, FileRule, Policy, Refused, SignerRule, TokenRefused, TokenRule, fits, signer_fits,
+    DeviceFault, FileRule, Policy, Refused, SignerRule, TokenRefused, TokenRule, digests_from,
+    fits, signer_fits,
 };
 pub use check_questions::{QuestionsFault, questions, token_questions};
 pub use check_stream::{
@@ -38,7 +44,10 @@ pub use der_time::Moment;
 pub use devices::{
     FromRead, FromWrite, Fused, Limited, Pieces, Sink, SinkFault, Slice, Source, SourceFault,
 };
-pub use digests::{Alg, Algs, Digest, digest};
+pub use digests::{Alg, Algs, Digest, WantedDigests, digest};
+pub use evidence_questions::{RecordQuestionsFault, questions_of_record};
+pub use evidence_stamps::End;
+pub use judge_evidence::{check_evidence, wanted_by};
 pub use lines_report::report;
 pub use list_answers::{
     Answers, AnswersFault, AnswersRule, AskFault, FusedVerifier, Question, Verifier,

@@ -10,13 +10,16 @@ use Rattle.check_questions.specs.Written.{EncodesNothing}
 use Rattle.library_answers.specs.declared.answer.Answer.{Answer}
 use Rattle.library_calls.specs.Checked.{terms_under, IsChecked, SaysYes, SaysMoment, AnswersAsked}
 use Rattle.library_calls.specs.CheckedTokens.{SaysPasses}
+use Rattle.library_calls.specs.Evidence.{SaysShown}
 use Rattle.library_calls.specs.Questions.{IsAskedIfMemory}
 use Rattle.library_calls.specs.Stamps.{SaysStamped}
+use Rattle.library_calls.specs.Stated.{EvidenceCheck}
 use Rattle.library_calls.proofs.Asking.{checked_by_asked}
 use Rattle.library_calls.proofs.Checking.{says_yes, says_moment, checked_suffices}
 use Rattle.library_calls.proofs.CheckingTokens.{says_passes}
+use Rattle.library_calls.proofs.EvidenceSaid.{says_shown}
 use Rattle.library_calls.proofs.StampsSaid.{says_stamped}
-use Rattle.cmsproof_c.specs.Held.{SaysNoList, IsCheck, IsStampCheck, IsTokenCheck, AsksFile}
+use Rattle.cmsproof_c.specs.Held.{SaysNoList, IsCheck, IsEvidenceCheck, IsStampCheck, IsTokenCheck, AsksFile}
 
 module _ (octets : List ℕ) (content : Option (List ℕ)) (sha1 : Bool) (said : Answer) (status : ℕ) (before : List ℕ)
     (size : ℕ) (after : List ℕ) where
@@ -77,6 +80,15 @@ stamped_held stamp stamped sha1 said status before size after (Some l) (Some a) 
     says_stamped said status before size after (terms_under l a sha1) stamp stamped m h
 stamped_held stamp stamped sha1 said status before size after (Some l) None h = tt
 stamped_held stamp stamped sha1 said status before size after None asked h = tt
+
+pub shown_held : (input : EvidenceCheck) (said : Answer) (status : ℕ) (before : List ℕ) (size : ℕ) (after : List ℕ)
+    (list : Option (List EntryValue)) (asked : Option (List Asked))
+    → IsEvidenceCheck list asked input said status before size after
+    → IfSome list (λ l. IfSome asked (λ a. (m : ℕ) → SaysShown l a input said status m))
+shown_held input said status before size after (Some l) (Some a) h = λ m.
+    says_shown said status before size after l a input m h
+shown_held input said status before size after (Some l) None h = tt
+shown_held input said status before size after None asked h = tt
 
 module _ (octets : List ℕ) (said : Answer) (status : ℕ) (before : List ℕ) (size : ℕ) (after : List ℕ) where
   pub only_held : (list : Option (List EntryValue)) → AsksFile list octets said status before size after

@@ -6,8 +6,10 @@ use Rattle.library_answers.specs.declared.answer.Answer.{Answer}
 use Rattle.library_answers.specs.Numbers.{nothing}
 use Rattle.library_calls.specs.Checked.{terms_under, IsChecked}
 use Rattle.library_calls.specs.CheckedTokens.{IsTokenChecked}
+use Rattle.library_calls.specs.Evidence.{IsEvidenceChecked, IsEvidenceQuestioned}
 use Rattle.library_calls.specs.Questions.{IsQuestioned}
 use Rattle.library_calls.specs.Stamps.{IsStampChecked, IsStampQuestioned}
+use Rattle.library_calls.specs.Stated.{EvidenceCheck}
 
 -- the number of entries, with status 1; without a list 0, and status 8
 abbrev pub CountsEntries : (held : Option (List EntryValue)) → (count status : ℕ) → Type 0
@@ -53,6 +55,20 @@ abbrev pub AsksStamp : (list : Option (List EntryValue)) → (stamp : List ℕ) 
     (status : ℕ) (before : List ℕ) (size : ℕ) (after : List ℕ) → Type 0
 AsksStamp (Some list) stamp said status before size after = IsStampQuestioned list stamp said status before size after
 AsksStamp None stamp said status before size after = SaysNoList said status before size after
+
+-- the same for an evidence record
+abbrev pub IsEvidenceCheck : (list : Option (List EntryValue)) → (asked : Option (List Asked)) → EvidenceCheck
+    → (said : Answer) (status : ℕ) (before : List ℕ) (size : ℕ) (after : List ℕ) → Type 0
+IsEvidenceCheck (Some list) (Some asked) input said status before size after =
+    IsEvidenceChecked list asked input said status before size after
+IsEvidenceCheck list asked input said status before size after = SaysNoList said status before size after
+
+-- with a list what is said of the record's questions; without one nothing
+abbrev pub AsksEvidence : (list : Option (List EntryValue)) → (octets : List ℕ) → (said : Answer)
+    (status : ℕ) (before : List ℕ) (size : ℕ) (after : List ℕ) → Type 0
+AsksEvidence (Some list) octets said status before size after =
+    IsEvidenceQuestioned list octets said status before size after
+AsksEvidence None octets said status before size after = SaysNoList said status before size after
 
 -- with a list what is said of the file's questions; without one nothing
 abbrev pub AsksFile : (list : Option (List EntryValue)) → (octets : List ℕ) → (said : Answer)

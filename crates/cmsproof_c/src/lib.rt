@@ -7,6 +7,7 @@ mod answers;
 mod answers_handle;
 mod answers_seal;
 mod check;
+mod evidence;
 mod lists;
 mod parts;
 mod questions;
@@ -23,6 +24,7 @@ pub use answers::{cmsproof_answers_free, cmsproof_answers_read};
 pub use answers_handle::AnswersHandle;
 pub use answers_seal::AnswersSeal;
 pub use check::cmsproof_check;
+pub use evidence::{cmsproof_evidence_check, cmsproof_evidence_questions};
 pub use questions::cmsproof_questions;
 pub use requests::{
     cmsproof_attach, cmsproof_request, cmsproof_request_of, cmsproof_request_of_signature,

@@ -4,3 +4,4 @@ pub mod Members
 pub mod Returned
 pub mod Alike
 pub mod Verdicts
+pub mod Checks

@@ -22,7 +22,7 @@ use Rattle.evidence_questions.specs.Laws.{IsStampOf, RecordAnswers, by_answers, 
 use Rattle.evidence_questions.proofs.Alike.{back_again, SignedStamp, lasts_along, passes_along, fail_alike}
 
 -- the stamp at a place is one of the stamps
-at_place : (chains : List (List StampValue)) (p : Place) → IsIn chains p → Contains (stamps_of chains) p.stamp
+pub at_place : (chains : List (List StampValue)) (p : Place) → IsIn chains p → Contains (stamps_of chains) p.stamp
 at_place chains p is =
     let here : Contains (chain_of p) p.stamp =
     Contains-append_right p.before (p.stamp ∷ p.after) p.stamp (0, omega arith, refl) in

@@ -19,6 +19,7 @@ use Rattle.check_evidence.specs.Standing.{Lasts}
 use Rattle.check_evidence.specs.Showing.{Shows}
 use Rattle.check_evidence.specs.Refusing.{Refuses}
 use Rattle.check_evidence.specs.declared.rules.EvidenceRefused.{EvidenceRefused}
+use Rattle.judge_evidence.specs.Asking.{IsAskedOfRecord}
 use Rattle.evidence_questions.specs.RecordQuestions.{AreQuestionsOfRecord, IsRecordQuestion}
 
 -- the members of the list are the questions about the tokens of the record
@@ -48,6 +49,11 @@ abbrev pub StampsAskTheListed : Type 0
 StampsAskTheListed = (policy : Policy) (trust : List EntryValue) (octets : List ℕ) (qs : List Asked)
     → AreQuestionsOfRecord trust octets qs → (s : StampValue) → IsStampOf octets s → (due : Due) (q : Asked)
     → IsAskedFor policy trust due s.stamp q → Contains qs q
+
+-- and so is each that a check of the record asks
+abbrev pub ChecksAskTheListed : Type 0
+ChecksAskTheListed = (g : Grounds) (octets : List ℕ) (qs : List Asked) → AreQuestionsOfRecord g.trust octets qs
+    → (data_objects : List (List ℕ)) (q : Asked) → IsAskedOfRecord g octets data_objects q → Contains qs q
 
 -- these answers to the questions of the record are those of the verifier
 abbrev pub RecordAnswers : Grounds → (octets : List ℕ) → (Asked → Bool) → Type 0

@@ -1,7 +1,7 @@
 //! What holds of the questions of evidence records: there is no code to run.
 
 ghost use Rattle.evidence_questions.specs.Laws.{RecordsListTheQuestions, RecordsHaveQuestions, RecordsHaveOneList};
-ghost use Rattle.evidence_questions.specs.Laws.{StampsAskTheListed};
+ghost use Rattle.evidence_questions.specs.Laws.{StampsAskTheListed, ChecksAskTheListed};
 ghost use Rattle.evidence_questions.specs.Laws.{StampsPassAlike, StampsFailAlike, StampsLastAlike};
 ghost use Rattle.evidence_questions.specs.Laws.{RecordsShowAlike, RecordsRefusedAlike};
 
@@ -12,6 +12,8 @@ pub fn record_questions_are_those_asked()
     ensures members { RecordsListTheQuestions }
     // What a check of a time-stamp's token asks is in the list, whatever is due as its imprint.
     ensures asked { StampsAskTheListed }
+    // And so is each question that `check_evidence` asks of the record.
+    ensures checks { ChecksAskTheListed }
     // Each evidence record of octets whose data are not encrypted has such a list.
     ensures some { RecordsHaveQuestions }
     // A record has at most one such list.

@@ -248,12 +248,14 @@ module _ (g : Grounds) (ds : List (List ℕ)) (p : Place) (s : StampValue) (is :
   no_moment root r (unfit.Rule rule.Others) h = absurd h
 
 -- a question about the token on the root is about the stamp
-pub asked_of : (checker : CheckerValue) (s : StampValue) (covered : List (List ℕ)) (alg : Alg) → HasAlg s alg
-    → (root : Digest) → IsRootFor alg s.lists covered root → (token : List ℕ) → token ≡ s.stamp → (q : Asked)
-    → IsAskedFor checker.policy checker.trust (of_digest root) token q → IsAskedOfStamp checker s covered q
-asked_of checker s covered alg own root r token e q about = record {
+pub asked_of : (checker : CheckerValue) (s : StampValue) (first : Option Alg) (covered : List (List ℕ)) (alg : Alg)
+    → HasAlg s alg → first ≡ Some alg → (root : Digest) → IsRootFor alg s.lists covered root → (token : List ℕ)
+    → token ≡ s.stamp → (q : Asked) → IsAskedFor checker.policy checker.trust (of_digest root) token q
+    → IsAskedOfStamp checker s first covered q
+asked_of checker s first covered alg own chain root r token e q about = record {
   alg = alg;
   its = own;
+  same = chain;
   lengths = r.lengths;
   covers = r.covers;
   root = octets_of root;

@@ -1,5 +1,5 @@
 -- What is answered about an archive time-stamp: that it fits, or the first of W1 to W5 that it fails.
-use Rattle.std.specs.Prelude.{◌≡◌, ℕ, ◌⊎◌, ◌<◌, ◌≤◌, true, Bool, List, Option, Result, Ok, Err, IfSome}
+use Rattle.std.specs.Prelude.{◌≡◌, ℕ, ◌⊎◌, ◌<◌, ◌≤◌, true, Bool, List, Option, Some, Result, Ok, Err, IfSome}
 use Rattle.devices.specs.Device.{raised}
 use Rattle.digests.specs.Digests.{alg_of, octets_of}
 use Rattle.digests.specs.declared.algorithm.Alg.{Alg}
@@ -40,11 +40,13 @@ abbrev pub CountsUnfit : {T : Type 0} → Result T Unfit → (count count' : ℕ
 CountsUnfit (Err (unfit.Device device.AskFailed)) count count' = count' ≡ raised count
 CountsUnfit result count count' = count' ≡ count
 
--- asked about the token of a stamp by this algorithm, on the root of lists that cover these values
-pub record IsAskedOfStamp (checker : CheckerValue) (s : StampValue) (covered : List (List ℕ)) (q : Asked)
-    : Type 0 where
+-- asked about the token of a stamp, whose algorithm is that of the first of its chain, on the root of lists that cover
+-- these values
+pub record IsAskedOfStamp (checker : CheckerValue) (s : StampValue) (first : Option Alg) (covered : List (List ℕ))
+    (q : Asked) : Type 0 where
   pub alg : Alg
   pub its : HasAlg s alg
+  pub same : first ≡ Some alg
   pub lengths : HasLengths s.lists alg
   pub covers : IsCovered s.lists covered
   pub root : List ℕ

@@ -146,7 +146,7 @@ pub fn fit_of<V: Verifier>(
         → IsFitOf g data_objects p result }
     // The verifier is asked only about its token, if W1 to W3 hold.
     ensures only { AsksOnly (λ test. V.asked_only test verifier.old verifier.new)
-        (IsAskedOfStamp checker.old stamp.now (map octets_of around.now.covered.now)) }
+        (IsAskedOfStamp checker.old stamp.now around.now.alg (map octets_of around.now.covered.now)) }
     // No memory is asked for if each of its lists stands in ascending order.
     ensures memory { All IsAscending (unwrap_or stamp.now.lists [])
         → result ≢ Err (Unfit.Device DeviceFault.OutOfMemory) }

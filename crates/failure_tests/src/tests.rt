@@ -1,5 +1,6 @@
 //! What the commands do if an output fails, and of values that the words of a command line can't have.
 mod memory;
+mod records;
 
 use cli_commands::{print, run};
 use cli_failures::Failure;

@@ -27,7 +27,7 @@ no_objects [] [] e h = refl
 no_objects [] (d ∷ ds) e h = absurd h
 no_objects (x ∷ digests) ds e h = absurd cc
 
-some_objects : (digests : List WantedDigests) (ds : List (List ℕ)) → digests ≢ [] → AreOfData digests ds → ds ≢ []
+pub some_objects : (digests : List WantedDigests) (ds : List (List ℕ)) → digests ≢ [] → AreOfData digests ds → ds ≢ []
 some_objects [] ds some h = absurd (some refl)
 some_objects (x ∷ digests) [] some h = absurd h
 some_objects (x ∷ digests) (d ∷ ds) some h = λ e. cc

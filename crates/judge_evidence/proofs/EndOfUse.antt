@@ -13,7 +13,9 @@ use Rattle.cms_types.specs.SignedDataValue.{SignedDataValue}
 use Rattle.check_fit.specs.declared.policy.Policy.{Policy}
 use Rattle.check_fit.proofs.Readings.{one_value}
 use Rattle.tsp_types.specs.ImprintValue.{ImprintValue}
+use Rattle.trust_lists.specs.Asking.{Asked}
 use Rattle.evidence_types.specs.StampValue.{StampValue}
+use Rattle.check_verdict.specs.Trusted.{asked}
 use Rattle.check_verdict.specs.Passing.{IsDue, IsImprint}
 use Rattle.check_evidence.specs.declared.rules.StampRule.{StampRule}
 use Rattle.check_evidence.specs.declared.rules.StampRule.TheVariants as rule
@@ -23,7 +25,8 @@ use Rattle.check_evidence.specs.StampStates.{HasTime, IsUntil, IsUntilBy}
 use Rattle.check_evidence.specs.Standing.{FitsIn, AlgsHold, Lasts, Stands}
 use Rattle.check_evidence.specs.Failing.{FailsToLast}
 use Rattle.evidence_stamps.specs.StateValue.{StateValue, IsState, IsStateOf}
-use Rattle.evidence_stamps.specs.MayLast.{TokenLasts}
+use Rattle.evidence_stamps.specs.MayLast.{TokenLasts, MayLast, IsAskedToLast}
+use Rattle.judge_evidence.specs.Asking.{IsAskedToLastAt}
 use Rattle.judge_evidence.specs.Running.{ShowsTime, IsFound}
 use Rattle.judge_evidence.proofs.StampTimes.{some_is, passes_at}
 
@@ -98,16 +101,23 @@ module _ (g : Grounds) (ds : List (List ℕ)) (p : Place) (alg : Alg) (m : ℕ) 
     lasts = h;
   }
 
+  -- its one signer, with its signed attributes, is that under which it passes
+  same_signer : (s : SignerValue) → st.signed.signers ≡ s ∷ [] → s ≡ f.imprints.passes.signer
+  same_signer s one = first_one s f.imprints.passes.signer (sym one ∙ signers_are)
+
+  same_attributes : (s : SignerValue) (attributes : List AttributeValue) → st.signed.signers ≡ s ∷ []
+      → s.signed_attributes ≡ Some attributes → attributes ≡ f.imprints.passes.attributes
+  same_attributes s attributes one has = some_is attributes f.imprints.passes.attributes
+      f.imprints.passes.signer.signed_attributes
+      (subst (λ (x : SignerValue). x.signed_attributes ≡ Some attributes) (same_signer s one) has)
+      f.imprints.passes.has
+
   to_lasts : (until : ℕ) → TokenLasts g st.signed m until
       → Lasts g f.imprints.passes.signer f.imprints.passes.attributes m until
   to_lasts until h =
-      let signer : h.signer ≡ f.imprints.passes.signer = first_one h.signer f.imprints.passes.signer
-      (sym h.one_signer ∙ signers_are) in
-      let attributes : h.attributes ≡ f.imprints.passes.attributes = some_is h.attributes f.imprints.passes.attributes
-      f.imprints.passes.signer.signed_attributes
-      (subst (λ (s : SignerValue). s.signed_attributes ≡ Some h.attributes) signer h.has) f.imprints.passes.has in
-      subst (λ (a : List AttributeValue). Lasts g f.imprints.passes.signer a m until) attributes
-      (subst (λ (s : SignerValue). Lasts g s h.attributes m until) signer h.lasts)
+      subst (λ (a : List AttributeValue). Lasts g f.imprints.passes.signer a m until)
+      (same_attributes h.signer h.attributes h.one_signer h.has)
+      (subst (λ (s : SignerValue). Lasts g s h.attributes m until) (same_signer h.signer h.one_signer) h.lasts)
 
   -- the algorithm of its signer is known
   signer_known : (signer : Option Alg) → ((s : SignerValue) (a : Alg) → st.signed.signers ≡ s ∷ []
@@ -147,6 +157,25 @@ module _ (g : Grounds) (ds : List (List ℕ)) (p : Place) (alg : Alg) (m : ℕ) 
         algs = strong;
         not = λ h. ends (from_lasts until h);
       }
+
+      -- what is asked then is asked about the stamp
+      pub asked_to_last : (q : Asked) → IsAskedToLast g.trust st.signed m until q → IsAskedToLastAt g ds p q
+      asked_to_last q h =
+          let signer = same_signer h.signer h.one_signer in
+          let attributes = same_attributes h.signer h.attributes h.one_signer h.has in
+          record {
+            alg = alg;
+            moment = m;
+            fits = f;
+            until = until;
+            is_until = u;
+            algs = strong;
+            entry = h.entry;
+            trusted = h.trusted;
+            may = subst (λ (a : List AttributeValue). MayLast f.imprints.passes.signer a m until h.entry) attributes
+                (subst (λ (s : SignerValue). MayLast s h.attributes m until h.entry) signer h.may);
+            is = h.is ∙ (λ i. asked h.entry.certificate (signer i) (attributes i));
+          }
 
       pub it_stands : TokenLasts g st.signed m until → Stands g ds p
       it_stands h = record {

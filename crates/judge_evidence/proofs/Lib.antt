@@ -11,6 +11,7 @@ pub mod Running
 pub mod Values
 pub mod EndOfUse
 pub mod Judging
+pub mod Asked
 pub mod Loops
 pub mod Answered
 pub mod Wanting

@@ -3,6 +3,7 @@ use Rattle.std.proofs.Common.{◌≡◌, ℕ, Bool, List, Option, None, Result, 
 use Rattle.trust_lists.specs.Asking.{Asked}
 use Rattle.digests.specs.declared.selection.WantedDigests.{WantedDigests}
 use Rattle.evidence_types.specs.StampValue.{StampValue}
+use Rattle.check_verdict.specs.Asks.{AsksOnly}
 use Rattle.check_verdict.specs.Checkers.{CheckerValue}
 use Rattle.check_evidence.specs.Grounds.{Grounds}
 use Rattle.digests.specs.declared.algorithm.Alg.{Alg}
@@ -10,6 +11,7 @@ use Rattle.check_evidence.specs.Places.{Place, IsIn}
 use Rattle.check_evidence.specs.Standing.{FitsIn}
 use Rattle.check_evidence.specs.declared.rules.StampRule.{StampRule}
 use Rattle.evidence_stamps.specs.StateValue.{StateValue, IsStateOf}
+use Rattle.judge_evidence.specs.Asking.{IsAskedOfChains}
 use Rattle.judge_evidence.specs.Data.{AreOfData}
 use Rattle.judge_evidence.specs.Running.{IsRunAt, IsFound}
 use Rattle.judge_evidence.specs.Terms.{grounds_of, checker_of}
@@ -21,10 +23,11 @@ use Rattle.judge_evidence.specs.declared.terms.Terms.{Terms}
 
 pub record IsAtPlace (g : Grounds) (terms : Terms) (chains : List (List StampValue)) (digests : List WantedDigests)
     (p : Place) (run : Run) (its : Option StateValue) (checker : CheckerValue) (vouches : Asked → Bool)
-    (first count : ℕ) : Type 0 where
+    (Only : (Asked → Bool) → Type 0) (first count : ℕ) : Type 0 where
   pub there : IsIn chains p
   pub state : IsStateOf p.stamp.stamp its
   pub runs : (ds : List (List ℕ)) → AreOfData digests ds → IsRunAt g ds chains p run
+  pub only : (ds : List (List ℕ)) → AreOfData digests ds → AsksOnly Only (IsAskedOfChains g ds chains)
   pub goes : checker ≡ checker_of terms
   pub same : vouches ≡ g.vouches
   pub counted : count ≡ first

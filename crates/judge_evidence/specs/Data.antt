@@ -1,5 +1,5 @@
 -- The digests of data objects that a check is given, and what they say of hash values.
-use Rattle.std.specs.Prelude.{◌≡◌, ◌≢◌, ℕ, true, List, [], Option, Some, None}
+use Rattle.std.specs.Prelude.{◌≡◌, ◌≢◌, ◌↔◌, ℕ, true, List, [], Option, Some, None}
 use Rattle.std.specs.List.{AllZip, AllByRecursion}
 use Rattle.der_core.specs.Element.{el}
 use Rattle.digests.specs.Digests.{octets_of}
@@ -7,6 +7,7 @@ use Rattle.digests.specs.Messages.{digest_of}
 use Rattle.digests.specs.Selection.{AreOfWanted, set_given}
 use Rattle.digests.specs.Sets.{is_in}
 use Rattle.digests.specs.declared.algorithm.Alg.{Alg}
+use Rattle.digests.specs.declared.set.Algs.{Algs}
 use Rattle.digests.specs.declared.selection.WantedDigests.{WantedDigests}
 use Rattle.digests.specs.declared.value.Digest.{Digest}
 use Rattle.evidence_types.specs.StampValue.{StampValue}
@@ -28,6 +29,10 @@ pub record IsFirstAlg (chains : List (List StampValue)) (alg : Alg) : Type 0 whe
   pub there : IsIn chains place
   pub first : place.before ≡ []
   pub its : HasAlg place.stamp alg
+
+-- they are in the set, and no others
+abbrev pub AreFirstAlgs : (chains : List (List StampValue)) → Algs → Type 0
+AreFirstAlgs chains wanted = (alg : Alg) → is_in alg wanted ≡ true ↔ IsFirstAlg chains alg
 
 -- of each data object there are digests by the algorithms of the chains' first stamps
 abbrev pub HaveWanted : (chains : List (List StampValue)) → List WantedDigests → Type 0

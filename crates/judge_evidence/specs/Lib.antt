@@ -6,4 +6,5 @@ pub mod Data
 pub mod Running
 pub mod Terms
 pub mod Walking
+pub mod Asking
 pub mod RecordVerdicts

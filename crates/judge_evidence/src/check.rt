@@ -1,12 +1,14 @@
 //! The check of an evidence record (RFC 4998 5.3).
 ghost use Rattle.std.specs.Prelude.{◌≡◌, ℕ, List};
 ghost use Rattle.evidence_types.specs.EvidenceValue.{EvidenceValue, EncodesEvidence};
+ghost use Rattle.check_verdict.specs.Asks.{AsksOnly};
 ghost use Rattle.check_evidence.specs.Grounds.{Grounds};
 ghost use Rattle.check_evidence.specs.Showing.{Shows};
+ghost use Rattle.judge_evidence.specs.Asking.{IsAskedOfRecord};
 ghost use Rattle.judge_evidence.specs.Data.{AreOfData, HaveWanted};
 ghost use Rattle.judge_evidence.specs.Terms.{grounds_of};
 ghost use Rattle.judge_evidence.specs.Walking.{CountsRefused};
-ghost use Rattle.judge_evidence.specs.RecordVerdicts.{IsOpened, IsVerdict, ShowsOrDevice};
+ghost use Rattle.judge_evidence.specs.RecordVerdicts.{IsOpened, IsOpenWithData, IsVerdict, IsDevice, ShowsOrDevice};
 
 use crate::terms::Terms;
 use crate::walk::judge_chains;
@@ -22,7 +24,7 @@ use std::alloc::Global;
 use trust_lists::Trust;
 
 // The record, whose data are open.
-fn opened<'a>(octets: &'a [u8]) -> Result<EvidenceRecord<'a>, RecordRule>
+pub(crate) fn opened<'a>(octets: &'a [u8]) -> Result<EvidenceRecord<'a>, RecordRule>
     ensures { IsOpened octets.now result }
 {
     let evidence = match EvidenceRecord::read(octets) {
@@ -47,8 +49,12 @@ fn judge_record<V: Verifier>(
     requires { (v : EvidenceValue) → EncodesEvidence octets.now v → HaveWanted v.chains digests.now }
     ensures judged { let g = grounds_of terms.now (V.vouches verifier.old) in (data_objects : List (List ℕ))
         → AreOfData digests.now data_objects → IsVerdict g octets.now data_objects result }
+    ensures only { let g = grounds_of terms.now (V.vouches verifier.old) in (data_objects : List (List ℕ))
+        → AreOfData digests.now data_objects
+        → AsksOnly (λ test. V.asked_only test verifier.old verifier.new) (IsAskedOfRecord g octets.now data_objects) }
     ensures same { V.vouches verifier.new ≡ V.vouches verifier.old }
     ensures count { CountsRefused result (V.failures verifier.old) (V.failures verifier.new) }
+    ensures device { IsDevice result → IsOpenWithData octets.now digests.now }
 {
     let evidence = match opened(octets) {
         Ok(evidence) => evidence,
@@ -99,10 +105,23 @@ pub fn check_evidence<V: Verifier>(
       whole = whole;
     } in (data_objects : List (List ℕ)) → AreOfData digests.now data_objects
         → (m : ℕ) → Shows g octets.now data_objects m → ShowsOrDevice m result }
+    // The verifier is asked only about the tokens of its time-stamps: whether one passes that covers what it must, if
+    // those before it fit, and whether one lasts that fits, if those before it stand; each under entries of which all
+    // else holds.
+    ensures only { let g : Grounds = record {
+      trust = trust.now;
+      vouches = V.vouches verifier.old;
+      ends = ends.now;
+      at = at;
+      whole = whole;
+    } in (data_objects : List (List ℕ)) → AreOfData digests.now data_objects
+        → AsksOnly (λ test. V.asked_only test verifier.old verifier.new) (IsAskedOfRecord g octets.now data_objects) }
     // What the verifier vouches for stays the same.
     ensures same { V.vouches verifier.new ≡ V.vouches verifier.old }
     // It failed exactly if the verdict says so.
     ensures count { CountsRefused result (V.failures verifier.old) (V.failures verifier.new) }
+    // The verdict is X2 or X4 only if V1 to V3 hold.
+    ensures device { IsDevice result → IsOpenWithData octets.now digests.now }
 {
     // No record both shows a moment and is refused.
     records_are_judged();

@@ -5,10 +5,12 @@ ghost use Rattle.devices.specs.Device.{Counts};
 ghost use Rattle.digests.specs.Algorithms.{Names};
 ghost use Rattle.digests.specs.declared.algorithm.Alg.{Alg};
 ghost use Rattle.cms_types.specs.SignerValue.{SignerValue};
+ghost use Rattle.check_verdict.specs.Asks.{AsksOnly};
 ghost use Rattle.check_evidence.specs.StampStates.{HasTime, IsUntil};
 ghost use Rattle.check_evidence.specs.Standing.{FitsIn, AlgsHold, Stands};
 ghost use Rattle.check_evidence.specs.Failing.{FailsToLast};
 ghost use Rattle.evidence_stamps.specs.StateValue.{IsState, IsStateOf};
+ghost use Rattle.judge_evidence.specs.Asking.{IsAskedToLastAt};
 ghost use Rattle.judge_evidence.specs.Running.{ShowsUntil, IsFound};
 ghost use Rattle.judge_evidence.specs.Terms.{grounds_of};
 ghost use Rattle.judge_evidence.specs.Walking.{IsAhead};
@@ -55,6 +57,9 @@ fn lapse_at<V: Verifier>(
         → FitsIn g data_objects place.now fit.now.alg fit.now.moment → IsUntil g.at place.now until
         → IfOk result (λ found. MatchOption found (Stands g data_objects place.now)
         (λ failed. FailsToLast g data_objects place.now failed)) }
+    ensures only { let g = grounds_of terms.now (V.vouches verifier.old) in (data_objects : List (List ℕ))
+        → FitsIn g data_objects place.now fit.now.alg fit.now.moment → IsUntil g.at place.now until
+        → AsksOnly (λ test. V.asked_only test verifier.old verifier.new) (IsAskedToLastAt g data_objects place.now) }
     ensures same { V.vouches verifier.new ≡ V.vouches verifier.old }
     ensures count { Counts result (V.failures verifier.old) (V.failures verifier.new) }
 {
@@ -105,6 +110,9 @@ pub(crate) fn found_at<V: Verifier>(
     ensures judged { let g = grounds_of terms.now (V.vouches verifier.old) in (data_objects : List (List ℕ))
         → FitsIn g data_objects place.now fit.now.alg fit.now.moment
         → IfOk result (IsFound g data_objects place.now) }
+    ensures only { let g = grounds_of terms.now (V.vouches verifier.old) in (data_objects : List (List ℕ))
+        → FitsIn g data_objects place.now fit.now.alg fit.now.moment
+        → AsksOnly (λ test. V.asked_only test verifier.old verifier.new) (IsAskedToLastAt g data_objects place.now) }
     ensures same { V.vouches verifier.new ≡ V.vouches verifier.old }
     ensures count { Counts result (V.failures verifier.old) (V.failures verifier.new) }
 {

@@ -9,6 +9,7 @@ ghost use Rattle.digests.specs.declared.algorithm.Alg.{Alg};
 ghost use Rattle.check_fit.specs.declared.rules.DeviceFault.{DeviceFault};
 ghost use Rattle.evidence_types.specs.StampValue.{StampValue};
 ghost use Rattle.evidence_types.specs.EvidenceValue.{chains_parts};
+ghost use Rattle.check_verdict.specs.Asks.{AsksOnly};
 ghost use Rattle.check_evidence.specs.Grounds.{Grounds};
 ghost use Rattle.check_evidence.specs.Roots.{HasNoOthers};
 ghost use Rattle.check_evidence.specs.Places.{chain_number, stamp_number};
@@ -16,6 +17,7 @@ ghost use Rattle.check_evidence.specs.StampStates.{HasAlg};
 ghost use Rattle.check_evidence.specs.Standing.{FitsIn};
 ghost use Rattle.evidence_stamps.specs.StateValue.{IsStateOf};
 ghost use Rattle.evidence_stamps.specs.PlaceValues.{IsChainAlg};
+ghost use Rattle.judge_evidence.specs.Asking.{IsAskedToLastAt, IsAskedAt, IsAskedOfChains};
 ghost use Rattle.judge_evidence.specs.Data.{AreOfData, HaveAlg, HaveWanted};
 ghost use Rattle.judge_evidence.specs.Running.{KnowsChainAlg, IsRunAt, IsRunOver, IsFound, lapse_with};
 ghost use Rattle.judge_evidence.specs.Terms.{grounds_of, checker_of};
@@ -142,6 +144,10 @@ fn found_of<V: Verifier>(
     ensures judged { let g = grounds_of terms.now (V.vouches verifier.old) in (data_objects : List (List ℕ))
         → FitsIn g data_objects place.now fit.now.alg fit.now.moment → run.now.lapsed ≡ None
         → IfOk result (IsFound g data_objects place.now) }
+    ensures only { let g = grounds_of terms.now (V.vouches verifier.old) in (data_objects : List (List ℕ))
+        → FitsIn g data_objects place.now fit.now.alg fit.now.moment
+        → AsksOnly (λ test. V.asked_only test verifier.old verifier.new)
+        (λ q. (run.now.lapsed ≡ None) × IsAskedToLastAt g data_objects place.now q) }
     ensures device { IfErr result (λ r. r ≡ EvidenceRefused.Device DeviceFault.AskFailed) }
     ensures same { V.vouches verifier.new ≡ V.vouches verifier.old }
     ensures count { Counts result (V.failures verifier.old) (V.failures verifier.new) }
@@ -213,6 +219,10 @@ fn judge_at<V: Verifier>(
     ensures judged { let g = grounds_of terms.now (V.vouches verifier.old) in
         (chains : List (List StampValue)) (data_objects : List (List ℕ)) → AreOfData digests.now data_objects
         → IsRunAt g data_objects chains place.now run.now → IsRunOf g data_objects chains place.now result }
+    ensures only { let g = grounds_of terms.now (V.vouches verifier.old) in
+        (chains : List (List StampValue)) (data_objects : List (List ℕ)) → AreOfData digests.now data_objects
+        → IsRunAt g data_objects chains place.now run.now
+        → AsksOnly (λ test. V.asked_only test verifier.old verifier.new) (IsAskedAt g data_objects chains place.now) }
     ensures same { V.vouches verifier.new ≡ V.vouches verifier.old }
     ensures count { CountsRefused result (V.failures verifier.old) (V.failures verifier.new) }
     ensures stays { checker.new ≡ checker.old }
@@ -278,6 +288,9 @@ pub(crate) fn judge_chains<V: Verifier>(
     requires wanted { HaveWanted chains.now digests.now }
     ensures judged { let g = grounds_of terms.now (V.vouches verifier.old) in (data_objects : List (List ℕ))
         → AreOfData digests.now data_objects → IsChainsVerdict g data_objects chains.now result }
+    ensures only { let g = grounds_of terms.now (V.vouches verifier.old) in (data_objects : List (List ℕ))
+        → AreOfData digests.now data_objects
+        → AsksOnly (λ test. V.asked_only test verifier.old verifier.new) (IsAskedOfChains g data_objects chains.now) }
     ensures same { V.vouches verifier.new ≡ V.vouches verifier.old }
     ensures count { CountsRefused result (V.failures verifier.old) (V.failures verifier.new) }
 {

@@ -20,7 +20,7 @@ use Rattle.cli_failures.specs.declared.status.Status.TheVariants as status
 use Rattle.cli_failures.specs.Failures.{failure_text, status_of}
 use Rattle.library_answers.specs.declared.answer.Answer.{Answer}
 use Rattle.library_answers.specs.Numbers.{nothing, ruled, with_fault, kind_number, signer_rule_number, refused_numbers}
-use Rattle.library_answers.specs.Numbers.{token_numbers}
+use Rattle.library_answers.specs.Numbers.{token_numbers, evidence_numbers}
 
 -- M1 to M15: 77 is the letter M
 abbrev pub fault_numbers : Fault → Answer
@@ -78,6 +78,7 @@ failure_numbers failure.Collision = ruled 9 0 0
 failure_numbers (failure.Uncompared why) = uncompared_numbers why
 failure_numbers (failure.Unattached why) = attach_numbers why
 failure_numbers (failure.Unstamped why) = token_numbers why
+failure_numbers (failure.Unshown why) = evidence_numbers why
 failure_numbers why = nothing
 
 -- one more than the exit status of the program

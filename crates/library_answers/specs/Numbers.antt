@@ -15,6 +15,12 @@ use Rattle.check_fit.specs.declared.rules.DeviceFault.{DeviceFault}
 use Rattle.check_fit.specs.declared.rules.DeviceFault.TheVariants as device
 use Rattle.check_fit.specs.declared.rules.Refused.{Refused}
 use Rattle.check_fit.specs.declared.rules.Refused.TheVariants as refused
+use Rattle.check_evidence.specs.declared.rules.RecordRule.{RecordRule}
+use Rattle.check_evidence.specs.declared.rules.RecordRule.TheVariants as record_rule
+use Rattle.check_evidence.specs.declared.rules.StampRule.{StampRule}
+use Rattle.check_evidence.specs.declared.rules.StampRule.TheVariants as stamp
+use Rattle.check_evidence.specs.declared.rules.EvidenceRefused.{EvidenceRefused}
+use Rattle.check_evidence.specs.declared.rules.EvidenceRefused.TheVariants as evidence
 use Rattle.library_answers.specs.declared.answer.Answer.{Answer}
 
 -- no verdict
@@ -115,6 +121,29 @@ refused_numbers (refused.File rule) = file_numbers rule
 refused_numbers (refused.Signer i rule) = record (ruled 2 83 (signer_rule_number rule)) { signer = i }
 refused_numbers (refused.Token i j rule) = record (token_numbers rule) { signer = i; token = j }
 refused_numbers (refused.Device fault) = device_numbers fault
+
+-- V1 to V3: 86 is the letter V
+abbrev pub record_rule_numbers : RecordRule → Answer
+record_rule_numbers (record_rule.Malformed fault) = with_fault (ruled 3 86 1) fault
+record_rule_numbers record_rule.Encrypted = ruled 2 86 2
+record_rule_numbers record_rule.NoData = ruled 2 86 3
+
+-- W1 to W8: 87 is the letter W. Of W4 the numbers are those of the rule that the token fails, whose letter is K
+abbrev pub stamp_rule_numbers : StampRule → Answer
+stamp_rule_numbers stamp.Algorithm = ruled 2 87 1
+stamp_rule_numbers stamp.HashLength = ruled 2 87 2
+stamp_rule_numbers stamp.NotCovered = ruled 2 87 3
+stamp_rule_numbers (stamp.Token failed) = token_numbers failed
+stamp_rule_numbers stamp.Order = ruled 2 87 5
+stamp_rule_numbers stamp.Weak = ruled 2 87 6
+stamp_rule_numbers stamp.Lapsed = ruled 2 87 7
+stamp_rule_numbers stamp.Others = ruled 2 87 8
+
+-- the chain stands where a signer does, and the archive time-stamp where a token does
+abbrev pub evidence_numbers : EvidenceRefused → Answer
+evidence_numbers (evidence.Record failed) = record_rule_numbers failed
+evidence_numbers (evidence.Stamp i j failed) = record (stamp_rule_numbers failed) { signer = i; token = j }
+evidence_numbers (evidence.Device fault) = device_numbers fault
 
 -- 1, and the moment's seconds from 1970-01-01 00:00:00, which is 62167219200 seconds after 0000-01-01 00:00:00, and the
 -- nanoseconds after them

@@ -2,7 +2,9 @@ ghost use Rattle.std.specs.Prelude.{◌≡◌};
 ghost use Rattle.library_answers.specs.Numbers.{nothing, ruled, with_fault, accepted_numbers, file_numbers};
 ghost use Rattle.library_answers.specs.Numbers.{token_numbers, device_numbers, refused_numbers, kind_number};
 ghost use Rattle.library_answers.specs.Numbers.{cms_numbers, signer_rule_number};
+ghost use Rattle.library_answers.specs.Numbers.{record_rule_numbers, stamp_rule_numbers, evidence_numbers};
 
+use check_evidence::{EvidenceRefused, RecordRule, StampRule};
 use check_fit::{DeviceFault, FileRule, Refused, SignerRule, TokenRule};
 use cms_types::CmsFault;
 use der_core::{Fault, Kind};
@@ -14,7 +16,7 @@ use der_time::Moment;
 pub struct Answer {
     /// What was found; 0 is no verdict.
     pub verdict: u32,
-    /// The letter of the rule's code.
+    /// The letter of the rule's code. Of W4 it is K: the numbers are those of the rule that the token fails.
     pub letter: u32,
     /// The number of the rule's code.
     pub number: u32,
@@ -28,9 +30,10 @@ pub struct Answer {
     pub seconds: i64,
     /// The octet of a fault of form, from 0.
     pub at: u64,
-    /// The number of the signer, from 1; of a file that fits, how many signers it has.
+    /// The number of the signer, from 1; of a file that fits, how many signers it has; of an evidence record the number
+    /// of the chain, from 1.
     pub signer: u64,
-    /// The number of the token, from 1.
+    /// The number of the token, from 1; of an evidence record that of the archive time-stamp in its chain.
     pub token: u64,
     /// The line of a list, from 1; of two inputs, which one, 1 or 2.
     pub line: u64,
@@ -227,6 +230,48 @@ pub fn refused_answer(refused: Refused) -> Answer
             ..token_answer(rule)
         },
         Refused::Device(fault) => device_answer(fault),
+    }
+}
+
+/// The numbers of a rule of an evidence record.
+fn record_rule_answer(rule: RecordRule) -> Answer
+    ensures { result ≡ record_rule_numbers rule }
+{
+    match rule {
+        RecordRule::Malformed(fault) => Answer::ruled(IS_MALFORMED, b'V', 1).with_fault(fault),
+        RecordRule::Encrypted => Answer::ruled(REFUSES, b'V', 2),
+        RecordRule::NoData => Answer::ruled(REFUSES, b'V', 3),
+    }
+}
+
+/// The numbers of a rule of an archive time-stamp; of W4 those of the rule that its token fails.
+fn stamp_rule_answer(rule: StampRule) -> Answer
+    ensures { result ≡ stamp_rule_numbers rule }
+{
+    match rule {
+        StampRule::Algorithm => Answer::ruled(REFUSES, b'W', 1),
+        StampRule::HashLength => Answer::ruled(REFUSES, b'W', 2),
+        StampRule::NotCovered => Answer::ruled(REFUSES, b'W', 3),
+        StampRule::Token(rule) => token_answer(rule),
+        StampRule::Order => Answer::ruled(REFUSES, b'W', 5),
+        StampRule::Weak => Answer::ruled(REFUSES, b'W', 6),
+        StampRule::Lapsed => Answer::ruled(REFUSES, b'W', 7),
+        StampRule::Others => Answer::ruled(REFUSES, b'W', 8),
+    }
+}
+
+/// The numbers of a refusal of an evidence record.
+pub fn evidence_answer(refused: EvidenceRefused) -> Answer
+    ensures { result ≡ evidence_numbers refused }
+{
+    match refused {
+        EvidenceRefused::Record(rule) => record_rule_answer(rule),
+        EvidenceRefused::Stamp { chain, stamp, rule } => Answer {
+            signer: chain as u64,
+            token: stamp as u64,
+            ..stamp_rule_answer(rule)
+        },
+        EvidenceRefused::Device(fault) => device_answer(fault),
     }
 }
 

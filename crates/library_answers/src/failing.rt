@@ -8,8 +8,8 @@ ghost use Rattle.library_answers.specs.Failures.{match_numbers, attach_numbers, 
 ghost use Rattle.library_answers.specs.Failures.{failure_status, IsLine, IsMade, IsUnmade};
 
 use crate::answer::{
-    Answer, IS_MALFORMED, REFUSES, WRITTEN, kind_number, refused_answer, signer_rule_number,
-    token_answer,
+    Answer, IS_MALFORMED, REFUSES, WRITTEN, evidence_answer, kind_number, refused_answer,
+    signer_rule_number, token_answer,
 };
 use crate::text::{
     DONE, FAILED, MALFORMED, NO_MEMORY, REFUSED, Told, USAGE, put, tell_line, tell_text,
@@ -128,6 +128,7 @@ pub fn failure_answer(failure: &Failure) -> Answer
         Failure::Uncompared(fault) => uncompared_answer(*fault),
         Failure::Unattached(fault) => attach_answer(*fault),
         Failure::Unstamped(rule) => token_answer(*rule),
+        Failure::Unshown(refused) => evidence_answer(*refused),
         _ => Answer::nothing(),
     }
 }

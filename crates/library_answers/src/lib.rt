@@ -7,8 +7,8 @@ mod failing;
 mod text;
 
 pub use answer::{
-    Answer, IS_MALFORMED, REFUSES, WRITTEN, accepted_answer, device_answer, refused_answer,
-    token_answer,
+    Answer, IS_MALFORMED, REFUSES, WRITTEN, accepted_answer, device_answer, evidence_answer,
+    refused_answer, token_answer,
 };
 pub use failing::{failure_answer, failure_status, tell_failure, tell_made, tell_unmade};
 pub use text::{

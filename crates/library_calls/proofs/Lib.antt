@@ -2,6 +2,8 @@ pub mod AreUnasked
 pub mod Asking
 pub mod Checking
 pub mod CheckingTokens
+pub mod DataObjects
+pub mod EvidenceSaid
 pub mod InMemory
 pub mod Moments
 pub mod Requested
@@ -9,3 +11,4 @@ pub mod Stamped
 pub mod Told
 pub mod StampsHeld
 pub mod StampsSaid
+pub mod Stated

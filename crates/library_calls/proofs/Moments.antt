@@ -15,7 +15,7 @@ use Rattle.library_answers.specs.declared.answer.Answer.{Answer}
 use Rattle.library_answers.specs.Numbers.{accepted_numbers, token_numbers, device_numbers, refused_numbers, numbers_of}
 use Rattle.library_calls.specs.CheckedTokens.{token_answer_numbers}
 
-token_is_no : (rule : TokenRule) → (token_numbers rule).verdict ≢ 1
+pub token_is_no : (rule : TokenRule) → (token_numbers rule).verdict ≢ 1
 token_is_no (token.Malformed (cms.Malformed f)) e = cc
 token_is_no (token.Malformed cms.NotSignedData) e = cc
 token_is_no (token.Malformed cms.OutOfMemory) e = cc

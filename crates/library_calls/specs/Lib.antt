@@ -2,6 +2,7 @@ pub mod Attaching
 pub mod Checked
 pub mod CheckedTokens
 pub mod Comparing
+pub mod Evidence
 pub mod Fit
 pub mod Known
 pub mod Lists
@@ -10,3 +11,4 @@ pub mod Questions
 pub mod Requests
 pub mod Shown
 pub mod Stamps
+pub mod Stated

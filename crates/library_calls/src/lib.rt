@@ -5,6 +5,9 @@
 mod attach;
 mod check;
 mod compare;
+mod data_objects;
+mod ends;
+mod evidence;
 mod fit;
 mod held;
 mod lists;
@@ -18,6 +21,7 @@ mod token;
 pub use attach::tell_attached;
 pub use check::{Input, tell_check};
 pub use compare::tell_comparison;
+pub use evidence::{EvidenceInput, tell_evidence_check, tell_evidence_questions};
 pub use fit::tell_fit;
 pub use held::HeldTrust;
 pub use lists::{read_answers, read_trust};

@@ -63,6 +63,7 @@ fn status_of(rt: &HostRuntime, words: &[&str], out: &mut Vec<u8>, err: &mut Vec<
     match meaning_of(rt.alloc(), words) {
         Ok(Meaning::Task(task)) => cli_commands::run(rt, task, out, err).code(),
         Ok(Meaning::Many(many)) => cli_files::run(rt, &many, out, err).code(),
+        Ok(Meaning::Evidence(task)) => cli_evidence::run(rt, &task, out, err).code(),
         Ok(Meaning::Help(text)) => cli_commands::print(text.as_str(), out, err).code(),
         Err(failure) => failure.report(out, err).code(),
     }

@@ -37,6 +37,7 @@ pub fn said_of_task(row: &Row<'_>) -> Result<String, Bad> {
     match meaning_of(row.alloc, words.as_slice()) {
         Ok(Meaning::Task(Task::Text(task))) => Ok(format!(in row.alloc; "{task:?}")?),
         Ok(Meaning::Task(task)) => Ok(format!(in row.alloc; "{task:?}")?),
+        Ok(Meaning::Evidence(task)) => Ok(format!(in row.alloc; "{task:?}")?),
         Ok(Meaning::Many(many)) => Ok(format!(in row.alloc; "{many:?}")?),
         Ok(Meaning::Help(_)) => row.word("help"),
         Err(_) => row.word("none"),

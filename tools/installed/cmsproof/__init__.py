@@ -6,10 +6,10 @@
 
 `check` is what the commands `cmsproof questions`, `cmsproof-verify` and `cmsproof check` are together, and says the same line.
 `fit`, `compare`, `match`, `attach`, `request` and `show` are the commands of these names, `request_of_signature` is
-`request --of`, and `stamp.check` judges a time-stamp by itself. A refusal is a value, a `Verdict` with
-`accepted` False, or a `Result` with `done` False. Exceptions are for wrong use, for files that cannot be read or that
-change meanwhile, for lists that are none (`ListRefused`), and for memory that is refused (`MemoryError`). These modules are
-tested, and nothing about them is proved.
+`request --of`, `stamp.check` judges a time-stamp by itself, and `evidence.check` an evidence record (RFC 4998). A refusal is a
+value, a `Verdict` with `accepted` False, or a `Result` with `done` False. Exceptions are for wrong use, for files that cannot be
+read or that change meanwhile, for lists that are none (`ListRefused`), and for memory that is refused (`MemoryError`). These
+modules are tested, and nothing about them is proved.
 """
 from __future__ import annotations
 
@@ -22,7 +22,7 @@ from cmsproof.verdicts import Unexpected, Verdict
 from cmsproof.verifiers import Verifier, cryptography_verifier
 
 if TYPE_CHECKING:
-    from cmsproof import stamp
+    from cmsproof import evidence, stamp
     from cmsproof.commands import attach, compare, fit, match, request, request_of_signature, show
     from cmsproof.results import Result
     from cmsproof.tokens import check_token
@@ -40,6 +40,7 @@ __all__ = [
     "check_token",
     "compare",
     "cryptography_verifier",
+    "evidence",
     "fit",
     "match",
     "questions",
@@ -49,7 +50,8 @@ __all__ = [
     "stamp",
 ]
 
-# what is read once it is asked for, and its module
+# what is read once it is asked for: modules, and what has a module
+MODULES = ("evidence", "stamp")
 LATER = {
     **dict.fromkeys(("attach", "compare", "fit", "match", "request", "request_of_signature", "show"), "commands"),
     "Result": "results",
@@ -58,12 +60,12 @@ LATER = {
 
 
 def __getattr__(name: str) -> Any:
-    if name == "stamp":
-        return import_module("cmsproof.stamp")
+    if name in MODULES:
+        return import_module(f"cmsproof.{name}")
     if name not in LATER:
         raise AttributeError(f"module {__name__!r} has no attribute {name!r}")
     return getattr(import_module(f"{__name__}.{LATER[name]}"), name)
 
 
 def __dir__() -> list[str]:
-    return sorted({*globals(), *LATER, "stamp"})
+    return sorted({*globals(), *LATER, *MODULES})

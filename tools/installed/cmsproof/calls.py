@@ -26,7 +26,7 @@ class Questions(NamedTuple):
     text   as `cmsproof questions` prints it; empty if nothing can be asked
     asked  the questions, in their order
     code   None, or why nothing can be asked: 'Q1' of a malformed file, 'Q2' of one that is no SignedData, and of a time-stamp 'P1' of a
-           response that is not granted, 'P2' of one without a token
+           response that is not granted, 'P2' of one without a token; of a malformed evidence record 'V1', of an encrypted one 'V2'
     """
 
     text: bytes

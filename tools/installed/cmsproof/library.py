@@ -40,7 +40,7 @@ class Handle(Structure):
 
 # (c_void_p takes bytes, an array and an address)
 OCTETS, TEXT = (c_void_p, c_size_t), (c_void_p, c_size_t, POINTER(c_size_t))
-LIST, SAID = (POINTER(Handle),), (POINTER(Answer),)
+LIST, SAID, NUMBERS = (POINTER(Handle),), (POINTER(Answer),), (POINTER(c_uint64), c_size_t)
 SIGNATURES: dict[str, tuple[Any, ...]] = {
     "cmsproof_trust_read": (*LIST, *OCTETS, *SAID),
     "cmsproof_trust_count": (*LIST, POINTER(c_size_t)),
@@ -50,6 +50,8 @@ SIGNATURES: dict[str, tuple[Any, ...]] = {
     "cmsproof_check_token": (*LIST, *LIST, *OCTETS, *OCTETS, c_bool, *SAID),
     "cmsproof_stamp_check": (*LIST, *LIST, *OCTETS, *OCTETS, c_bool, *TEXT, *SAID),
     "cmsproof_stamp_questions": (*LIST, *OCTETS, *TEXT, *SAID),
+    "cmsproof_evidence_check": (*LIST, *LIST, *OCTETS, *OCTETS, *NUMBERS, *OCTETS, *OCTETS, c_bool, *TEXT, *SAID),
+    "cmsproof_evidence_questions": (*LIST, *OCTETS, *TEXT, *SAID),
     "cmsproof_fit": (*OCTETS, *OCTETS, c_bool, c_bool, *TEXT, *SAID),
     "cmsproof_compare": (*OCTETS, c_uint64, *OCTETS, c_uint64, *TEXT, *SAID),
     "cmsproof_request": (*OCTETS, *OCTETS, *OCTETS, *OCTETS, c_bool, *TEXT, *SAID),

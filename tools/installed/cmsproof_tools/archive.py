@@ -13,6 +13,7 @@ from cmsproof.octets import File
 from cmsproof_tools import descriptors, stamps
 from cmsproof_tools.checking import Unread, Work, content_named, outcomes_of, outcomes_of_several
 from cmsproof_tools.descriptors import path_of
+from cmsproof_tools.evidenced import Records, records_in
 from cmsproof_tools.issuer_words import asked_of, names_issuers
 from cmsproof_tools.outcomes import json_lines, lost, named, text_lines
 from cmsproof_tools.pairs import USUAL, Pairs, rows_of
@@ -141,27 +142,52 @@ def pairs_of(given: argparse.Namespace) -> Pairs:
     return Pairs(named, endings)
 
 
-def names_of(tool: str, given: argparse.Namespace, pairs: Pairs) -> tuple[list[str], frozenset[str]]:
+def records_of(given: argparse.Namespace) -> Records | None:
+    """Where the evidence records of files are, if they must have some. Ends the tool where that is no folder."""
+    if given.records is None:
+        return None
+    for folder in filter(None.__ne__, (given.records, given.under)):
+        if not os.path.isdir(folder):
+            raise Stop(FAILED, f"failed open {shown(folder)}: it is no folder")
+    return records_in(given.records, given.under or "", tuple(given.end), given.at or "", given.whole)
+
+
+def judged_apart(pairs: Pairs, records: Records | None, name: str) -> bool:
+    """Whether a stamp has a line of its own also where what it stamps is there: a list names it, or it stamps a record, which is judged
+    without its stamps."""
+    first = None if records is None else stamps.stamped_by(name)
+    return name in pairs.named or (records is not None and first is not None and records.file_of(first) is not None)
+
+
+def names_of(tool: str, given: argparse.Namespace, pairs: Pairs, records: Records | None) -> tuple[list[str], frozenset[str]]:
     """The names of all files, and which of those in folders are the contents of others."""
     from cmsproof_tools.folders import files_under
 
+    def skip(name: str, kind: str) -> None:
+        tell(tool, f"{shown(name)}: skipped: it is {kind}")
+
+    apart = partial(judged_apart, pairs, records)
     names: list[str] = []
     walked: list[str] = []
     for name in given.files:
         if name != "-" and not name.startswith(PLACES) and os.path.isdir(name):
-            below = list(files_under(name, lambda skipped, kind: tell(tool, f"{shown(skipped)}: skipped: it is {kind}")))
+            below = list(files_under(name, skip))
             if not below:
                 tell(tool, f"{shown(name)}: no file is in it")
             if given.stamps:
                 # (what a stamp is of stands in the same folder)
-                below = [one for one in below if one in pairs.named or not stamps.belongs(one)]
+                below = [one for one in below if apart(one) or not stamps.belongs(one)]
+            if records is not None:
+                below = records.walked(name, below, skip)
             walked += below
             names += below
         else:
             names += names_in("-", given.null) if name == "-" else [name]
     names += [name for path in given.files_from for name in names_in(path, given.null)]
     if given.stamps:
-        names = stamps.without_belonging(names, pairs.named.__contains__)
+        names = stamps.without_belonging(names, apart)
+    if records is not None:
+        names = records.without_records(names)
     if pairs.named:
         known = set(names)
         names += [name for name in pairs.named if name not in known]
@@ -177,7 +203,7 @@ def directly_in(folder: str) -> list[str]:
         return []
 
 
-def check_outputs(parser: Words, given: argparse.Namespace, names: list[str], pairs: Pairs) -> None:
+def check_outputs(parser: Words, given: argparse.Namespace, names: list[str], pairs: Pairs, records: Records | None) -> None:
     """Ends the tool where a file that is to be written is one that is read. (A list may take the place of the one that it grew from.)"""
     if given.write_trust is not None and given.write_trust in names:
         parser.error(f"--write-trust would write over {shown(given.write_trust)}, a signed file")
@@ -188,6 +214,7 @@ def check_outputs(parser: Words, given: argparse.Namespace, names: list[str], pa
     in_folders = [found for folder in given.crl_dir for found in directly_in(folder)]
     issuers = [*given.issuer, *given.tsa_issuer, *given.intermediate, *given.crl, *in_folders, *given.ocsp, *given.trusted_list]
     beside = [one for name in names for one in stamps.judged_with(name)] if given.stamps else []
+    beside += [] if records is None else [one for name in names for one in records.judged_with(name)]
     read = [*lists, *issuers, given.scheme_operator, *names, *filter(None, map(pairs.content_of, names)), *beside]
     if given.log is not None:
         check_kept(given.log, [given.trust, given.write_trust, *read])
@@ -223,7 +250,8 @@ def resumed(tool: str, given: Any, stack: ExitStack, work: Work, known: Known | 
         content = sum_of(work.content)
     trusted = work.trust.text
     state = stack.enter_context(State(given.state))
-    policy = " ".join(f"--{name}" for name in ("sha1", "partial", "stamps") if getattr(given, name))
+    words = [f"--{name}" for name in ("sha1", "partial", "stamps") if getattr(given, name)]
+    policy = " ".join([*words, *(work.records.words() if work.records is not None else [])])
     basis = Basis(hashlib.sha256(trusted).hexdigest(), content.hex(), policy, module("versions").versions_text())
     state.judge_by(basis, trusted)
     return Resume(tool, state, given, work, known), work._replace(noting=Noting(keys_of(trusted), content, {}))
@@ -273,15 +301,17 @@ def judged(tool: str, given: Any, parser: Words) -> int:
     # (a list that is none is told before a name is read)
     named = None if given.trust is None else trust_list(given.trust, given.explain)
     content = None if given.content is None else content_named(given.content)
-    pairs = pairs_of(given)
-    names, contents = names_of(tool, given, pairs)
-    check_outputs(parser, given, names, pairs)
+    pairs, records = pairs_of(given), records_of(given)
+    names, contents = names_of(tool, given, pairs, records)
+    check_outputs(parser, given, names, pairs, records)
     trust = trust_by(tool, given, named, names, known)
-    work = Work(trust, content, given.sha1, given.explain, {}, pairs, contents, given.partial, given.stamps)
+    work = Work(trust, content, given.sha1, given.explain, {}, pairs, contents, given.partial, given.stamps, None, records)
     if not names and (given.only is None or given.trust is None):
         parser.error("no file is named")
     # (what each worker would read is read once)
-    more = [*(["explaining", "cures"] if given.explain else []), *(["stamping"] if given.stamps else [])]
+    beside = [*(["stamping"] if given.stamps else []), *(["evidencing"] if records is not None else [])]
+    beside += ["explaining_records"] if given.explain and records is not None else []
+    more = [*(["explaining", "cures"] if given.explain else []), *beside]
     for name in (*(READ if len(names) > 1 else []), *more):
         module(name)
     with ExitStack() as stack:

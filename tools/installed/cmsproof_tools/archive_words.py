@@ -8,7 +8,10 @@ import os
 from cmsproof_tools.issuer_words import add_words, goes_with_issuers, names_issuers
 from cmsproof_tools.pairs import ending_of
 from cmsproof_tools.running import VERDICTS, Words
+from cmsproof_tools.texts import is_moment
 
+# the digest algorithms by their names (docs/FORMAT.md, section 5)
+ALGORITHMS = ("sha1", "sha224", "sha256", "sha384", "sha512", "sha512-224", "sha512-256")
 ABOUT = """Checks signed files: has the library libcmsproof say what must be verified, as `cmsproof questions` does, verifies it as
 cmsproof-verify does, and hands the answers to the library, which says what `cmsproof check` says. There is one line for each file,
 in the order of the names: the name, and the line of `check`.
@@ -39,7 +42,11 @@ A file of such a name is ./report or ./evidence.
 With --known a refusal that the text FILE acknowledges counts no longer for the status. FILE has the code of each and the name of its
 file, as it is printed, as `S10 letter.p7s`, on a line of their own, and lines of comments that begin with #.
 
-Exit status: the worst that a file had: 0 all are accepted, or `stamped`; 1 one is refused; 2 one is malformed, or the trust list is;
+With --records each file must have an evidence record of it, in a folder of such; the line is `evidenced TIME` where nothing is signed:
+
+    cmsproof-archive --trust trust.txt --records records --end sha1=20160101000000Z letters
+
+Exit status: the worst that a file had: 0 all are accepted, `stamped` or `evidenced`; 1 one is refused; 2 one is malformed, or the trust list is;
 3 wrong words; 4 a file or a library failed; 5 not all are accepted, but with --known nothing is new.
 """
 
@@ -79,6 +86,42 @@ def add_contents(parser: Words) -> None:
     parser.add_argument("--stamps", action="store_true", help=stamps)
 
 
+def end_of(text: str) -> tuple[str, str]:
+    """The algorithm and the moment of `--end`."""
+    name, equals, time = text.partition("=")
+    if not equals or name not in ALGORITHMS or not is_moment(time):
+        raise argparse.ArgumentTypeError(
+            f"{text} is not ALG=TIME, as sha256=20350101000000Z, ALG one of {', '.join(ALGORITHMS)}"
+        )
+    return name, time
+
+
+def time_of(text: str) -> str:
+    """The moment of `--at`."""
+    if not is_moment(text):
+        raise argparse.ArgumentTypeError(f"{text} is no moment like 20261125080648Z")
+    return text
+
+
+def add_judging(parser: Words, by: str) -> None:
+    """The words by which evidence records are judged, which go with another one."""
+    end = f"the last moment at which a digest algorithm holds, with {by}: sha1 holds at none without"
+    parser.add_argument("--end", action="append", default=[], type=end_of, metavar="ALG=TIME", help=end)
+    at = f"until when the last time-stamp of a record must serve, with {by}: by default its own time"
+    parser.add_argument("--at", type=time_of, metavar="TIME", help=at)
+    whole = f"a record may cover nothing else than its file, with {by}"
+    parser.add_argument("--whole", action="store_true", help=whole)
+
+
+def add_records(parser: Words) -> None:
+    """The words that go with evidence records."""
+    records = "each file must have an evidence record (RFC 4998): DIR/PATH.ers, PATH being its path in the archive"
+    parser.add_argument("--records", metavar="DIR", help=records)
+    under = "the archive's folder, with --records: by default the one where the tool runs"
+    parser.add_argument("--under", metavar="DIR", help=under)
+    add_judging(parser, "--records")
+
+
 def add_state(parser: Words) -> None:
     """The words that go with a state."""
     kept = "a file with a row for each file: only what changed is judged again"
@@ -98,6 +141,7 @@ def parser_of(tool: str) -> Words:
     add_words(parser, several=False)
     parser.add_argument("--write-trust", metavar="FILE", help="with an issuer: the list that was made and used")
     add_contents(parser)
+    add_records(parser)
     jobs = "files that are checked at a time; as many as there are processors by default"
     parser.add_argument("--jobs", type=jobs_of, default=len(os.sched_getaffinity(0)), metavar="N", help=jobs)
     parser.add_argument("--json", action="store_true", help="a line of JSON for each file, and a last one about all")
@@ -130,6 +174,8 @@ def check_words(parser: Words, given: argparse.Namespace) -> None:
         parser.error("- is no name for --state, --known and --log: write ./-")
     if given.state is None and (given.recheck or {given.since, given.only, given.known} != {None}):
         parser.error("--since, --only, --recheck and --known need --state")
+    if given.records is None and (given.end or given.whole or {given.under, given.at} != {None}):
+        parser.error("--under, --end, --at and --whole need --records")
     if given.dask is not None and (given.content is not None or given.pairs_from):
         parser.error("--content and --pairs-from cannot be said with --dask")
 

@@ -13,11 +13,11 @@ from typing import Any, NamedTuple, Union
 from cmsproof_tools.running import FAILED, Started, Stop, shown
 from cmsproof_tools.writing import written
 
-MANIFEST, SIGNED, CONTENT, TRUST = "MANIFEST.json", "signed.p7s", "content.bin", "trust.txt"
-QUESTIONS, ANSWERS, VERDICT, VERIFY = "questions.txt", "answers.txt", "verdict.txt", "VERIFY.txt"
-# the members in their order; only the content may be missing
-MEMBERS = (SIGNED, CONTENT, TRUST, QUESTIONS, ANSWERS, VERDICT, VERIFY, MANIFEST)
-FORM = "cmsproof evidence 2"
+MANIFEST, SIGNED, RECORD, CONTENT = "MANIFEST.json", "signed.p7s", "record.ers", "content.bin"
+TRUST, QUESTIONS, ANSWERS, VERDICT, VERIFY = "trust.txt", "questions.txt", "answers.txt", "verdict.txt", "VERIFY.txt"
+# the members in their order: one of the first two, and only the content may be missing else
+MEMBERS = (SIGNED, RECORD, CONTENT, TRUST, QUESTIONS, ANSWERS, VERDICT, VERIFY, MANIFEST)
+FORM, RECORD_FORM = "cmsproof evidence 2", "cmsproof evidence record 1"
 # what a manifest has: a name, and what its value is
 KEYS: dict[str, Any] = {
     "form": str,
@@ -32,6 +32,14 @@ KEYS: dict[str, Any] = {
     "versions": dict,
     "made": str,
     "members": dict,
+}
+# that of a bundle of an evidence record, whose name it has, and by what it was judged
+RECORD_KEYS: dict[str, Any] = {
+    **{name: kind for name, kind in KEYS.items() if name not in ("part", "sha1")},
+    "record": str,
+    "ends": list,
+    "at": str,
+    "whole": bool,
 }
 LONGEST_MANIFEST, LONGEST_DIRECTORY = 1 << 20, 1 << 12
 # a local header of a zip file (APPNOTE.TXT 4.3.7), and its first octets
@@ -135,7 +143,12 @@ def members_in(whole: Any) -> dict[str, memoryview]:
     except (zipfile.BadZipFile, NotImplementedError, struct.error, ValueError, OSError, OverflowError) as error:
         raise Malformed(f"it is no zip file: {error}") from error
     names = [member.filename for member in found]
-    if names != [name for name in MEMBERS if name in names] or not set(MEMBERS) - {CONTENT} <= set(names):
+    always = set(MEMBERS) - {SIGNED, RECORD, CONTENT}
+    if (
+        names != [name for name in MEMBERS if name in names]
+        or not always <= set(names)
+        or (SIGNED in names) is (RECORD in names)
+    ):
         raise Malformed("its members are not those of a bundle, each once and in their order")
     at, members = 0, {}
     for member in found:
@@ -156,17 +169,18 @@ def once(pairs: list[tuple[str, Any]]) -> dict[str, Any]:
     return found
 
 
-def manifest_in(octets: memoryview) -> dict[str, Any]:
-    """The manifest. Raises Malformed if it is none."""
+def manifest_in(octets: memoryview, is_of_record: bool) -> dict[str, Any]:
+    """The manifest, of a bundle of a signed file, or of an evidence record. Raises Malformed if it is none."""
+    form, keys = (RECORD_FORM, RECORD_KEYS) if is_of_record else (FORM, KEYS)
     if len(octets) > LONGEST_MANIFEST:
         raise Malformed(f"{MANIFEST} is too long")
     try:
         found = json.loads(bytes(octets), object_pairs_hook=once)
     except (ValueError, RecursionError) as error:
         raise Malformed(f"{MANIFEST} cannot be read: {error}") from error
-    if not isinstance(found, dict) or set(found) != set(KEYS) or found["form"] != FORM:
-        raise Malformed(f"{MANIFEST} is not of the form `{FORM}`")
-    if not all(isinstance(found[name], kind) for name, kind in KEYS.items()):
+    if not isinstance(found, dict) or set(found) != set(keys) or found["form"] != form:
+        raise Malformed(f"{MANIFEST} is not of the form `{form}`")
+    if not all(isinstance(found[name], kind) for name, kind in keys.items()):
         raise Malformed(f"{MANIFEST} has a value of another kind than is due")
     return found
 
@@ -175,7 +189,7 @@ def read_bundle(whole: Any) -> Bundle:
     """The bundle that these octets are, or a mapping of them. Raises Malformed if they are none, or have something else than the
     manifest says."""
     members = members_in(whole)
-    manifest = manifest_in(members.pop(MANIFEST))
+    manifest = manifest_in(members.pop(MANIFEST), RECORD in members)
     said = {name: summed(octets) for name, octets in members.items()}
     if manifest["members"] != said:
         differ = [name for name in MEMBERS if manifest["members"].get(name) != said.get(name)]

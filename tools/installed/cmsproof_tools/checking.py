@@ -15,6 +15,7 @@ from cmsproof.verdicts import Said
 from cmsproof.verifiers import Vouching
 from cmsproof_tools import descriptors
 from cmsproof_tools.descriptors import path_of
+from cmsproof_tools.evidenced import Records
 from cmsproof_tools.finding import again_in_der, found_in, found_in_der, is_in_der
 from cmsproof_tools.found import Found, Unfound
 from cmsproof_tools.outcomes import Outcome
@@ -40,7 +41,8 @@ class Work(NamedTuple):
     """What is the same for all files: the trust list, as the library has it and as it was read, the content, if one is named,
     whether SHA-1 is allowed and refusals are explained, the files that are open already, which contents stand beside their
     signatures and are themselves among the files, whether a signature may cover a part of its file alone, whether a time-stamp
-    needs no signature beside it and may stand beside its file, and by what a state notes what is said.
+    needs no signature beside it and may stand beside its file, by what a state notes what is said, and where the evidence records
+    of files are, if each is to have one.
 
     The descriptor of a file that cannot be opened is the error, and so is a content that cannot be read.
     """
@@ -55,6 +57,7 @@ class Work(NamedTuple):
     partial: bool
     stamps: bool
     noting: Union["Noting", None] = None
+    records: Union[Records, None] = None
 
 
 class Judge(Vouching):
@@ -205,19 +208,23 @@ def content_beside(work: Work, name: str) -> ContextManager[Union[File, None]]:
 def explained(work: Work, outcome: Outcome, found: Found) -> Outcome:
     """The outcome with what a reader may want to know of it. A fault in that leaves the outcome as it is."""
     try:
-        if outcome.status in (MALFORMED, REFUSED) and found.kind == "signed":
+        is_malformed = outcome.status == MALFORMED
+        # (of a record in BER nothing helps that helps a signed file)
+        is_other = is_malformed and found.kind == RECORD and found.signed[:2] != b"\x30\x80"
+        if is_other or (outcome.status in (MALFORMED, REFUSED) and found.kind == "signed"):
             from cmsproof_tools.kinds import kind_of_signed
 
-            outcome = outcome._replace(kind=kind_of_signed(found.signed, outcome.status == MALFORMED))
+            outcome = outcome._replace(kind=kind_of_signed(found.signed, is_malformed))
         if outcome.status != DONE and work.explain:
             from cmsproof_tools.lines import parts_of
 
             parts = parts_of(outcome.status, outcome.line) or {}
+            words = found.signed, work.trust.text, parts, outcome.line
+            if found.kind == RECORD:
+                at = "" if work.records is None else work.records.at
+                return outcome._replace(explanation=module("explaining_records").explanation(*words, at))
             is_stamp = found.kind in STAMPS
-            text = module("explaining").explanation(
-                found.signed, work.trust.text, parts, outcome.line, outcome.converted, is_stamp
-            )
-            return outcome._replace(explanation=text)
+            return outcome._replace(explanation=module("explaining").explanation(*words, outcome.converted, is_stamp))
     except Exception:  # an explanation is read by an own reader, of octets that anybody can write
         pass
     return outcome
@@ -232,14 +239,21 @@ def with_cure(work: Work, outcome: Outcome, code: str) -> Outcome:
 STAMPED = "stamped "
 # the kinds of what is found that are time-stamps
 STAMPS = ("token", "stamp")
+# what octets are said to be that a record shows, for the same reason; and the kind of such a record
+EVIDENCED, RECORD = "evidenced ", "record"
+SAID = {**dict.fromkeys(STAMPS, STAMPED), RECORD: EVIDENCED}
 # of how many octets a file is short
 SHORT = 1 << 16
 # what is said of a file that is not signed
 UNSIGNED = ("refused F1 ", "refused C2 ", "malformed ")
 
 
-def verdict_of(work: Work, found: Found, content: Union[Buffer, None], judge: Judge) -> cmsproof.Verdict:
-    """What the library says of a signature, or of a time-stamp over a content."""
+def verdict_of(work: Work, found: Found, content: Union[Buffer, None], judge: Judge) -> Union[cmsproof.Verdict, Said]:
+    """What the library says of a signature, or of a time-stamp or an evidence record over a content."""
+    if found.kind == RECORD and content is not None and (records := work.records) is not None:
+        ends, at, whole = dict(records.ends), records.at or None, records.whole
+        said = cmsproof.evidence.check(found.signed, content, trust=work.trust, verifier=judge, ends=ends, at=at, whole=whole)
+        return Said(said.verdict, said.code, said.line)
     if found.kind in STAMPS and content is not None:
         return cmsproof.stamp.check(found.signed, content, trust=work.trust, verifier=judge, sha1=work.sha1)
     return cmsproof.check(found.signed, trust=work.trust, content=content, verifier=judge, sha1=work.sha1)
@@ -314,9 +328,9 @@ def outcome_by(
     """What this verdict says of what was found in the file of this name."""
     beside = reading.beside
     content = found.content if beside is None else beside.octets
-    if (other := again_in_der(found, verdict.code)) is not None:
+    if found.kind != RECORD and (other := again_in_der(found, verdict.code)) is not None:
         return outcome_of(work, reading, other, name)
-    line = verdict.line.replace("accepted ", STAMPED, 1) if found.kind in STAMPS else verdict.line
+    line = verdict.line.replace("accepted ", SAID[found.kind], 1) if found.kind in SAID else verdict.line
     said = Outcome(
         name,
         STATUSES[verdict.verdict],
@@ -383,6 +397,8 @@ def outcomes_of(work: Work, name: str, read: Union[Reading, None] = None) -> lis
         begun = time_ns()
         with open_file(work, name) as file, content_beside(work, name) as beside:
             reading = Reading(file, beside, begun)
+            if work.records is not None:
+                return list(module("evidencing").outcomes_in(work, work.records, name, reading))
             if work.stamps and may_have(name):
                 return list(module("stamping").outcomes_in(work, name, reading))
             return outcomes_in(work, name, reading)
@@ -399,7 +415,7 @@ def outcomes_in(work: Work, name: str, reading: Reading) -> list[Outcome]:
 def short(work: Work, name: str) -> Union[Reading, None]:
     """A short file that has no content and no stamp beside it, of which a copy is read; None of any other, and where anything fails."""
     try:
-        if name in work.opened or work.content is not None or (work.stamps and may_have(name)):
+        if name in work.opened or work.content is not None or work.records is not None or (work.stamps and may_have(name)):
             return None
         begun = time_ns()
         read = descriptors.copied(name, SHORT)

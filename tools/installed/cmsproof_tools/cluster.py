@@ -7,10 +7,11 @@ import os
 import time
 from collections import deque
 from functools import lru_cache
-from typing import Any, Iterable, Iterator, NamedTuple, Sequence
+from typing import Any, Iterable, Iterator, NamedTuple, Sequence, Union
 
 import cmsproof
 from cmsproof_tools.checking import Work, all_noted, outcomes_of_several
+from cmsproof_tools.evidenced import Records
 from cmsproof_tools.outcomes import Outcome, lost, text_lines
 from cmsproof_tools.pairs import USUAL, Pairs
 from cmsproof_tools.rows import Noting, keys_of
@@ -36,6 +37,7 @@ class Terms(NamedTuple):
     partial: bool
     stamps: bool
     noted: bool
+    records: Union[Records, None] = None
 
 
 class Part(NamedTuple):
@@ -51,7 +53,11 @@ def terms_of(work: Work) -> Terms:
     """The terms of this work, in the folder of this process."""
     trust, endings = hashlib.sha256(work.trust.text).hexdigest(), tuple(work.pairs.endings.items())
     policy = work.sha1, work.explain, work.partial, work.stamps, work.noting is not None
-    return Terms(trust, versions_text(), os.getcwd(), endings, *policy)
+    here, records = os.getcwd(), work.records
+    if records is not None:
+        # (a worker has another folder: names are those from the root there)
+        records = records._replace(folder=os.path.join(here, records.folder), archive=os.path.join(here, records.archive))
+    return Terms(trust, versions_text(), here, endings, *policy, records)
 
 
 @lru_cache(maxsize=1)
@@ -59,7 +65,8 @@ def work_of(trusted: bytes, terms: Terms) -> Work:
     """What is the same for all files, made once in a worker."""
     noting = Noting(keys_of(trusted), b"", {}) if terms.noted else None
     pairs, trust = Pairs({}, dict(terms.endings)), cmsproof.TrustList(trusted)
-    return Work(trust, None, terms.sha1, terms.explain, {}, pairs, frozenset(), terms.partial, terms.stamps, noting)
+    policy = terms.partial, terms.stamps, noting, terms.records
+    return Work(trust, None, terms.sha1, terms.explain, {}, pairs, frozenset(), *policy)
 
 
 def as_named(outcome: Outcome, name: str, folder: str) -> Outcome:
@@ -87,11 +94,18 @@ def judge(names: list[str], trusted: bytes, terms: Terms, contents: frozenset[st
     return Part(trust, versions, named, time.monotonic() - begun)
 
 
-def terms_for(trusted: bytes, *, sha1: bool = False, partial: bool = False, stamps: bool = False) -> Terms:
-    """The terms of a trust list and of what else is allowed, in the folder of this process, for an engine that has no other way to
-    get them: contents are beside their signatures as usual. Raises ListRefused if it is no trust list."""
+def terms_for(
+    trusted: bytes,
+    *,
+    sha1: bool = False,
+    partial: bool = False,
+    stamps: bool = False,
+    records: Union[Records, None] = None,
+) -> Terms:
+    """The terms of a trust list and of what else is allowed or demanded, in the folder of this process, for an engine that has no other way
+    to get them: contents are beside their signatures as usual. Raises ListRefused if it is no trust list."""
     pairs, trust = Pairs({}, USUAL), cmsproof.TrustList(trusted)
-    return terms_of(Work(trust, None, sha1, False, {}, pairs, frozenset(), partial, stamps))
+    return terms_of(Work(trust, None, sha1, False, {}, pairs, frozenset(), partial, stamps, None, records))
 
 
 def lines_of(names: Iterable[str], trusted: bytes, terms: Terms) -> Iterator[str]:

@@ -51,6 +51,8 @@ ASK_AGAIN = (
     "ask again for answers, of this file and this list; `cmsproof-verify` says on standard error what it "
     "does not vouch for. A bad signature has no cure"
 )
+RECORD_AGAIN = "get the record as it was made, from another copy; a new one says a later time"
+TOO_LATE = "Else it was renewed too late, and only a copy helps that was not; renew the last one in time"
 TAKE_OUT = (
     "take the token out of the response, by `match` or by `openssl ts -reply -in RESPONSE -token_out "
     "-out TOKEN`; `openssl cms -cmsout -inform DER -in TOKEN -outform DER -out NEW` makes DER of BER"
@@ -511,6 +513,79 @@ ROWS = (
         "stamp for any octets: it says when they were there, and not whose they are",
         "`--stamps`, and that file, if you ask for the moment alone: the line is then `stamped TIME`",
     ),
+    Row(
+        "11",
+        "F16 NoRecord",
+        "`--records`, and no regular file is in the place of this file's evidence record",
+        "put it there, or have one made; paths count from the folder of `--under`",
+    ),
+    Row(
+        "11",
+        "F17 RecordAlone",
+        "the file of this evidence record is not there: it was moved, renamed or lost",
+        "put it back: a record alone shows nothing",
+    ),
+    # evidence records
+    Row(
+        "12",
+        "V1 FAULT",
+        "it is no record in DER (RFC 4998 3.1); the line is `malformed` and the fault, M1 to M15",
+        "name the record, as it was made; one in XML (RFC 6283) is not read",
+    ),
+    Row(
+        "12",
+        "V2 Encrypted",
+        "it has encryptionInfo: it is of the encrypted document (RFC 4998 3.1, 6)",
+        "ask whoever made it for one of the document as it is",
+    ),
+    Row("12", "V3 NoData", "no document was handed in, to the library", "hand in what the record is of"),
+    Row(
+        "12",
+        "W1 Algorithm",
+        "the time-stamp's digest algorithm is unknown, or another one than that of the first in its chain (RFC 4998 5.1)",
+        RECORD_AGAIN,
+    ),
+    Row("12", "W2 HashLength", "a hash value in its lists has another length than its digests (RFC 4998 4.2)", RECORD_AGAIN),
+    Row(
+        "12",
+        "W3 NotCovered",
+        "its first list lacks what it must cover (RFC 4998 4.3, 5.2, 5.3): in chain 1 stamp 1 the document, which was changed, or the "
+        "record is another's; in the first of a later chain the document with all before; else the time-stamp before it, which was taken "
+        "out or changed",
+        "find the document as it was, or its own record; of a later time-stamp a copy of the record from before that renewal",
+    ),
+    Row(
+        "12",
+        "W4 RULE",
+        "its token fails this one of K1 to K14. K9: the lists do not lead to what was stamped (RFC 4998 4.3)",
+        "K10, K13: an entry of the list, if you trusted that authority then; K14: new answers, by `evidence questions`; else a copy of "
+        "the record as it was made",
+    ),
+    Row(
+        "12",
+        "W5 Order",
+        "it is not later than the time-stamp before it (RFC 4998 5.1), or the last one is later than `--at`",
+        "a later `--at`; else a copy of the record as it was made",
+    ),
+    Row(
+        "12",
+        "W6 Weak",
+        "its digest algorithm, or that of its authority's signature, had ended (`--end`) when the next time-stamp took over, or at "
+        "`--at` (RFC 4998 5.3). SHA-1 holds at no time without an `--end`",
+        "a later `--end`, if you have grounds for it. " + TOO_LATE,
+    ),
+    Row(
+        "12",
+        "W7 Lapsed",
+        "its authority's certificate, or the period of that in the list, had ended at that moment (RFC 4998 5.3)",
+        "a longer period, if the certificate lasted and you trusted it then. " + TOO_LATE,
+    ),
+    Row(
+        "12",
+        "W8 Others",
+        "`--whole`, and its first list has hash values of other documents too, as of a group (RFC 4998 4.2)",
+        "name all of the group, as `evidence check` takes them, or leave `--whole` out",
+    ),
 )
 
 
@@ -532,6 +607,23 @@ OF_STAMPS: dict[str, tuple[str, str]] = {
         "find the file as it was, or its own stamp; a new one, made by `cmsproof request FILE`, says a later time",
     ),
     "P1": ("", "`cmsproof show response` says why; ask the authority again"),
+}
+
+
+# What a rule of a token means in an evidence record, and what helps there.
+OF_RECORDS: dict[str, tuple[str, str]] = {
+    **{f"K{number}": ("", RECORD_AGAIN) for number in (*range(1, 9), 11, 12)},
+    "K9": (
+        "its lists, or where it has none what it must cover, do not lead to what the authority stamped (RFC 4998 4.3): the document is "
+        "another one than the record's, or a hash value was changed or left out",
+        "find the document as it was, or its own record; else " + RECORD_AGAIN,
+    ),
+    "K10": ("", COMPARED.format("token", "tsa")),
+    "K13": (
+        "at its time its authority's certificate was not valid, or the list trusted it at another time",
+        "give the entry another period, if you trusted the authority then, and the certificate was valid",
+    ),
+    "K14": ("no answer vouches for its authority's signature", ASK_AGAIN.replace("this file", "this record")),
 }
 
 

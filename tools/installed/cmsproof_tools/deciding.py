@@ -11,9 +11,10 @@ import cmsproof
 from cmsproof.octets import Buffer
 from cmsproof.tokens import token_time
 from cmsproof_tools import der
+from cmsproof_tools.chains import links_of
 from cmsproof_tools.found import Found
-from cmsproof_tools.rows import Decided, Listed, Noting, digest_of, grounds_text, is_of_token
-from cmsproof_tools.signed_parts import Token, parts_of, signers_of
+from cmsproof_tools.rows import Decided, Linked, Listed, Noting, digest_of, grounds_text, is_of_token
+from cmsproof_tools.signed_parts import Token, parts_of, signers_of, token_of
 from cmsproof_tools.texts import Question, question_of
 
 # id-aa-timeStampToken (RFC 3161 appendix A) as an element, and in how many octets it is searched
@@ -22,8 +23,8 @@ TOKEN, SEARCHED = bytes.fromhex("060b2a864886f70d010910020e"), 1 << 20
 HEADS, SET, SEQUENCE, UNSIGNED = Struct(">HHHH"), 0x3182, 0x3082, 0xA1
 # the attribute message-digest (RFC 5652 11.2) with a digest of 32 octets, but for these
 DIGEST_ATTRIBUTE, SHA_256 = bytes.fromhex("302f06092a864886f70d01090431220420"), "2.16.840.1.101.3.4.2.1"
-# of how many keys and algorithms the grounds are kept
-MOST_KEPT = 4096
+# of how many keys and algorithms the grounds are kept, and how many time-stamps an evidence record has at most of which they are
+MOST_KEPT, MOST_LINKS = 4096, 256
 Held = tuple[str, tuple[Listed, ...], str]
 
 
@@ -134,6 +135,23 @@ def stamps_of(
                 yield Stamp(number, place, time, held("tsa", sid, good, noting), by)
 
 
+def grounds_of_record(octets: Buffer, vouched: Sequence[Question], noting: Noting) -> str:
+    """Under what the time-stamps of an evidence record hold, each of them unless they are very many, and of which authority the last one is,
+    as a text of JSON. Raises ValueError or IndexError where they cannot be read."""
+    asked: dict[bytes, list[Question]] = {}
+    for question in vouched:
+        asked.setdefault(question.signature, []).append(question)
+    holds, chains = list[Held](), list[Linked]()
+    links = links_of(octets)
+    for link in links:
+        sid, signature = signer_in(token_of(link.token, b""))
+        holds.append(held("tsa", sid, asked.get(signature, []), noting))
+        if link.time is not None and len(links) <= MOST_LINKS:
+            _, listed, digest = holds[-1]
+            chains.append(Linked(link.chain, link.time, link.algorithm or "", digest, sums_of(listed)))
+    return grounds_text(tuple(holds), (Decided(0, 0, sums_of(holds[-1][1]), ()),), tuple(chains))
+
+
 def grounds_of(
     found: Found, line: str, vouched: Sequence[Question], trust: cmsproof.TrustList, noting: Noting, sha1: bool
 ) -> str:
@@ -144,6 +162,11 @@ def grounds_of(
         return grounds_text(
             tuple((role, noting.keys.get((role, one.key), ()), digest_of(one.digest)) for role, one in roles), ()
         )
+    if found.kind == "record":
+        try:
+            return grounds_of_record(found.signed, vouched, noting)
+        except (ValueError, IndexError):
+            pass
     if found.kind != "signed":
         holds = tuple(("tsa", noting.keys.get(("tsa", one.key), ()), digest_of(one.digest)) for one in vouched)
         return grounds_text(holds, (Decided(0, 0, sums_of([one for _, listed, _ in holds for one in listed]), ()),))

@@ -5,18 +5,22 @@ import json
 import time
 from contextlib import ExitStack, contextmanager
 from functools import partial
-from typing import Any, Iterator, NamedTuple, Optional
+from typing import Any, Callable, Iterator, NamedTuple, Optional, Union
 
 import cmsproof
 from cmsproof_tools import bundles
-from cmsproof_tools.bundles import ANSWERS, CONTENT, QUESTIONS, SIGNED, TRUST, VERDICT, VERIFY, Bundle, Malformed, summed
+from cmsproof_tools.archive_words import add_judging
+from cmsproof_tools.bundles import ANSWERS, CONTENT, QUESTIONS, RECORD, SIGNED, TRUST, VERDICT, VERIFY
+from cmsproof_tools.bundles import Bundle, Malformed, summed
 from cmsproof.octets import File
+from cmsproof.verdicts import Said
 from cmsproof_tools.checking import STATUSES, Unread, check_unchanged, opened
+from cmsproof_tools.evidenced import first_ends
 from cmsproof_tools.finding import again_in_der, as_one, found_apart
 from cmsproof_tools.found import Found, Unfound
 from cmsproof_tools.outcomes import lost
 from cmsproof_tools.running import DONE, FAILED, MALFORMED, REFUSED, USAGE, Started, Stop, Words
-from cmsproof_tools.running import check_kept, one_line, shown, tell, write
+from cmsproof_tools.running import check_kept, module, one_line, shown, tell, write
 from cmsproof_tools.texts import answers_text
 from cmsproof_tools.verify import fault_of
 from cmsproof_tools.versions import versions
@@ -27,6 +31,10 @@ list, questions, answers, the line, versions, the SHA-256 of each, and how to ve
 
     cmsproof-archive evidence --trust trust.txt letter.p7s --to letter.zip
     cmsproof-archive evidence --verify letter.zip --trust trust.txt
+
+With --record the bundle is of an evidence record and of its file:
+
+    cmsproof-archive evidence --trust trust.txt --record records/map.tif.ers map.tif --to map.zip
 
 The answers of a bundle are not believed: its signatures are verified anew. Its trust list says whom its maker trusts: --trust
 names yours, which must be the same. Only --list-of-the-bundle goes by its maker's, which anybody can write: look at it first.
@@ -58,7 +66,7 @@ a stamp of its manifest: `cmsproof request --digest $(sha256sum < MANIFEST.json 
 class Judged(NamedTuple):
     """What was said of a signature: its verdict, the questions as a text, and the answers."""
 
-    verdict: cmsproof.Verdict
+    verdict: Union[cmsproof.Verdict, Said]
     questions: bytes
     answers: bytes
 
@@ -165,8 +173,8 @@ def content_of(bundle: Bundle, beside: Optional[File]) -> Any:
     return content
 
 
-def differences(bundle: Bundle, said: Judged) -> list[str]:
-    """What a bundle has otherwise than it is found now."""
+def differences(bundle: Bundle, said: Judged, how: Callable[[dict[str, Any]], str]) -> list[str]:
+    """What a bundle has otherwise than it is found now; `how` makes the text that says how it is verified."""
     manifest, members = bundle.manifest, bundle.members
     line = said.verdict.line
     found = [
@@ -179,12 +187,40 @@ def differences(bundle: Bundle, said: Judged) -> list[str]:
     return [name for name, same in found if not same]
 
 
-def unshown(bundle: Bundle, unnamed: bool) -> Iterator[str]:
-    """What nobody but the maker of a bundle says; `unnamed` says that the user named no trust list."""
+def judged_again(bundle: Bundle, beside: Optional[File], trust: cmsproof.TrustList) -> tuple[Judged, list[str]]:
+    """What is said of the signed file of a bundle now, and what the bundle has otherwise. Raises Malformed if it is none."""
+    content = content_of(bundle, beside)
+    said = judged(bundle.members[SIGNED], content, trust, bundle.manifest["sha1"])
+    return said, differences(bundle, said, how)
+
+
+def unlike(bundle: Bundle, given: Any) -> str:
+    """What the user did not say by which the verdict of a bundle was found; no text if there is nothing."""
     manifest = bundle.manifest
-    if unnamed:
+    if RECORD not in bundle.members:
+        if given.end or given.at or given.whole:
+            return "none of --end, --at and --whole, for it is no evidence record's"
+        return "--sha1, which you did not say" if manifest["sha1"] and not given.sha1 else ""
+    of_records = module("evidence_of_records")
+    policy = of_records.policy_of(manifest)
+    mine = of_records.Policy(first_ends(given.end), given.at or "", given.whole)
+    # (who goes by the maker's list and says no word goes by the maker's words too)
+    if policy.words() == mine.words() or (given.list_of_the_bundle and not mine.words()):
+        return ""
+    return f"{policy.words().strip() or 'no word'}, and you said another"
+
+
+def unshown(bundle: Bundle, given: Any) -> Iterator[str]:
+    """What nobody but the maker of a bundle says."""
+    manifest = bundle.manifest
+    if given.trust is None:
         sum_of = summed(bundle.members[TRUST])["sha256"]
         yield f"its trust list is its maker's, with the SHA-256 {sum_of}: anybody can write one"
+    if RECORD in bundle.members:
+        words = module("evidence_of_records").policy_of(manifest).words()
+        if words and not (given.end or given.at or given.whole):
+            yield f"its maker says{words}, and you did not"
+        return
     if {"size": manifest["size"], "sha256": manifest["sha256"]} != summed(bundle.members[SIGNED]):
         named = f"{shown(manifest['file'])}, with the SHA-256 {shown(manifest['sha256'])}"
         yield f"nothing shows that its signature is in {named}: its maker says so, and the bundle does not have that file"
@@ -197,24 +233,24 @@ def verify(tool: str, given: Any) -> tuple[int, str]:
         beside = None if given.content is None else stack.enter_context(opened(given.content))
         bundle = bundles.read_bundle(file.octets)
         # (a bundle is a zip file that is not packed)
-        one = as_one(given.verify, Found("", bundle.members[SIGNED], container="asic"), b"")
+        is_of_record = RECORD in bundle.members
+        one = as_one(given.verify, Found("", bundle.members[RECORD if is_of_record else SIGNED], container="asic"), b"")
         if isinstance(one, Unfound):
             return REFUSED, f"differs: {one.line}: {one.reason}"
-        content = content_of(bundle, beside)
         trusted = bytes(bundle.members[TRUST])
         if given.trust is not None and bytes(stack.enter_context(opened(given.trust)).octets) != trusted:
             return REFUSED, "differs: the trust list is another one than yours"
-        if bundle.manifest["sha1"] and not given.sha1:
-            return REFUSED, "differs: its verdict is one with --sha1, which you did not say"
-        said = judged(bundle.members[SIGNED], content, trust_of(trusted, f"{given.verify}, {TRUST}"), bundle.manifest["sha1"])
-        differ = differences(bundle, said)
-        del content
+        if words := unlike(bundle, given):
+            return REFUSED, f"differs: its verdict is one with {words}"
+        again = module("evidence_of_records").judged_again if is_of_record else judged_again
+        said, differ = again(bundle, beside, trust_of(trusted, f"{given.verify}, {TRUST}"))
+    told = module("evidence_of_records").told(said.verdict.line) if is_of_record else said.verdict.line
     if differ:
-        return REFUSED, f"differs: {', '.join(differ)}; it is now: {said.verdict.line}"
-    for line in unshown(bundle, given.trust is None):
+        return REFUSED, f"differs: {', '.join(differ)}; it is now: {told}"
+    for line in unshown(bundle, given):
         tell(tool, f"{shown(given.verify)}: {line}")
     under = ", under the trust list of its maker" if given.trust is None else ""
-    return STATUSES[said.verdict.verdict], f"same: {said.verdict.line}{under}"
+    return STATUSES[said.verdict.verdict], f"same: {told}{under}"
 
 
 def parser_of(tool: str) -> Words:
@@ -223,6 +259,10 @@ def parser_of(tool: str) -> Words:
     parser.add_argument("--trust", metavar="LIST", help="the trust list; with --verify yours, which that of the bundle must be")
     parser.add_argument("--content", metavar="FILE", help="the content, if the file does not hold it, or the bundle")
     parser.add_argument("--sha1", action="store_true", help="allow SHA-1 as a digest of contents and stamped signatures")
+    parser.add_argument(
+        "--record", metavar="FILE", help="make a bundle of this evidence record (RFC 4998), which is of the file"
+    )
+    add_judging(parser, "--record or --verify")
     parser.add_argument("--part", metavar="PART", help="which signature of the file, as it is shown behind its name")
     parser.add_argument("--without-content", action="store_true", help="put only the SHA-256 of a content into the bundle")
     parser.add_argument("--to", metavar="ZIP", help="the bundle that is made")
@@ -230,14 +270,19 @@ def parser_of(tool: str) -> Words:
     parser.add_argument(
         "--list-of-the-bundle", action="store_true", help="with --verify: go by the trust list of whoever made the bundle"
     )
-    parser.add_argument("file", nargs="?", metavar="FILE", help="a signed file")
+    parser.add_argument(
+        "file", nargs="?", metavar="FILE", help="a signed file, or with --record the file that the record is of"
+    )
     return parser
 
 
 def outcome_of(tool: str, given: Any, name: str) -> tuple[int, str]:
     """The status, and the line that ends the tool, if something fails; else what there is to be said is written."""
     try:
-        status, line = make(tool, given) if given.verify is None else verify(tool, given)
+        if given.verify is not None:
+            status, line = verify(tool, given)
+        else:
+            status, line = make(tool, given) if given.record is None else module("evidence_of_records").make(given)
         write("-", f"{shown(name)}: {one_line(line)}\n".encode())
         return max(status, FAILED if Started.lost else DONE), ""
     except Stop as stop:
@@ -266,17 +311,24 @@ def main(tool: str, words: list[str]) -> int:
     if given.verify is None and (None in making or given.trust is None):
         parser.error("--trust LIST FILE --to ZIP makes a bundle, and --verify ZIP asks what one says")
     if given.verify is not None and (making != [None, None] or given.part is not None or given.without_content):
-        parser.error("with --verify only --trust or --list-of-the-bundle, --content and --sha1 may be there")
+        parser.error(
+            "with --verify only --trust or --list-of-the-bundle, --content, --sha1, --end, --at and --whole may be there"
+        )
     if given.verify is not None and (given.trust is None) is not given.list_of_the_bundle:
         parser.error(
             "whom do you trust? --trust LIST names your list, --list-of-the-bundle goes by its maker's: say one of both"
         )
+    of_record = given.end or given.at is not None or given.whole
+    if given.verify is None and given.record is None and of_record:
+        parser.error("--end, --at and --whole go with --record, or with --verify")
+    if given.record is not None and (given.verify is not None or given.sha1 or {given.content, given.part} != {None}):
+        parser.error("--record goes with none of --verify, --content, --sha1 and --part")
     if given.verify is None and given.list_of_the_bundle:
         parser.error("--list-of-the-bundle goes with --verify")
     if given.to == "-":
         parser.error("- is no name for --to: write ./-")
     if given.verify is None:
-        check_kept(given.to, [given.file, given.trust, given.content])
+        check_kept(given.to, [given.file, given.trust, given.content, given.record])
     name = given.file if given.verify is None else given.verify
     # (in a process of its own, which ends where a long file is cut that is mapped there)
     with Workers(1, partial(outcome_of, tool, given)) as workers:

@@ -16,7 +16,10 @@ from cmsproof_tools.running import ACKNOWLEDGED, DONE, MALFORMED, REFUSED, USAGE
 # a line: a code, a space, and a name as `shown` writes it, in which each backslash begins an escape
 LINE = re.compile(r"([A-Z][1-9][0-9]*) ((?:[^\\]|\\(?:[\\nrt]|x[0-9a-f]{2}|u[0-9a-f]{4}|U[0-9a-f]{8}))+)")
 # by which letters the codes of a file's line begin, if it is refused or malformed; and the one of a line that says `failed`
-KINDS, NEVER = "CFKMPS", ("F2", "P3", "P4", "P5", "P6", "P7")
+KINDS, NEVER = "CFKMPSVW", ("F2", "P3", "P4", "P5", "P6", "P7", "W4")
+# of a time-stamp whose token fails: the rule that fails, since W4 says the same where its authority is in no list and where the file
+# was changed
+OF_TOKEN = re.compile(r"refused chain [0-9]+ stamp [0-9]+ W4 (K[0-9]+)")
 
 
 def acknowledged(line: str) -> tuple[str, str]:
@@ -28,6 +31,13 @@ def acknowledged(line: str) -> tuple[str, str]:
     if code[0] not in KINDS or code in NEVER or code not in module("cures").known_cures():
         raise ValueError(f"{code} is no code of a file that is refused or malformed")
     return code, name
+
+
+def code_of(status: int, line: str) -> str:
+    """The code by which what a line says is acknowledged, or no text."""
+    code = (parts_of(status, line) or {}).get("code", "") if status in (REFUSED, MALFORMED) else ""
+    token = OF_TOKEN.match(line) if code == "W4" else None
+    return token.group(1) if token else code
 
 
 class Known:
@@ -58,7 +68,7 @@ class Known:
 
     def covers(self, status: int, line: str, name: str) -> bool:
         """Whether a line acknowledges just this: a refusal, or a fault of form, of this code, of what is shown by this name."""
-        code = (parts_of(status, line) or {}).get("code", "") if status in (REFUSED, MALFORMED) else ""
+        code = code_of(status, line)
         if (code, name) in self.lines:
             self.met.add((code, name))
             return True

@@ -1,4 +1,4 @@
-"""The lines of `check` and the parts that they have (docs/LINES.md)."""
+"""The lines of `check`, `stamp check` and `evidence check`, and the parts that they have (docs/LINES.md)."""
 from __future__ import annotations
 
 import re
@@ -7,12 +7,13 @@ from cmsproof_tools.running import DONE, FAILED, MALFORMED, REFUSED
 from cmsproof_tools.texts import MOMENT, is_moment
 
 NUMBER, CODE = "[1-9][0-9]*", "(?P<code>[A-Z][0-9]+)"
+# of which signer, or of which time-stamp of an evidence record, a line is
+SIGNER = rf" signer (?P<signer>{NUMBER})(?: token (?P<token>{NUMBER}))?"
+STAMP = rf" chain (?P<chain>{NUMBER}) stamp (?P<chainstamp>{NUMBER})"
 # what is said of a file with each status
 LINES = {
-    DONE: re.compile(rf"(?P<verdict>accepted|stamped) (?P<time>{MOMENT})"),
-    REFUSED: re.compile(
-        rf"(?P<verdict>refused)(?: signer (?P<signer>{NUMBER})(?: token (?P<token>{NUMBER}))?)? {CODE}(?: [0-9A-Za-z ]+)?"
-    ),
+    DONE: re.compile(rf"(?P<verdict>accepted|stamped|evidenced) (?P<time>{MOMENT})"),
+    REFUSED: re.compile(rf"(?P<verdict>refused)(?:{SIGNER}|{STAMP})? {CODE}(?: [0-9A-Za-z ]+)?"),
     MALFORMED: re.compile(rf"(?P<verdict>malformed) {CODE} [A-Za-z]+(?: at [0-9]+)?"),
     FAILED: re.compile(rf"(?P<verdict>failed) (?:{CODE}(?: .*)?|.*)"),
 }

@@ -8,14 +8,15 @@ from cmsproof_tools.running import FAILED, one_line, shown, shown_apart
 
 
 # what the line of JSON has only where there is something to say
-SAID_IF_THERE = ("kind", "explanation", "container", "converted", "covers", "content", "stamp")
+NUMBERS = ("signer", "token", "chain", "chainstamp")
+SAID_IF_THERE = ("kind", "explanation", "container", "converted", "covers", "content", "stamp", "evidence")
 
 
 class Outcome(NamedTuple):
     """What is said of a file: status and line of `check`, how many questions there were, the faults of signatures, what kind of
     file it is if that is a cause, what explains a refusal, which part of the file it is about, what is to be noted of it, and how it
-    was found: in which container, converted how, covering what of it, with which file beside it as its content, or as its stamp;
-    and what a state keeps of it, a Record, or what one is made of.
+    was found: in which container, converted how, covering what of it, with which file beside it as its content, or as its stamp, or
+    elsewhere as its evidence record; and what a state keeps of it, a Record, or what one is made of.
     """
 
     name: str
@@ -32,6 +33,7 @@ class Outcome(NamedTuple):
     covers: str = ""
     content: str = ""
     stamp: str = ""
+    evidence: str = ""
     record: Any = None
 
     @property
@@ -76,7 +78,7 @@ def json_lines(outcome: Outcome) -> str:
     from cmsproof_tools.lines import parts_of
 
     found = parts_of(outcome.status, outcome.line) or {"verdict": outcome.line.partition(" ")[0]}
-    numbers = {name: int(found.pop(name)) for name in ("signer", "token") if name in found}
+    numbers = {name: int(found.pop(name)) for name in NUMBERS if name in found}
     part = {"part": one_line(outcome.part)} if outcome.part else {}
     members = {**named(outcome.name), **part, "status": outcome.status, "line": one_line(outcome.line), **found, **numbers}
     members.update({"questions": outcome.questions, "vouched": outcome.questions - len(outcome.faults)})

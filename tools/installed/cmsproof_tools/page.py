@@ -7,9 +7,9 @@ import html
 import json
 from collections import Counter
 from pathlib import Path
-from typing import Any, NamedTuple
+from typing import Any, NamedTuple, Tuple
 
-from cmsproof_tools import plots
+from cmsproof_tools import plots, timelines
 from cmsproof_tools.certificates import Certificate
 from cmsproof_tools.cures import known_cures, plain
 from cmsproof_tools.known import Known as Acknowledged
@@ -34,7 +34,11 @@ DIGESTS = {
 }
 
 
-ROLES, GOOD = ("tsa", "signer"), ("accepted", "stamped")
+ROLES, GOOD = ("tsa", "signer"), ("accepted", "stamped", "evidenced")
+# how many kinds of evidence records are told apart, and how many of these have a picture: those that must be renewed first
+MOST_KINDS, MOST_PICTURES = 10_000, 20
+# what says when the last time-stamp of a record must be renewed: by what it was judged, its algorithms and its authority
+Last = Tuple[int, str, str, Tuple[str, ...]]
 # a role, and the SHA-256 of a certificate in it
 Place = tuple[str, str]
 Pairs = Counter[Place]
@@ -59,6 +63,11 @@ class Tally:
         self.grounds: Counter[str] = Counter()
         self.bases: Counter[int] = Counter()
         self.judged: tuple[int, int] = (0, 0)
+        # how many files have evidence records with the same time-stamps, by their grounds and their basis, and one of the files; how many of
+        # these kinds must be renewed at the same moment; and of how many files the time-stamps are not kept
+        self.evidenced, self.shown_times = Counter[Tuple[str, int]](), Counter[str]()
+        self.examples: dict[tuple[str, int], Row] = {}
+        self.due, self.unkept = Counter[Last](), 0
 
     def add(self, row: Row, basis: int, new: bool | None) -> None:
         """One row more, and whether it is new."""
@@ -70,12 +79,27 @@ class Tally:
         if verdict == "accepted":
             self.years[row.line.partition(" ")[2][:4]] += 1
             self.grounds[row.grounds] += 1
+        elif verdict == "evidenced":
+            self.shown_times[row.line.partition(" ")[2][:4]] += 1
+            if (kind := (row.grounds, basis)) in self.evidenced or self.is_told_apart(row, basis):
+                self.evidenced[kind] += 1
+                self.examples.setdefault(kind, row)
         elif code := code_of(row):
             self.codes[code] += 1
             self.new_codes[code] += bool(new)
             self.words.setdefault(code, verdict)
         if new is not None:
             self.new = (self.new or 0) + new
+
+    def is_told_apart(self, row: Row, basis: int) -> bool:
+        """Whether an evidence record is told from others: of those that must be renewed at the same moment the first ones have pictures."""
+        chains = grounds_in(row.grounds).chains
+        self.unkept += not chains
+        if not chains or len(self.evidenced) >= MOST_KINDS:
+            return False
+        last = basis, chains[-1].algorithm, chains[-1].digest, chains[-1].authorities
+        self.due[last] += 1
+        return self.due[last] <= MOST_PICTURES
 
 
 def code_of(row: Row) -> str:
@@ -206,6 +230,29 @@ def rules(tally: Tally) -> str:
     return "\n".join(found)
 
 
+def renewals(tally: Tally, known: dict[Place, Known], bases: dict[int, Basis]) -> str:
+    """The evidence records that must be renewed first, each with its time-stamps on a line of time."""
+    authorities = {name: (about.subject, about.until) for (role, name), about in known.items() if role == "tsa"}
+    kinds = []
+    for (grounds, basis), count in tally.evidenced.items():
+        policy = timelines.policy_of(bases[basis].policy if basis in bases else "")
+        if uses := timelines.uses_of(grounds_in(grounds).chains, policy, authorities):
+            kinds.append((uses[-1].due, uses, count, tally.examples[grounds, basis]))
+    kinds.sort(key=lambda kind: (timelines.in_turn(kind[0]), kind[3]))
+    found = []
+    for due, uses, count, row in kinds[:MOST_PICTURES]:
+        others = f" and {count - 1:,} more" if count > 1 else ""
+        title = f"{shown(row.name)}{others}: existed by {day_of(uses[0].time)}"
+        last = f"renew before {day_of(due)}" if due else "no end of the last time-stamp is known"
+        found.append(f"<h3>{html.escape(title)} <small>{html.escape(last)}</small></h3>")
+        found.append(f'<div class="scroll">{timelines.timeline(uses, title)}</div>')
+        found.append(f"<p>{html.escape(timelines.last_text(uses))}</p>")
+    left = sum(tally.shown_times.values()) - sum(count for _, _, count, _ in kinds[:MOST_PICTURES])
+    unkept = f" Of {tally.unkept:,} of them the time-stamps are not kept: when to renew these is not known."
+    more = f"<p>And {left:,} files more.{unkept if tally.unkept else ''}</p>"
+    return "\n".join([*found, *([more] if left else [])])
+
+
 def bases_table(tally: Tally, bases: dict[int, Basis]) -> str:
     """By what the files were judged."""
     rows = []
@@ -245,6 +292,12 @@ def sections(tally: Tally, hanging: Hanging, known: dict[Place, Known], bases: d
             section("signers", "Under which signer's certificate", certificates_table(hanging, known, "signer")),
             section("digests", "By which digest algorithm", digests_table(hanging)),
         ]
+    if tally.shown_times:
+        plot = plots.columns(tally.shown_times, "Files with evidence records by the year of their moment")
+        what = "A time-stamp serves until the next one takes over; the last one must be renewed before its authority or its algorithm ends. "
+        what += "Dark is how long it serves, light how long it could."
+        found.append(section("evidenced", "With evidence records: by which year", f'<div class="scroll">{plot}</div>'))
+        found.append(section("renewals", "What of them must be renewed first", f"<p>{what}</p>{renewals(tally, known, bases)}"))
     if tally.codes:
         found.append(section("rules", "Not accepted: by which rule, and what helps", rules(tally)))
     return "\n".join([*found, section("bases", "By what they were judged", bases_table(tally, bases))])
@@ -284,7 +337,7 @@ def read_all(state: State, only: str, acknowledged: Acknowledged | None) -> tupl
 def left_out(tally: Tally, rows: list[Row], bad: int) -> str:
     """What the table does not have, of which so many rows are not accepted."""
     missing, missing_bad = sum(tally.verdicts.values()) - len(rows), max(0, bad - len(rows))
-    what = f", of which {missing_bad:,} are not accepted" if missing_bad else ", all of them accepted or stamped"
+    what = f", of which {missing_bad:,} are not accepted" if missing_bad else ", all of them accepted, stamped or evidenced"
     return f"{missing:,} rows are not in this table{what}: --csv has them. " if missing else ""
 
 
@@ -318,7 +371,9 @@ def page(state: State, only: str, acknowledged: Acknowledged | None = None) -> s
     tally, rows, bad = read_all(state, only, acknowledged)
     bases = state.bases()
     hanging = Hanging(tally.grounds)
-    known = known_certificates(state, [bases[number] for number in tally.bases if number in bases], set(hanging.files))
+    chained = {("tsa", name) for text, _ in tally.evidenced for link in grounds_in(text).chains for name in link.authorities}
+    wanted = chained.union(hanging.files)
+    known = known_certificates(state, [bases[number] for number in tally.bases if number in bases], wanted)
     folder = Path(__file__).parent
     script = (folder / "page.js").read_text(encoding="utf-8")
     said = f"The state {html.escape(shown(state.path))}" + (f", of which only what is {only} is counted" if only else "")

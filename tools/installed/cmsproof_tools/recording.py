@@ -3,7 +3,7 @@ from __future__ import annotations
 
 import hashlib
 
-from cmsproof_tools.checking import Draft, Work
+from cmsproof_tools.checking import RECORD, Draft, Work
 from cmsproof_tools.deciding import content_sum, grounds_of, usual_grounds
 from cmsproof_tools.outcomes import Outcome
 from cmsproof_tools.rows import NOTHING, Noting, Record, joined, steady
@@ -26,7 +26,7 @@ def record_of(work: Work, noting: Noting, draft: Draft) -> Record:
     if usual and content is None:
         return (*known, b"", usual)
     vouched = [question_of(0, question) for question in lines]
-    if work.content is not None and found.kind != "stamp":
+    if work.content is not None and found.kind not in ("stamp", RECORD):
         summed = noting.content
     elif content is None:
         summed = b""

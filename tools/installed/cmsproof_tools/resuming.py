@@ -8,6 +8,7 @@ from collections import Counter
 from typing import TYPE_CHECKING, Any, Iterable, Iterator, Sequence
 
 from cmsproof_tools.checking import Work
+from cmsproof_tools.evidenced import ENDING
 from cmsproof_tools.outcomes import Outcome
 from cmsproof_tools.rows import Row, mark_now, seen_here
 from cmsproof_tools.running import DONE, tell
@@ -39,6 +40,9 @@ class Resume:
         self.work, self.is_elsewhere, self.known = work, given.dask is not None, known
         self.kept: Counter[str] = Counter()
         self.worst = DONE
+        # the records that have rows by themselves, as where their files were not there
+        named = state.names_ending(ENDING) if work.records is not None else []
+        self.alone = frozenset(name for name in named if work.records is not None and work.records.file_of(name) is not None)
 
     def named(self, names: list[str]) -> list[str]:
         """The files that are meant: those that are named, and of these, or of all if none is, those that --only says."""
@@ -51,9 +55,15 @@ class Resume:
         return [name for name in names if name in meant]
 
     def mark_of(self, name: str) -> str:
-        """What says that a file, and those beside it that are its content and its stamps, are the same as before."""
+        """What says that a file, and those beside it that are its content and its stamps, and its record, are the same as before."""
         content = self.work.pairs.content_of(name) if self.work.content is None else None
-        return mark_now(name, content, *(judged_with(name) if self.work.stamps else []))
+        records = [] if self.work.records is None else self.work.records.judged_with(name)
+        return mark_now(name, content, *(judged_with(name) if self.has_stamps(name) else []), *records)
+
+    def has_stamps(self, name: str) -> bool:
+        """Whether a file is judged with the stamps beside it, as all are but records, where stamps are allowed."""
+        records = self.work.records
+        return self.work.stamps and (records is None or records.file_of(name) is None)
 
     def due(self, names: list[str]) -> list[str]:
         """The files that are to be judged; the others are counted."""
@@ -61,10 +71,11 @@ class Resume:
             return names
         found = []
         for name in names:
-            # (a file that is the content of another has a line only if it is a signed file)
-            rows = [] if name in self.work.contents else self.state.kept(name, self.mark_of(name), self.since)
+            # (a file that is the content of another has a line only if it is a signed file, or is to have a record)
+            is_content = name in self.work.contents and self.work.records is None
+            rows = [] if is_content else self.state.kept(name, self.mark_of(name), self.since)
             if rows:
-                self.forget_stamps(name)
+                self.forget_others(name)
                 ended = max(rows, key=lambda row: row.status)
                 self.kept[ended.line.partition(" ")[0]] += 1
                 self.worst = max(self.worst, self.status_of(rows, ended.status))
@@ -78,11 +89,16 @@ class Resume:
             return worst
         return self.known.add([Outcome(row.name, row.status, row.line, part=row.part) for row in rows])
 
-    def forget_stamps(self, name: str) -> None:
-        """Takes away the rows that stamps beside a file have by themselves, as where it was not there: they are judged with it."""
-        for one in beside(name) if self.work.stamps else []:
+    def forget_others(self, name: str) -> None:
+        """Takes away the rows that stamps beside a file have by themselves, as where it was not there, or its record: they are judged
+        with it."""
+        for one in beside(name) if self.has_stamps(name) else []:
             if one not in self.work.pairs.named and self.state.of_file(one):
                 self.state.put(one, [])
+        records = self.work.records
+        if self.alone and records is not None and records.file_of(name) is None:
+            if (place := records.place_of(name)) in self.alone:
+                self.state.put(place or "", [])
 
     def warn(self, name: str, rows: list[Row]) -> None:
         """Says of which part the octets changed although its times say that they did not."""
@@ -102,7 +118,7 @@ class Resume:
             if self.recheck:
                 self.warn(name, rows)
             kept = [row[1:] for row in rows]
-        self.forget_stamps(name)
+        self.forget_others(name)
         self.state.put_values(name, kept)
 
     def kept_of(self, names: Sequence[str], found: Iterable[list[Told]]) -> Iterator[list[Told]]:

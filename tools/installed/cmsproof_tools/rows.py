@@ -39,6 +39,18 @@ class Decided(NamedTuple):
     certificates: tuple[str, ...]
 
 
+class Linked(NamedTuple):
+    """A time-stamp in the chains of an evidence record: the number of its chain, its time, the identifiers of its digest algorithm and of
+    that of the authority's signature, and the SHA-256 of the authority's certificate, several where it cannot be told which of the list it
+    is."""
+
+    chain: int
+    time: str
+    algorithm: str
+    digest: str
+    authorities: tuple[str, ...]
+
+
 class Listed(NamedTuple):
     """A certificate of a trust list: its SHA-256, and its octets."""
 
@@ -179,10 +191,12 @@ def is_of_token(tail: bytes) -> bool:
 
 
 @lru_cache(maxsize=4096)
-def grounds_text(found: tuple[tuple[str, tuple[Listed, ...], str], ...], decided: tuple[Decided, ...]) -> str:
-    """Under what signatures hold, and what decided, as a text of JSON."""
+def grounds_text(
+    found: tuple[tuple[str, tuple[Listed, ...], str], ...], decided: tuple[Decided, ...], chains: tuple[Linked, ...] = ()
+) -> str:
+    """Under what signatures hold, and what decided, and of an evidence record its time-stamps, as a text of JSON."""
     holds = {Ground(role, one.sha256, digest) for role, listed, digest in found for one in listed}
-    return json.dumps({"holds": sorted(holds), "decided": decided})
+    return json.dumps({"holds": sorted(holds), "decided": decided, **({"chains": chains} if chains else {})})
 
 
 def values_of_all(outcomes: list[Outcome]) -> list[tuple[Any, ...]]:

@@ -11,7 +11,7 @@ from typing import Iterator, NamedTuple, Union
 from cmsproof.octets import COPIED, File
 from cmsproof_tools import stamps
 from cmsproof_tools.checking import STAMPED, UNSIGNED, Reading, Work
-from cmsproof_tools.checking import failed, noted, open_file, opened, outcome_of, stamps_judged, told, with_cure
+from cmsproof_tools.checking import failed, noted, open_file, opened, outcome_of, stamps_judged, told, unopened, with_cure
 from cmsproof_tools.finding import found_in
 from cmsproof_tools.found import Found, Unfound
 from cmsproof_tools.kinds import says_stamp
@@ -31,13 +31,16 @@ class Stamp(NamedTuple):
     file: Union[File, Exception, Unfound]
 
 
-def opened_beside(work: Work, name: str, stack: ExitStack) -> Stamp:
-    """The stamp of this name. One that fails costs no other one. What is long is not read: so each is a copy, which nobody changes."""
+def opened_beside(work: Work, name: str, stack: ExitStack, what: str = "a time-stamp") -> Stamp:
+    """The stamp of this name, or what else there is of a file. One that fails costs no other one. What is long is not read: so each is a
+    copy, which nobody changes."""
     called = os.path.basename(name)
     try:
         if os.lstat(name).st_size > COPIED:
-            return Stamp(called, Unfound(called, "F4", f"a time-stamp of more than {COPIED} octets"))
+            return Stamp(called, Unfound(called, "F4", f"{what} of more than {COPIED} octets"))
         return Stamp(called, stack.enter_context(open_file(work, name, COPIED)))
+    except OSError as error:
+        return Stamp(called, unopened(name, error))
     except Exception as error:
         return Stamp(called, error)
 
@@ -113,28 +116,43 @@ def own_outcomes(work: Work, name: str, reading: Reading) -> list[Outcome]:
     return own if first is None else [alone(work, one, first) for one in own]
 
 
-def outcomes_in(work: Work, name: str, reading: Reading) -> list[Outcome]:
-    """Checks a file, each part of it, and its stamps."""
-    with ExitStack() as stack:
-        first = stamps.stamped_by(name)
-        over = stack.enter_context(open_file(work, first)) if first is not None and is_regular(first) else None
-        there = [opened_beside(work, one, stack) for one in stamps.beside(name)]
-        files = [stamp.file if isinstance(stamp.file, File) else None for stamp in there]
-        reading = reading._replace(others=(*([over] if over else []), *files))
-        # (what a stamp is over is the file, and not the content beside it)
-        beside = () if reading.beside is None or work.content is not None else (reading.beside,)
-        of_stamps = reading._replace(beside=None, others=(*beside, *reading.others))
-        if over is None:
-            own = told(work, name, stamps_judged(work, own_outcomes(work, name, reading)))
-        else:
-            own = [judged(work, name, of_stamps, Stamp("", reading.file), over, "")._replace(content=over.name)]
-        stamped = [judged(work, name, of_stamps, stamp, reading.file, stamp.called) for stamp in there]
-        outcomes = together(own, stamped) if stamped else own
-        if work.noting is not None:
-            outcomes = noted(work, work.noting, outcomes)
+def alone_with(work: Work, reading: Reading) -> Reading:
+    """A reading of what is over the file itself, and not over the content beside it: that only says whether the file is as it was."""
+    beside = () if reading.beside is None or work.content is not None else (reading.beside,)
+    return reading._replace(beside=None, others=(*beside, *reading.others))
+
+
+def with_stamps(work: Work, name: str, reading: Reading, stack: ExitStack) -> tuple[list[Outcome], Reading]:
+    """What is said of a file, each part of it, and its stamps, and the reading with these, which are open as long as the block is."""
+    first = stamps.stamped_by(name)
+    over = stack.enter_context(open_file(work, first)) if first is not None and is_regular(first) else None
+    there = [opened_beside(work, one, stack) for one in stamps.beside(name)]
+    files = [stamp.file if isinstance(stamp.file, File) else None for stamp in there]
+    reading = reading._replace(others=(*([over] if over else []), *files, *reading.others))
+    of_stamps = alone_with(work, reading)
+    if over is None:
+        own = told(work, name, stamps_judged(work, own_outcomes(work, name, reading)))
+    else:
+        own = [judged(work, name, of_stamps, Stamp("", reading.file), over, "")._replace(content=over.name)]
+    stamped = [judged(work, name, of_stamps, stamp, reading.file, stamp.called) for stamp in there]
+    return together(own, stamped) if stamped else own, reading
+
+
+def with_others(name: str, outcomes: list[Outcome]) -> list[Outcome]:
+    """The outcomes of a file, of which the first one notes what is beside it as a stamp and is none."""
     notes = tuple(f"{shown(other)}, is beside it, and is not read" for other in stamps.kinds_of_others(name))
     if notes and outcomes:
         outcomes[0] = outcomes[0]._replace(notes=(*outcomes[0].notes, *notes))
+    return outcomes
+
+
+def outcomes_in(work: Work, name: str, reading: Reading) -> list[Outcome]:
+    """Checks a file, each part of it, and its stamps."""
+    with ExitStack() as stack:
+        outcomes, _ = with_stamps(work, name, reading, stack)
+        outcomes = with_others(name, outcomes)
+        if work.noting is not None:
+            outcomes = noted(work, work.noting, outcomes)
     return outcomes
 
 

@@ -17,9 +17,10 @@ from typing import Any, Iterable, Iterator, NamedTuple
 from urllib.parse import quote
 
 from cmsproof_tools.lines import parts_of
-from cmsproof_tools.rows import Decided, Ground, Row
+from cmsproof_tools.rows import Decided, Ground, Linked, Row
 from cmsproof_tools import running
 from cmsproof_tools.running import FAILED, Stop, shown, shown_apart
+from cmsproof_tools.texts import MOMENT, is_moment
 
 # `cmsp`, by which the file is known, and the version of its tables and of the texts in them
 APPLICATION, VERSION = 0x636D7370, 2
@@ -42,11 +43,14 @@ LONGEST = 1 << 28
 VERDICTS = running.VERDICTS
 # after how many files, and after how many seconds, rows are written for good: so few that no process waits for the next names
 FILES, SECONDS = 100, 1.0
+# how many texts of grounds are known by their numbers: each evidence record can have its own
+MOST_GROUNDS = 10_000
 # none: octets are bound as `bytearray`, since sqlite3 looks for an adapter of each `bytes` (DECISIONS, 300)
 NO_OCTETS = bytearray()
 # how the words of a basis and of grounds look, which a report shows: nobody else's words get there
 SUM, SUM_OR_NONE = re.compile(r"[0-9a-f]{64}"), re.compile(r"(?:[0-9a-f]{64})?")
-POLICY, OID_OR_NONE = re.compile(r"(?:--[a-z0-9]+(?: --[a-z0-9]+)*)?"), re.compile(r"(?:[0-9]+(?:\.[0-9]+)+)?")
+WORD = rf"--[a-z0-9]+(?: (?:[a-z0-9-]+=)?{MOMENT})?"
+POLICY, OID_OR_NONE = re.compile(rf"(?:{WORD}(?: {WORD})*)?"), re.compile(r"(?:[0-9]+(?:\.[0-9]+)+)?")
 
 
 class Basis(NamedTuple):
@@ -167,10 +171,11 @@ def basis_of(text: object) -> Basis:
 
 
 class Grounds(NamedTuple):
-    """Under what the signatures of a part hold, and what decided."""
+    """Under what the signatures of a part hold, what decided, and the time-stamps of an evidence record."""
 
     holds: tuple[Ground, ...]
     decided: tuple[Decided, ...]
+    chains: tuple[Linked, ...] = ()
 
 
 def decided_of(found: Any) -> Decided:
@@ -183,11 +188,23 @@ def decided_of(found: Any) -> Decided:
     return Decided(signer, token, tuple(sums[0]), tuple(sums[1]))
 
 
+def linked_of(found: Any) -> Linked:
+    """A time-stamp of an evidence record, as JSON has it. Raises ValueError if it is none."""
+    chain, at, algorithm, digest, authorities = found
+    if type(chain) is not int or chain < 1 or not isinstance(at, str) or not is_moment(at):
+        raise ValueError("its grounds are none")
+    if not all(is_word(one, OID_OR_NONE) for one in (algorithm, digest)):
+        raise ValueError("its grounds are none")
+    if not isinstance(authorities, list) or not all(is_word(one, SUM) for one in authorities):
+        raise ValueError("its grounds are none")
+    return Linked(chain, at, algorithm, digest, tuple(authorities))
+
+
 @lru_cache(maxsize=1024)
 def grounds_in(text: object) -> Grounds:
     """The grounds that a text of JSON says. Raises ValueError if it says something else."""
     found = json.loads(text) if isinstance(text, str) else None
-    if not isinstance(found, dict) or set(found) != {"holds", "decided"}:
+    if not isinstance(found, dict) or not {"holds", "decided"} <= set(found) <= {"holds", "decided", "chains"}:
         raise ValueError("it has no grounds")
     rows = [row for several in found.values() for row in (several if isinstance(several, list) else [None])]
     if not all(isinstance(row, list) for row in rows):
@@ -197,7 +214,8 @@ def grounds_in(text: object) -> Grounds:
         raise ValueError("its grounds are none")
     if not all(is_word(row[1], SUM_OR_NONE) and is_word(row[2], OID_OR_NONE) for row in holds):
         raise ValueError("its grounds are none")
-    return Grounds(tuple(Ground(*row) for row in holds), tuple(decided_of(row) for row in found["decided"]))
+    chains = tuple(linked_of(row) for row in found.get("chains", ()))
+    return Grounds(tuple(Ground(*row) for row in holds), tuple(decided_of(row) for row in found["decided"]), chains)
 
 
 def row_of(values: tuple[Any, ...]) -> Row:
@@ -287,6 +305,8 @@ class State:
         text, size, changed, mark, sha256, summed, status, line, grounds, judged = values
         number = self.grounds.get(grounds)
         if number is None:
+            if len(self.grounds) >= MOST_GROUNDS:
+                self.grounds.clear()
             number = self.grounds.setdefault(grounds, self.number("grounds", grounds))
         part = bytearray(os.fsencode(text)) if text else NO_OCTETS
         content = bytearray(summed) if summed else NO_OCTETS
@@ -341,6 +361,15 @@ class State:
         """The names of the files of which a part has this verdict, in the order of their octets."""
         with told(self.path):
             found = self.database.execute("SELECT DISTINCT name FROM files WHERE verdict = ? ORDER BY name", (verdict,))
+            return [os.fsdecode(name) for (name,) in found if isinstance(name, bytes) and name and b"\0" not in name]
+
+    def names_ending(self, ending: str) -> list[str]:
+        """The names of the files that have rows and end so."""
+        octets = os.fsencode(ending)
+        with told(self.path):
+            found = self.database.execute(
+                "SELECT DISTINCT name FROM files WHERE substr(name, ?) = ?", (-len(octets), bytearray(octets))
+            )
             return [os.fsdecode(name) for (name,) in found if isinstance(name, bytes) and name and b"\0" not in name]
 
     def rows(self, only: str = "") -> Iterator[tuple[Row, int]]:

@@ -2,8 +2,8 @@
 # run.sh LIBRARY: the C program beside this file, built on the library in that folder, in four ways: with the sanitizers of gcc on
 # the library of objects; as C99 on the shared library, under valgrind; as C++; by clang. For each real file the first line that it
 # prints must be the line of the command ./cmsproof, and the answer in numbers the same in all four. Then the library beside abi.txt;
-# each allocation refused in turn, under valgrind; 8 threads under TSan, helgrind and drd. It prints a line for each file, and ends
-# with status 1 at the first that differs. `soak.sh` does more of this for longer.
+# each allocation refused in turn, also of evidence records, under valgrind; 8 threads under TSan, helgrind and drd. It prints a line
+# for each file, and ends with status 1 at the first that differs. `soak.sh` does more of this for longer.
 set -eu
 unset CDPATH
 cd "$(dirname "$0")/../../.."
@@ -46,6 +46,12 @@ build() { # NAME FLAG ..: builds the program NAME.c as FOLDER/NAME
 build refused -Wl,--wrap=malloc,--wrap=realloc,--wrap=free
 # shellcheck disable=SC2086 # three words
 valgrind -q --error-exitcode=9 --leak-check=no "$folder/refused" $known "$token" "${token%.tok}.tsq" "${token%.tok}.tsr" "$real/rsa_detached_ts.p7s" "$real/noattr.p7s"
+build evidence -Wl,--wrap=malloc,--wrap=realloc,--wrap=free
+records=data/records
+for name in one_document renewed_by_a_hash_tree renewed_five_times; do
+    valgrind -q --error-exitcode=9 --leak-check=no "$folder/evidence" $records/trust.txt $records/answers.txt sha1=20160101000000Z '' 0 \
+        $records/records/bouncy_castle_$name.ers $records/files/document_0 | grep -q '^accepted '
+done
 build threads -fsanitize=thread
 # shellcheck disable=SC2086
 "$folder/threads" $known 3 "$real"/*.p7s

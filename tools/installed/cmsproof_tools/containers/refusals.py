@@ -20,6 +20,8 @@ WORDS = {
     "F13": "ObjectDiffers",
     "F14": "ContentTwice",
     "F15": "StampAlone",
+    "F16": "NoRecord",
+    "F17": "RecordAlone",
 }
 # a program or a library that is missing is no fault of the file
 FAILURES = ("F2",)

@@ -35,3 +35,9 @@ returns-in-Many-clause-cut g c = λ ends.
     rw c.in-Many.is
     (many_failed g.R.File.Read.remaining g.R.File.Describes.says c.in-Many.many c.run-in-Many.result _ _
     c.run-in-Many.ensures.told ends)
+
+pub returns-in-Evidence-clause-malformed : goal.returns-in-Evidence-clause-malformed
+returns-in-Evidence-clause-malformed g c = λ ends. inl (c.run-in-Evidence.ensures.malformed ends)
+
+pub returns-in-Evidence-clause-refused : goal.returns-in-Evidence-clause-refused
+returns-in-Evidence-clause-refused g c = λ ends. inl (c.run-in-Evidence.ensures.refused ends)

@@ -35,10 +35,12 @@ passes g c h by =
 -- the verifier is asked about it alone
 asks : (g : Over) (c : After-moment_of g)
     → AsksOnly (λ test. g.V.Verifier.asked_only test c.args.verifier.now c.moment_of.new.verifier)
-    (IsAskedOfStamp c.args.checker.now c.args.stamp.now (map octets_of c.args.around.now.covered.now))
+    (IsAskedOfStamp c.args.checker.now c.args.stamp.now c.args.around.now.alg
+    (map octets_of c.args.around.now.covered.now))
 asks g c = λ test tests. c.moment_of.ensures.only test (λ q about. tests q
-    (asked_of c.args.checker.now c.args.stamp.now (map octets_of c.args.around.now.covered.now) c.in-Some.alg
-    c.in-Some.ensures.found.0 c.in_ok-root.root (is_root g c) c.stamp-2.result.now c.stamp-2.ensures q about))
+    (asked_of c.args.checker.now c.args.stamp.now c.args.around.now.alg (map octets_of c.args.around.now.covered.now)
+    c.in-Some.alg c.in-Some.ensures.found.0 c.in-Some.ensures.found.1 c.in_ok-root.root (is_root g c)
+    c.stamp-2.result.now c.stamp-2.ensures q about))
 
 pub rule_of_unread-failed-requires : goal.rule_of_unread-failed-requires
 rule_of_unread-failed-requires g c =

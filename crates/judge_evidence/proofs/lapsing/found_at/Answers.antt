@@ -19,3 +19,15 @@ returns-clause-judged g c = λ ds f.
     let time = fits_at t ds c.args.place.now c.args.fit.now.alg c.args.fit.now.moment f in
     found_if t ds c.args.place.now c.lapse_at.result (c.lapse_at.ensures.judged ds f
     (c.in-Some-until_of.ensures.found time))
+
+pub returns-in_default-clause-only : goal.returns-in_default-clause-only
+returns-in_default-clause-only g c = λ ds f test tests. g.V.Verifier.asked_nothing test _
+
+pub returns-in_default-until_of-clause-only : goal.returns-in_default-until_of-clause-only
+returns-in_default-until_of-clause-only g c = λ ds f test tests. g.V.Verifier.asked_nothing test _
+
+pub returns-clause-only : goal.returns-clause-only
+returns-clause-only g c = λ ds f.
+    let t = grounds_of c.args.terms.now (g.V.Verifier.vouches c.args.verifier.now) in
+    c.lapse_at.ensures.only ds f (c.in-Some-until_of.ensures.found (fits_at t ds c.args.place.now c.args.fit.now.alg
+    c.args.fit.now.moment f))

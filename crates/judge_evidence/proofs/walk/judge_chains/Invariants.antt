@@ -7,6 +7,7 @@ use Rattle.judge_evidence.proofs.walk.judge_chains.Given as goal
 abbrev pub invariant-loop-run : goal.invariant-loop-run
 invariant-loop-run g l = IsAtPlace (grounds_of l.terms (g.V.Verifier.vouches l.initial.verifier)) l.terms l.chains
     l.digests l.place l.run l.its l.checker (g.V.Verifier.vouches l.verifier)
+    (λ test. g.V.Verifier.asked_only test l.initial.verifier l.verifier)
     (g.V.Verifier.failures l.initial.verifier) (g.V.Verifier.failures l.verifier)
 
 abbrev pub decreases-loop-run : goal.decreases-loop-run

@@ -1,0 +1,151 @@
+-- What is said of an evidence record that was checked.
+use Rattle.std.proofs.Common.{◌≡◌, ◌⊎◌, ℕ, Bool, List, Option, Result, Ok, Err, refl, inl, inr, codes}
+use Rattle.std.specs.Prelude.{Any, IfErr, IfOk, MatchResult}
+use Rattle.devices.specs.Device.{raised}
+use Rattle.check_fit.specs.declared.rules.DeviceFault.{DeviceFault}
+use Rattle.check_fit.specs.declared.rules.DeviceFault.TheVariants as device
+use Rattle.digests.specs.declared.selection.WantedDigests.{WantedDigests}
+use Rattle.trust_lists.specs.Asking.{Asked, is_among}
+use Rattle.trust_lists.specs.Entries.{EntryValue}
+use Rattle.check_evidence.specs.Grounds.{AlgEnd, Grounds}
+use Rattle.check_evidence.specs.Refusing.{Refuses}
+use Rattle.check_evidence.specs.declared.rules.EvidenceRefused.{EvidenceRefused}
+use Rattle.check_evidence.specs.declared.rules.EvidenceRefused.TheVariants as refused
+use Rattle.judge_evidence.specs.Data.{AreOfData}
+use Rattle.judge_evidence.specs.RecordVerdicts.{IsVerdict}
+use Rattle.judge_evidence.specs.Walking.{CountsRefused}
+use Rattle.cli_tasks.specs.declared.task.EvidenceWords.{EvidenceWords}
+use Rattle.cli_failures.specs.declared.failure.Failure.{Failure}
+use Rattle.cli_failures.specs.declared.failure.Failure.TheVariants as failure
+use Rattle.cli_failures.specs.Causes.{Names}
+use Rattle.cli_failures.specs.Ends.{StatesNoEnd}
+use Rattle.cli_failures.specs.Files.{IsFailureToOpen, IsHeld}
+use Rattle.cli_commands.specs.Lists.{IsAnswersOf, IsTrustOf}
+use Rattle.cli_commands.specs.Stamping.{IsUnread}
+use Rattle.cli_evidence.specs.Checking.{AcceptsData, AreEndsIn, IsChecked, IsFault, IsGrounds, IsMomentAt, RefusesData}
+use Rattle.cli_evidence.specs.Digesting.{AreDigested, IsUndigested, TellsUnwanted}
+use Rattle.cli_evidence.proofs.Unopened.{unopened}
+use Rattle.cli_evidence.specs.Verdicts.{TellsAccepted, TellsRefused}
+use Rattle.digests.specs.declared.set.Algs.{Algs}
+
+-- an answers list never fails
+never_raised : 0 ≡ raised 0 → ⊥
+never_raised e = let no : 0 ≡ 1 = e in cc
+
+-- what a check goes by, by its lists and what the words state
+abbrev pub grounds_by : List EntryValue → (vouched : List Asked) → List AlgEnd → (at : Option ℕ) → (whole : Bool)
+    → Grounds
+grounds_by trust vouched ends at whole = record {
+  trust = trust;
+  vouches = λ q. is_among vouched q;
+  ends = ends;
+  at = at;
+  whole = whole;
+}
+
+-- ---- before the record is judged
+
+module _ {F : Type 0} (holds : F → Option (List ℕ)) (words : EvidenceWords) (f : Failure) where
+  no_memory : f ≡ failure.Memory → RefusesData holds words f
+  no_memory is = inr (inl (inl (inl is)))
+
+  pub ends_refused : (f ≡ failure.Memory)
+      ⊎ (Names (codes "end") f × Any (λ word. StatesNoEnd word.now) words.ends.items) → RefusesData holds words f
+  ends_refused (inl is) = no_memory is
+  ends_refused (inr states) = inl (inl states)
+
+  pub wanted_refused : (octets : List ℕ) → IsHeld holds octets → TellsUnwanted octets f → RefusesData holds words f
+  wanted_refused octets held (failed, fails, is) =
+      inr (inr (inr (inr (inl (unopened holds octets failed held f fails is)))))
+
+  as_fault : (fault : DeviceFault) → IsUnread holds fault → IsFault holds fault
+  as_fault device.ReadFailed unread = unread
+  as_fault device.ContentTooLong unread = unread
+  as_fault device.AskFailed unread = unread
+  as_fault device.TooLong unread = unread
+  as_fault device.OutOfMemory unread = tt
+
+  pub data_refused : (f ≡ failure.Memory)
+      ⊎ (Any (λ path. IsFailureToOpen path f) words.data.items ⊎ IsUndigested holds f) → RefusesData holds words f
+  data_refused (inl is) = no_memory is
+  data_refused (inr (inl opens)) = inr (inr (inr (inr (inr (inl opens)))))
+  data_refused (inr (inr (fault, unread, is))) =
+      inr (inr (inr (inr (inr (inr (inl (fault, as_fault fault unread, is)))))))
+
+-- ---- the verdict
+
+module _ {F : Type 0} (holds : F → Option (List ℕ)) (words : EvidenceWords) (trust : List EntryValue)
+    (vouched : List Asked) (ends : List AlgEnd) (at : Option ℕ) (trusted : IsTrustOf holds trust)
+    (answered : IsAnswersOf holds vouched) (stated : AreEndsIn words.ends.items ends) (moment : IsMomentAt words.at at)
+  where
+    abbrev g : Grounds
+    g = grounds_by trust vouched ends at words.whole
+
+    grounds : IsAnswersOf holds vouched → IsGrounds holds words g
+    grounds (text, asked, read, says, same) = record {
+      trust = trusted;
+      text = text;
+      read = read;
+      asked = asked;
+      says = says;
+      vouches = same;
+      ends = stated;
+      at = moment;
+      whole = refl;
+    }
+
+    module _ (octets : List ℕ) (held : IsHeld holds octets) (wanted : Algs) (digests : List WantedDigests)
+        (digested : AreDigested holds wanted words.data.items digests) where
+      abbrev Judged : Result ℕ EvidenceRefused → Type 0
+      Judged verdict = (data_objects : List (List ℕ)) → AreOfData digests data_objects
+          → IsVerdict g octets data_objects verdict
+
+      checked : IsChecked holds words g octets digested.data_objects
+      checked = record {
+        grounds = grounds answered;
+        record_held = held;
+        data_held = digested.held;
+      }
+
+      refusal : (why : EvidenceRefused) (f : Failure) → Refuses g octets digested.data_objects why
+          → f ≡ failure.Unshown why → RefusesData holds words f
+      refusal why f refuses is =
+          inr (inr (inr (inr (inr (inr (inr (g, octets, digested.data_objects, why, checked, refuses, is)))))))
+
+      refused_by : (why : EvidenceRefused) (f : Failure) → IsVerdict g octets digested.data_objects (Err why)
+          → CountsRefused (let r : Result ℕ EvidenceRefused = Err why in r) 0 0
+          → f ≡ failure.Unshown why → RefusesData holds words f
+      refused_by (refused.Record failed) f refuses counts is = refusal (refused.Record failed) f refuses is
+      refused_by (refused.Stamp chain stamp failed) f refuses counts is =
+          refusal (refused.Stamp chain stamp failed) f refuses is
+      refused_by (refused.Device device.OutOfMemory) f fault counts is =
+          inr (inr (inr (inr (inr (inr (inl (device.OutOfMemory, tt, is)))))))
+      refused_by (refused.Device device.AskFailed) f fault counts is = absurd (never_raised counts)
+      refused_by (refused.Device device.ReadFailed) f fault counts is = absurd fault
+      refused_by (refused.Device device.TooLong) f fault counts is = absurd fault
+      refused_by (refused.Device device.ContentTooLong) f fault counts is = absurd fault
+
+      module _ {T : Type 0} (bytes : T → List ℕ) where
+        abbrev Told : Result T Failure → Result ℕ EvidenceRefused → Type 0
+        Told r verdict = MatchResult r (λ l. TellsAccepted verdict (bytes l)) (TellsRefused verdict)
+
+        pub accepts : (verdict : Result ℕ EvidenceRefused) (r : Result T Failure) → Judged verdict → Told r verdict
+            → IfOk r (λ l. AcceptsData holds words (bytes l))
+        accepts verdict (Err f) judged told = tt
+        accepts (Ok m) (Ok l) judged told = (
+          g,
+          octets,
+          digested.data_objects,
+          m,
+          checked,
+          judged digested.data_objects digested.are,
+          told,
+        )
+        accepts (Err why) (Ok l) judged told = absurd told
+
+        pub refuses : (verdict : Result ℕ EvidenceRefused) (r : Result T Failure) → Judged verdict
+            → CountsRefused verdict 0 0 → Told r verdict → IfErr r (RefusesData holds words)
+        refuses verdict (Ok l) judged counts told = tt
+        refuses (Ok m) (Err f) judged counts told = inr (inl (inl (inl told)))
+        refuses (Err why) (Err f) judged counts told =
+            refused_by why f (judged digested.data_objects digested.are) counts told

@@ -1,0 +1,4 @@
+pub mod Zips
+pub mod Digested
+pub mod Unopened
+pub mod Checked

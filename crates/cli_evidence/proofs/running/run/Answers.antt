@@ -1,0 +1,10 @@
+use Rattle.cli_commands.proofs.Malformed.{fault_reported, refusal_reported}
+use Rattle.cli_evidence.proofs.running.run.Goals as goal
+
+pub returns-in-Err-clause-refused : goal.returns-in-Err-clause-refused
+returns-in-Err-clause-refused g c =
+    refusal_reported c.in-Err.failure c.report.result _ _ c.report.ensures.status c.report.ensures.refused
+
+pub returns-in-Err-clause-malformed : goal.returns-in-Err-clause-malformed
+returns-in-Err-clause-malformed g c =
+    fault_reported c.in-Err.failure c.report.result _ _ c.report.ensures.status c.report.ensures.told

@@ -1,0 +1,97 @@
+-- What `evidence check` prints for an evidence record, data, a trust list and an answers list. `holds` is what an open
+-- file holds, if that is known. Begin here.
+--
+-- The words are accepted with a moment, if a record that a file holds shows it for data that files hold, by the lists
+-- that files hold: `Shows` of check_evidence/specs/Showing.antt (RFC 4998, 5.3). Otherwise it is said why not.
+use Rattle.std.specs.Prelude.{◌≡◌, ◌⊎◌, ℕ, List, Option, None, Ok, MatchOption, IsSomeAnd, Any, codes}
+use Rattle.std.specs.Borrow.{Bor}
+use Rattle.std.specs.List.{AllZip}
+use Rattle.check_fit.specs.declared.rules.DeviceFault.{DeviceFault}
+use Rattle.check_fit.specs.declared.rules.DeviceFault.TheVariants as device
+use Rattle.trust_lists.specs.Asking.{Asked, is_among}
+use Rattle.list_answers.specs.AnswersText.{answers_of}
+use Rattle.check_evidence.specs.Grounds.{AlgEnd, Grounds}
+use Rattle.check_evidence.specs.Showing.{Shows}
+use Rattle.check_evidence.specs.Refusing.{RecordFails, Refuses}
+use Rattle.check_evidence.specs.declared.rules.RecordRule.{RecordRule}
+use Rattle.check_evidence.specs.declared.rules.EvidenceRefused.{EvidenceRefused}
+use Rattle.check_evidence.specs.declared.rules.EvidenceRefused.TheVariants as refused
+use Rattle.lines_report.specs.VerdictLine.{IsVerdictLine}
+use Rattle.cli_tasks.specs.declared.task.EvidenceWords.{EvidenceWords}
+use Rattle.cli_failures.specs.declared.failure.Failure.{Failure}
+use Rattle.cli_failures.specs.declared.failure.Failure.TheVariants as failure
+use Rattle.cli_failures.specs.Causes.{Names}
+use Rattle.cli_failures.specs.Ends.{IsEndIn, IsTimeIn, StatesNoEnd, StatesNoTime}
+use Rattle.cli_failures.specs.Files.{IsFailureToOpen, IsFailureToRead, IsHeld}
+use Rattle.cli_commands.specs.Judging.{IsContentHeld}
+use Rattle.cli_commands.specs.Lists.{IsTrustOf, IsFailureOfTrust, IsFailureOfAnswers}
+use Rattle.cli_commands.specs.Stamping.{IsUnread}
+
+-- the words state these ends of algorithms, in their order
+abbrev pub AreEndsIn : (words : List (Bor (List ℕ))) → List AlgEnd → Type 0
+AreEndsIn words ends = AllZip (λ word e. IsEndIn word.now e) words ends
+
+-- this is the moment that a word states, if there is one
+abbrev pub IsMomentAt : (at : Option (Bor (List ℕ))) → Option ℕ → Type 0
+IsMomentAt at moment = MatchOption at (moment ≡ None) (λ text. IsSomeAnd moment (IsTimeIn text.now))
+
+-- the grounds of a check: the text of a file is the trust list, and that of another file is an answers list; its
+-- questions are vouched for, and no others; the words state the rest
+pub record IsGrounds {F : Type 0} (holds : F → Option (List ℕ)) (words : EvidenceWords) (g : Grounds) : Type 0 where
+  pub trust : IsTrustOf holds g.trust
+  pub text : List ℕ
+  pub read : IsHeld holds text
+  pub asked : List Asked
+  pub says : answers_of text ≡ Ok asked
+  pub vouches : (q : Asked) → g.vouches q ≡ is_among asked q
+  pub ends : AreEndsIn words.ends.items g.ends
+  pub at : IsMomentAt words.at g.at
+  pub whole : g.whole ≡ words.whole
+
+-- these are all the octets of the files of data, one for each path, in their order
+abbrev pub AreHeld : {F : Type 0} → (holds : F → Option (List ℕ)) → (paths : List (Bor (List ℕ)))
+    → (data_objects : List (List ℕ)) → Type 0
+AreHeld holds paths data_objects = AllZip (λ path octets. IsContentHeld holds octets) paths data_objects
+
+-- what is checked: the grounds, a record that a file holds, and the data
+pub record IsChecked {F : Type 0} (holds : F → Option (List ℕ)) (words : EvidenceWords) (g : Grounds)
+    (octets : List ℕ) (data_objects : List (List ℕ)) : Type 0 where
+  pub grounds : IsGrounds holds words g
+  pub record_held : IsHeld holds octets
+  pub data_held : AreHeld holds words.data.items data_objects
+
+-- the record shows a moment for the data, and the text says so
+abbrev pub AcceptsData : {F : Type 0} → (holds : F → Option (List ℕ)) → EvidenceWords → (text : List ℕ) → Type 0
+AcceptsData holds words text = (g : Grounds) × (octets : List ℕ) × (data_objects : List (List ℕ)) × (m : ℕ)
+    × IsChecked holds words g octets data_objects × Shows g octets data_objects m × IsVerdictLine (Ok m) text
+
+-- ---- why it is not accepted
+
+-- a word states no end of an algorithm, or no moment
+abbrev pub IsUnstated : EvidenceWords → Failure → Type 0
+IsUnstated words f = (Names (codes "end") f × Any (λ word. StatesNoEnd word.now) words.ends.items)
+    ⊎ (Names (codes "at") f × IsSomeAnd words.at (λ text. StatesNoTime text.now))
+
+-- V1 or V2: the record of a file fails a rule, whatever the data are
+abbrev pub IsUnopened : {F : Type 0} → (holds : F → Option (List ℕ)) → Failure → Type 0
+IsUnopened holds f = (octets : List ℕ) × (failed : RecordRule) × IsHeld holds octets
+    × ((data_objects : List (List ℕ)) → RecordFails octets data_objects failed)
+    × (f ≡ failure.Unshown (refused.Record failed))
+
+-- X1 or X5: a file of data isn't read to its end; X4: memory was refused
+abbrev pub IsFault : {F : Type 0} → (holds : F → Option (List ℕ)) → DeviceFault → Type 0
+IsFault holds device.OutOfMemory = Unit {0}
+IsFault holds fault = IsUnread holds fault
+
+-- a device failed, or the record is refused
+abbrev pub IsRefusal : {F : Type 0} → (holds : F → Option (List ℕ)) → EvidenceWords → Failure → Type 0
+IsRefusal holds words f = ((fault : DeviceFault) × IsFault holds fault × (f ≡ failure.Unshown (refused.Device fault)))
+    ⊎ ((g : Grounds) × (octets : List ℕ) × (data_objects : List (List ℕ)) × (why : EvidenceRefused)
+    × IsChecked holds words g octets data_objects × Refuses g octets data_objects why × (f ≡ failure.Unshown why))
+
+-- a word isn't as it must be, a list's file fails or isn't a list, a file can't be opened or read, memory runs out, or
+-- the record is refused
+abbrev pub RefusesData : {F : Type 0} → (holds : F → Option (List ℕ)) → EvidenceWords → Failure → Type 0
+RefusesData holds words f = IsUnstated words f ⊎ (IsFailureOfTrust holds words.trust f
+    ⊎ (IsFailureOfAnswers holds words.answers f ⊎ (IsFailureToRead words.record f ⊎ (IsUnopened holds f
+    ⊎ (Any (λ path. IsFailureToOpen path f) words.data.items ⊎ IsRefusal holds words f)))))

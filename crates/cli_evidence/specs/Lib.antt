@@ -1,0 +1,5 @@
+pub mod Verdicts
+pub mod Checking
+pub mod Digesting
+pub mod Questions
+pub mod Tasks

@@ -1,0 +1,82 @@
+//! What a command about an evidence record does: its text is made first, and then printed.
+ghost use Rattle.std.specs.Prelude.{◌≡◌, ◌⊎◌, ℕ, List, IfErr, IfOk};
+ghost use Rattle.std.specs.Io.KnownBytes.{Appends};
+ghost use Rattle.cli_failures.specs.declared.failure.Failure.{Failure};
+ghost use Rattle.cli_failures.specs.Failures.{failure_text, status_of};
+ghost use Rattle.cli_failures.specs.Output.{Begins};
+ghost use Rattle.cli_commands.specs.Telling.{TellsMalformed, TellsRefusal};
+ghost use Rattle.cli_evidence.specs.Tasks.{FailsBy, IsDoneBy, StopsBy};
+
+use crate::check::check_record;
+use crate::questions::record_questions;
+use cli_failures::output::put;
+use cli_failures::{Failure, Status};
+use cli_tasks::EvidenceTask;
+use std::io::Write;
+use std::rt::Files;
+
+/// Does a task about an evidence record, and reports how it ended.
+///
+/// What was requested goes to `out`; the reason why something was not done goes to `err`. The octets of files are what
+/// `rt` gives.
+pub fn run<R, O, E>(rt: &R, task: &EvidenceTask<'_>, out: &mut O, err: &mut E) -> Status
+where
+    R: Files + AllocGlobal,
+    O: Write,
+    E: Write,
+    // With `Done` the output took what this task prints of what files hold, if it is known what it takes.
+    ensures done { result ≡ Status.Done → (text : List ℕ) × IsDoneBy R.File.remaining task.now text
+        × Appends (O.contents out.old) (O.contents out.new) text }
+    // Why a record is refused is printed, and is a failure of this task.
+    ensures told { (result ≡ Status.Malformed) ⊎ (result ≡ Status.Refused) → (f : Failure)
+        × FailsBy R.File.remaining task.now f × (status_of f ≡ result)
+        × Appends (O.contents out.old) (O.contents out.new) (failure_text f) }
+    // With `Malformed` the output took a line of a file that is not of its form, if it is known what it takes.
+    ensures malformed { result ≡ Status.Malformed → TellsMalformed (O.contents out.old) (O.contents out.new) }
+    // With `Refused` the output took a line of a rule that refuses a file, if it is known what it takes.
+    ensures refused { result ≡ Status.Refused → TellsRefusal (O.contents out.old) (O.contents out.new) }
+    // With `Failed` the output took a beginning of what this task prints, or of the line of a failure that goes there.
+    ensures cut { result ≡ Status.Failed → StopsBy R.File.remaining task.now (O.contents out.old)
+        (O.contents out.new) }
+    // If a value isn't as it must be, nothing is printed on the standard output.
+    ensures silent { result ≡ Status.Usage → out.new ≡ out.old }
+    // With `Usage` the failure is one of this task with that status.
+    ensures usage { result ≡ Status.Usage → (f : Failure) × FailsBy R.File.remaining task.now f
+        × (status_of f ≡ Status.Usage) }
+    // Only that, and what failed, is printed on the other output.
+    ensures quiet { (result ≡ Status.Usage) ⊎ ((result ≡ Status.Failed) ⊎ (err.new ≡ err.old)) }
+{
+    match text_of(rt, task) {
+        Ok(text) => put_text(text.as_slice(), out, err),
+        Err(failure) => failure.report(out, err),
+    }
+}
+
+/// What a task prints.
+///
+/// Errors: why it can't be had.
+fn text_of<'a, R: Files + AllocGlobal>(
+    rt: &R,
+    task: &EvidenceTask<'a>,
+) -> Result<Vec<u8>, Failure<'a>>
+    ensures done { IfOk result (λ text. IsDoneBy R.File.remaining task.now text.items) }
+    ensures failed { IfErr result (FailsBy R.File.remaining task.now) }
+{
+    match task {
+        EvidenceTask::Check(words) => check_record(rt, words),
+        EvidenceTask::Questions(words) => record_questions(rt, words),
+    }
+}
+
+/// Prints the octets of a text.
+fn put_text<O: Write, E: Write>(text: &[u8], out: &mut O, err: &mut E) -> Status
+    ensures status { (result ≡ Status.Done) ⊎ (result ≡ Status.Failed) }
+    ensures told { result ≡ Status.Done → Appends (O.contents out.old) (O.contents out.new) text.now }
+    ensures cut { result ≡ Status.Failed → Begins (O.contents out.old) (O.contents out.new) text.now }
+    ensures quiet { result ≡ Status.Done → err.new ≡ err.old }
+{
+    match put(out, text) {
+        Ok(()) => Status::Done,
+        Err(lost) => lost.report_error(err),
+    }
+}

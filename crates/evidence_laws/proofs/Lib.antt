@@ -1,0 +1,15 @@
+mod Octets
+mod Same
+mod Orders
+mod Places
+mod Beside
+mod Stated
+mod Lists
+mod Fitting
+mod Lasting
+mod Judged
+mod Stages
+mod EndsOfUse
+mod OneRefusal
+mod Groups
+mod Rows

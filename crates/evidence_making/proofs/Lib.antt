@@ -1,0 +1,11 @@
+pub mod Lengths
+pub mod Octets
+pub mod Sequences
+pub mod Placed
+pub mod Made
+pub mod Rows
+pub mod Ends
+pub mod Parts
+pub mod Renewals
+pub mod Renewed
+pub mod Standing

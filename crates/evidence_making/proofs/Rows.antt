@@ -1,0 +1,97 @@
+-- The worked rows, by computing.
+use Rattle.std.proofs.Common.{[], ◌∷◌, refl, lit<}
+use Rattle.der_core.specs.Element.{len}
+use Rattle.der_core.specs.Hex.{hex}
+use Rattle.der_core.specs.Values.{GoodAlgorithm}
+use Rattle.digests.specs.Spelled.{with_null, sha256}
+use Rattle.digests.specs.declared.algorithm.Alg.TheVariants.{Sha256, Sha512}
+use Rattle.cms_types.specs.AttributeValue.{GoodAttribute}
+use Rattle.evidence_types.specs.StampValue.{IsSequence, GoodStamp}
+use Rattle.evidence_types.specs.EvidenceValue.{GoodChain}
+use Rattle.evidence_types.specs.EvidenceRows.{bare, empty, five}
+use Rattle.evidence_making.specs.Rows.{MadeRows, RenewedRows, two_chains, with_others}
+use Rattle.evidence_making.proofs.Placed.{GoodPlaced, encodes, nothing_before, nothing_good}
+use Rattle.evidence_making.proofs.Renewed.{placed}
+
+is_empty : IsSequence (hex "3000")
+unfolding len
+is_empty = ([], record { identifier = refl; size = lit< tt }, refl)
+
+is_null : IsSequence (hex "30020500")
+unfolding len
+is_null = (hex "0500", record { identifier = refl; size = lit< tt }, refl)
+
+pub made_rows : MadeRows
+unfolding len
+made_rows = record {
+  two_lists = encodes Sha256 nothing_before (hex "bb" ∷ hex "aa" ∷ []) (hex "3000") _ nothing_good is_empty refl
+      (lit< tt);
+  empty_value = encodes Sha256 nothing_before ([] ∷ []) (hex "3000") _ nothing_good is_empty refl (lit< tt);
+  no_lists = encodes Sha512 nothing_before [] (hex "3000") _ nothing_good is_empty refl (lit< tt);
+}
+
+-- ---- what is renewed
+
+good_bare : GoodStamp (bare empty)
+unfolding len
+good_bare = record { algorithm = tt; attributes = tt; lists = tt; stamp = is_empty; size = lit< tt }
+
+good_chain : GoodChain (bare empty ∷ [])
+unfolding len
+good_chain = record { each = (good_bare, tt); some = λ e. absurd cc; size = lit< tt }
+
+good_algorithm : GoodAlgorithm (with_null sha256)
+unfolding len
+good_algorithm = record {
+  oid = (refl, lit< tt);
+  parameters = (5, [], record { identifier = refl; size = lit< tt }, refl);
+  size = lit< tt;
+}
+
+good_five : GoodAttribute five
+unfolding len
+good_five = record {
+  id = (refl, lit< tt);
+  values = ((2, 5 ∷ [], record { identifier = refl; size = lit< tt }, refl), tt);
+  set = lit< tt;
+  size = lit< tt;
+}
+
+two_good : GoodPlaced (placed Sha256 two_chains ((bare empty ∷ []) ∷ []) (bare empty ∷ []))
+two_good = record {
+  algorithms = (good_algorithm, tt);
+  crypto_infos = tt;
+  encryption = tt;
+  earlier = (good_chain, tt);
+  before = (good_bare, tt);
+}
+
+both_good : GoodPlaced (placed Sha512 two_chains ((bare empty ∷ []) ∷ (bare empty ∷ []) ∷ []) [])
+both_good = record {
+  algorithms = (good_algorithm, tt);
+  crypto_infos = tt;
+  encryption = tt;
+  earlier = (good_chain, (good_chain, tt));
+  before = tt;
+}
+
+others_good : GoodPlaced (placed Sha256 with_others [] (bare empty ∷ []))
+unfolding len
+others_good = record {
+  algorithms = tt;
+  crypto_infos = record { each = (good_five, tt); some = λ e. absurd cc; size = lit< tt };
+  encryption = record { id = (refl, lit< tt); value = tt; size = lit< tt };
+  earlier = tt;
+  before = (good_bare, tt);
+}
+
+pub renewed_rows : RenewedRows
+unfolding len
+renewed_rows = record {
+  in_last_chain = encodes Sha256 (placed Sha256 two_chains ((bare empty ∷ []) ∷ []) (bare empty ∷ [])) []
+      (hex "30020500") _ two_good is_null refl (lit< tt);
+  new_chain = encodes Sha512 (placed Sha512 two_chains ((bare empty ∷ []) ∷ (bare empty ∷ []) ∷ []) [])
+      (hex "aa" ∷ []) (hex "3000") _ both_good is_empty refl (lit< tt);
+  others_stay = encodes Sha256 (placed Sha256 with_others [] (bare empty ∷ [])) [] (hex "3000") _ others_good is_empty
+      refl (lit< tt);
+}

@@ -1,0 +1,8 @@
+use Rattle.evidence_making.proofs.Made.{made_stamps_stand, made_records_show}
+use Rattle.evidence_making.proofs.laws.made_records_show.Goals as goal
+
+pub returns-clause-stands : goal.returns-clause-stands
+returns-clause-stands c = made_stamps_stand
+
+pub returns-clause-shows : goal.returns-clause-shows
+returns-clause-shows c = made_records_show

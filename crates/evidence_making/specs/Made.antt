@@ -1,0 +1,35 @@
+-- Evidence records that are made (RFC 4998, 3.1, 4.1 and 4.2).
+use Rattle.std.specs.Prelude.{ℕ, List, [], ◌∷◌, Option, Some, None}
+use Rattle.der_core.specs.Values.{AlgorithmValue}
+use Rattle.digests.specs.Algorithms.{contents_of}
+use Rattle.digests.specs.declared.algorithm.Alg.{Alg}
+use Rattle.evidence_types.specs.StampValue.{StampValue}
+use Rattle.evidence_types.specs.EvidenceValue.{EvidenceValue}
+use Rattle.evidence_trees.specs.HashTrees.{each_alone}
+
+-- the identifier of an algorithm, without parameters (RFC 5754, 2)
+abbrev pub plain : Alg → AlgorithmValue
+plain alg = record { oid = contents_of alg; parameters = None }
+
+-- lists of these values, each alone (4.2); if there is none, the field is absent (4.1)
+abbrev pub lists_of : (values : List (List ℕ)) → Option (List (List (List ℕ)))
+lists_of [] = None
+lists_of (v ∷ values) = each_alone (v ∷ values)
+
+-- an archive time-stamp: digestAlgorithm, no attributes, these lists, and the token, which is the whole timeStamp (4.1)
+abbrev pub stamp_of : Alg → (values : List (List ℕ)) → (token : List ℕ) → StampValue
+stamp_of alg values token = record {
+  algorithm = Some (plain alg);
+  attributes = None;
+  lists = lists_of values;
+  stamp = token;
+}
+
+-- a record of one chain of one archive time-stamp (3.1, 5.1)
+abbrev pub made : Alg → (values : List (List ℕ)) → (token : List ℕ) → EvidenceValue
+made alg values token = record {
+  algorithms = plain alg ∷ [];
+  crypto_infos = None;
+  encryption = None;
+  chains = (stamp_of alg values token ∷ []) ∷ [];
+}

@@ -1,0 +1,985 @@
+"""Tests of evidence records (RFC 4998) in cmsproof-archive: of those in data/records each line, and of made ones where they may stand, what a
+state keeps of them, what explains them, their picture, and their bundles."""
+import io
+import json
+import os
+import re
+import shutil
+import subprocess
+import time
+import unittest
+import zipfile
+from unittest import mock
+
+from archiving import CHANGED
+from issuing_world import pem
+from making import INSTALLED, MODULES, PROGRAM, TOP, as_nobody, folder_of, need_tools, run_tool
+
+need_tools()
+
+import cmsproof  # noqa: E402
+from cmsproof.octets import COPIED  # noqa: E402
+from cmsproof_tools import bundles, chains, cluster, cures, evidenced, page, rows, state, timelines  # noqa: E402
+from cmsproof_tools.deciding import grounds_of_record  # noqa: E402
+from cmsproof_tools.explaining_records import explanation  # noqa: E402
+from cmsproof_tools.lines import parts_of  # noqa: E402
+from cmsproof_tools.page import known_in  # noqa: E402
+from cmsproof_tools.state import basis_of, grounds_in  # noqa: E402
+from oracle import evidence as oracle_evidence, lists  # noqa: E402
+from oracle.der import element, number, oid, sequence  # noqa: E402
+from oracle.identifiers import DIGEST_OIDS, TST_INFO  # noqa: E402
+from oracle.rules import Terms  # noqa: E402
+from samples import hierarchy as h  # noqa: E402
+from samples.building import digest_attribute, names_2, octets as string, sha, signed_data, type_attribute  # noqa: E402
+
+DATA = TOP / "data" / "records"
+ROWS = [line.split(" | ") for line in (DATA / "rows.txt").read_text().splitlines() if not line.startswith("#")]
+ENDS = ["--end", "sha1=20160101000000Z", "--end", "sha256=20350101000000Z"]
+AT = ["--at", "20261231000000Z"]
+BEGUN, RENEWED, AGAIN = "20210501100000Z", "20230502100000.5Z", "20250503100000Z"
+FILE, OTHER = b"a map\n", b"another map\n"
+# how long it takes until a change of a file cannot have the time of the change before
+STEP = rows.STEP / 1e9 + 0.1
+
+
+def record_of(name):
+    """The octets of a record in data/records."""
+    return (DATA / "records" / f"{name}.ers").read_bytes()
+
+
+def knows_records():
+    """Whether the program has the commands."""
+    if not PROGRAM.exists():
+        return False
+    return subprocess.run([PROGRAM, "evidence", "check", "--help"], capture_output=True, check=False).returncode == 0
+
+
+class Made:
+    """Authorities that are listed, one that is not, and records round their tokens without lists of hash values (RFC 4998 4.1)."""
+
+    def __init__(self):
+        self.root, self.anna = h.root("Clocks"), h.issue("Anna", h.root())
+        self.clock, self.second, self.other = (h.issue(name, self.root, [h.STAMPING]) for name in ("Clock", "Second", "Other"))
+        entries = [("signer", self.anna), ("tsa", self.clock), ("tsa", self.second)]
+        self.list = ("cmsproof trust 2\n" + "".join(f"{role} - - {who.octets.hex()}\n" for role, who in entries)).encode()
+
+    def token(self, stamped, at, by):
+        """A token over these octets, of this authority."""
+        imprint = sequence(sequence(oid(DIGEST_OIDS["sha256"])), string(sha(stamped)))
+        info = sequence(number(1), oid("2.999.3"), imprint, number(9), element(0x18, at.encode()))
+        signer = h.signed_by(by, [type_attribute(TST_INFO), digest_attribute(sha(info)), names_2(sha(by.octets))])
+        return signed_data([signer.stamped()], info, TST_INFO, by.octets, 3)
+
+    def record(self, of=FILE, times=(BEGUN,), by=None):
+        """A record of octets: a time-stamp over them, and one over each before it."""
+        stamps, before = [], of
+        for at in times:
+            before = self.token(before, at, by or (self.clock if before == of else self.second))
+            stamps.append(sequence(before))
+        return sequence(number(1), sequence(sequence(oid(DIGEST_OIDS["sha256"]))), sequence(sequence(*stamps)))
+
+
+MADE = Made()
+GOOD, TWICE = MADE.record(), MADE.record(times=(BEGUN, RENEWED, AGAIN))
+OF_OTHER, STRANGE = MADE.record(OTHER), MADE.record(by=MADE.other)
+EVIDENCED = f"evidenced {BEGUN}"
+
+
+class WithFolder(unittest.TestCase):
+    """A folder with a trust list, in which cmsproof-archive --records is asked about `files`, whose records are in `records`."""
+
+    trust = MADE.list
+
+    def setUp(self):
+        self.folder = folder_of(self)
+        (self.folder / "list").write_bytes(self.trust)
+        (self.folder / "files").mkdir(), (self.folder / "records").mkdir()
+
+    def put(self, name, given=FILE):
+        """Makes a file."""
+        path = os.path.join(os.fsencode(self.folder), os.fsencode(name))
+        os.makedirs(os.path.dirname(path), exist_ok=True)
+        with open(path, "wb") as file:
+            file.write(given)
+
+    def put_with(self, name, record=GOOD, given=FILE):
+        """Makes a file in `files`, and its record."""
+        self.put(f"files/{name}", given), self.put(f"records/files/{name}.ers", record)
+
+    def run_archive(self, *words, tool=("cmsproof-archive",), records="records", **rest):
+        """The status of the tool, its lines, and its standard error."""
+        status, out, err = run_tool(*tool, "--trust", "list", "--records", records, *words, cwd=self.folder, **rest)
+        return status, out.decode().splitlines(), err
+
+    def by_changed(self, code, *words):
+        """What is said by the tool with a part of it changed by this code, of `files`."""
+        (self.folder / "changed.py").write_text(CHANGED.format(installed=str(MODULES), code=code))
+        os.chmod(self.folder / "changed.py", 0o755)
+        return self.run_archive("--jobs", "1", *words, "files", tool=(self.folder / "changed.py",))
+
+
+class Rows(WithFolder):
+    """Each row of data/records."""
+
+    trust = (DATA / "trust.txt").read_bytes()
+
+    def test_each(self):
+        by_options = {}
+        for row in ROWS:
+            by_options.setdefault(row[2], []).append(row)
+        for options, several in by_options.items():
+            expected, worst = [], 0
+            shutil.rmtree(self.folder / "files"), shutil.rmtree(self.folder / "records")
+            for place, (record, document, _, line) in enumerate(several):
+                name = f"{place:02}_{record}"
+                self.put_with(name, record_of(record), (DATA / "files" / document).read_bytes())
+                is_good = line.startswith("accepted ")
+                part = "" if is_good else f" {name}.ers"
+                expected.append(f"files/{name}{part}: {line.replace('accepted', 'evidenced')}")
+                worst = max(worst, {"accepted": 0, "refused": 1, "malformed": 2}[line.split(" ")[0]])
+            for jobs in ("1", "3"):
+                status, lines, err = self.run_archive("--jobs", jobs, *options.split(), "files")
+                self.assertEqual((status, lines), (worst, expected), err)
+
+    def test_the_answers(self):
+        """The answers list has each signature for which the verifier vouches, and no other."""
+        trust = cmsproof.TrustList(self.trust)
+        kept = set((DATA / "answers.txt").read_bytes().splitlines()[1:])
+        asked = set()
+        for path in (DATA / "records").iterdir():
+            asked |= {one.line for one in cmsproof.evidence.questions(path.read_bytes(), trust=trust).asked}
+        (self.folder / "asked").write_bytes(b"\n".join([b"cmsproof questions 1", *sorted(asked), b""]))
+        run_tool("cmsproof-verify", "asked", "answers", cwd=self.folder)
+        self.assertEqual(set((self.folder / "answers").read_bytes().splitlines()[1:]), kept)
+
+    def test_what_the_oracle_says(self):
+        """It was written from RFC 4998, and apart from the program."""
+        entries, answers = lists.entries_of(self.trust), lists.answers_of((DATA / "answers.txt").read_bytes())
+        for record, document, options, line in ROWS:
+            words = options.split()
+            ends = [word.split("=") for word in words if "=" in word]
+            at = words[words.index("--at") + 1] if "--at" in words else None
+            moments = [(name, lists.end_of_period(last.encode())) for name, last in ends]
+            policy = oracle_evidence.Policy(moments, at and lists.end_of_period(at.encode()), "--whole" in words)
+            said, _ = oracle_evidence.check(
+                record_of(record), [(DATA / "files" / document).read_bytes()], Terms(entries, answers), policy
+            )
+            self.assertEqual(said, line + "\n", (record, options))
+
+    @unittest.skipUnless(knows_records(), "the program does not check evidence records")
+    def test_what_the_proved_commands_say(self):
+        """They say the same line of the same octets, with the answers of data/records and with those of the verifier."""
+
+        def said(*words):
+            done = subprocess.run([PROGRAM, "evidence", *words], cwd=DATA, capture_output=True, check=False)
+            return done.stdout.decode()
+
+        for record, document, options, line in ROWS:
+            names = f"records/{record}.ers", f"files/{document}"
+            (self.folder / "asked").write_text(said("questions", "--trust", "trust.txt", names[0]))
+            for answers in ("answers.txt", str(self.folder / "answers")):
+                if answers != "answers.txt" and run_tool("cmsproof-verify", "asked", "answers", cwd=self.folder)[0]:
+                    continue  # (of a malformed record nothing is asked)
+                words = ["--trust", "trust.txt", "--answers", answers, *options.split(), *names]
+                self.assertEqual(said("check", *words), line + "\n", record)
+
+
+class Places(WithFolder):
+    """Where records are looked for, and what is said where one is missing."""
+
+    SEVERAL = {
+        "a": GOOD,
+        "b/c.tif": TWICE,
+        "b/d": OF_OTHER,
+        "e": STRANGE,
+        "f": b"no record",
+        "g": GOOD + b"\0",
+    }
+    LINES = [
+        f"files/a: {EVIDENCED}",
+        f"files/b/c.tif: {EVIDENCED}",
+        "files/b/d d.ers: refused chain 1 stamp 1 W4 K9 ImprintDiffers",
+        "files/e e.ers: refused chain 1 stamp 1 W4 K10 UnknownTsa",
+        "files/f f.ers: malformed M6 Tag at 0",
+        f"files/g g.ers: malformed M7 Trailing at {len(GOOD)}",
+        "files/h: refused F16 NoRecord",
+        "records/files/b/gone.ers: refused F17 RecordAlone",
+        "records/files/moved.ers: refused F17 RecordAlone",
+    ]
+
+    def put_several(self):
+        """The files of SEVERAL, one without a record, and records without a file."""
+        for name, record in self.SEVERAL.items():
+            self.put_with(name, record)
+        self.put("files/h")
+        for name in ("b/gone", "moved"):
+            self.put(f"records/files/{name}.ers", GOOD)
+        # what is no record there is nobody's concern, and a record of no file under the folder that is named neither
+        self.put("records/files/README"), self.put("records/elsewhere.ers", GOOD)
+
+    def test_a_folder(self):
+        self.put_several()
+        for jobs in ("1", "3"):
+            status, lines, err = self.run_archive("--jobs", jobs, "files")
+            self.assertEqual((status, lines), (2, self.LINES))
+        self.assertIn("files/h: there is no evidence record records/files/h.ers\n", err)
+        said = "records/files/moved.ers: it stands where the evidence record of files/moved would be, and no regular file is there\n"
+        self.assertIn(said, err)
+        # without the word nothing of it is looked at
+        _, out, _ = run_tool("cmsproof-archive", "--trust", "list", "files", cwd=self.folder)
+        self.assertEqual(
+            out.decode().splitlines(), [f"files/{name}: refused F1 UnknownForm" for name in ("a", "b/c.tif", "b/d", *"efgh")]
+        )
+
+    def test_what_is_no_record(self):
+        """It is said what stands in the place of a record."""
+        token = MADE.token(FILE, BEGUN, MADE.clock)
+        self.put_with("a", token), self.put_with("b", MADE.clock.octets), self.put_with("c", b"%PDF-1.7"), self.put_with(
+            "d", b""
+        )
+        status, lines, err = self.run_archive("files")
+        self.assertEqual((status, [line.split(" ")[2] for line in lines]), (2, ["malformed"] * 4))
+        for name, what in (("a", "it is a time-stamp token"), ("b", "it is a certificate"), ("c", "it looks like a PDF")):
+            self.assertIn(f"files/{name} {name}.ers: {what}", err)
+
+    def test_names_that_are_given(self):
+        self.put_several()
+        a = f"files/a: {EVIDENCED}"
+        for names, expected in (
+            (["files/a"], [a]),
+            (["./files//a"], [f"./files//a: {EVIDENCED}"]),
+            (["files/b/../a"], [f"files/b/../a: {EVIDENCED}"]),
+            ([str(self.folder / "files" / "a")], [f"{self.folder}/files/a: {EVIDENCED}"]),
+            (["records/files/a.ers"], [f"records/files/a.ers: {EVIDENCED}"]),
+            (["records/files/a.ers", "files/a"], [a]),
+            (["records/files/b/d.ers"], ["records/files/b/d.ers: refused chain 1 stamp 1 W4 K9 ImprintDiffers"]),
+            (["records/files/moved.ers"], ["records/files/moved.ers: refused F17 RecordAlone"]),
+            (["records/files/none.ers"], ["records/files/none.ers: failed open records/files/none.ers"]),
+            (["list"], ["list: refused F16 NoRecord"]),
+            (["../" + self.folder.name + "/files/a"], [f"../{self.folder.name}/files/a: {EVIDENCED}"]),
+        ):
+            _, lines, err = self.run_archive("--null", "-", said="\0".join([*names, ""]).encode())
+            self.assertEqual(lines, expected, (names, err))
+        _, lines, _ = self.run_archive("--json", "files/b/c.tif", "files/b/d", "records/files/a.ers")
+        first, second, third, _ = map(json.loads, lines)
+        self.assertEqual((first["verdict"], first["time"], first["evidence"]), ("evidenced", BEGUN, "c.tif.ers"))
+        self.assertEqual((first["questions"], first["vouched"]), (3, 3))
+        self.assertEqual((second["code"], second["chain"], second["chainstamp"], second["part"]), ("W4", 1, 1, "d.ers"))
+        self.assertEqual(third["content"], "files/a")
+
+    def test_names_that_lead_elsewhere(self):
+        """No name leads out of the folder of the records, and none has the record of another file."""
+        self.put("files/a"), self.put("outside.ers", GOOD), self.put("records/outside.ers", OF_OTHER), self.put("outside")
+        place = self.folder / "elsewhere"
+        (place / "files").mkdir(parents=True), (place / "files" / "b").write_bytes(FILE)
+        words = ["--null", "-"]
+        for name, line in (
+            ("files/../outside", "files/../outside outside.ers: refused chain 1 stamp 1 W4 K9 ImprintDiffers"),
+            ("../" * 30 + "etc/hostname", "F16 NoRecord"),
+            ("/etc/hostname", "/etc/hostname: refused F16 NoRecord"),
+        ):
+            if os.path.exists(os.path.join(self.folder, name)):
+                _, lines, err = self.run_archive(*words, said=name.encode() + b"\0")
+                self.assertTrue(lines[0].endswith(line), (lines, err))
+        # the archive's folder is another one
+        self.put("records/a.ers", GOOD), self.put("records/b.ers", GOOD)
+        self.assertEqual(
+            self.run_archive("--under", "files", "files")[:2], (1, [f"files/a: {EVIDENCED}", *self.alone("b", "outside")])
+        )
+        self.assertEqual(self.run_archive("--under", str(place / "files"), str(place))[1][0], f"{place}/files/b: {EVIDENCED}")
+        _, lines, err = self.run_archive("--under", "files", "outside")
+        self.assertEqual(lines, ["outside: refused F16 NoRecord"])
+        self.assertIn(f"outside: no evidence record is looked for: the file is not in the folder {self.folder}/files\n", err)
+
+    def alone(self, *names):
+        """The lines of records without their files."""
+        return [f"records/{name}.ers: refused F17 RecordAlone" for name in names]
+
+    def test_records_in_the_archive(self):
+        """Those that stand under the folder that is named are no files of it."""
+        self.put("a"), self.put("records/a.ers", GOOD), self.put("records/b.ers", GOOD), os.remove(self.folder / "list")
+        shutil.rmtree(self.folder / "files")
+        trust = self.folder.parent / (self.folder.name + ".list")
+        trust.write_bytes(MADE.list)
+        self.addCleanup(trust.unlink)
+        words = ["--trust", trust, "--records", "records"]
+        status, out, _ = run_tool("cmsproof-archive", *words, ".", cwd=self.folder)
+        self.assertEqual((status, out.decode().splitlines()), (1, [f"./a: {EVIDENCED}", *self.alone("b")]))
+        # the folder of the records itself has records, each with its file
+        status, out, _ = run_tool("cmsproof-archive", *words, "records", cwd=self.folder)
+        self.assertEqual(out.decode().splitlines(), [f"records/a.ers: {EVIDENCED}", *self.alone("b")])
+
+    def test_records_beside_their_files(self):
+        """What stands in the place of a record of a record has a line of its own, which no other line says."""
+        for name, given in (("a", FILE), ("a.ers", GOOD), ("a.ers.ers", OF_OTHER), ("b.ers.ers", GOOD)):
+            self.put(f"files/{name}", given)
+        two = [f"files/a: {EVIDENCED}", "files/a.ers.ers: refused chain 1 stamp 1 W4 K9 ImprintDiffers"]
+        alone = "files/b.ers.ers: refused F17 RecordAlone"
+        for names, expected in (
+            (["files"], [*two, alone]),
+            (["files/a.ers.ers", "files/a.ers", "files/a"], two[::-1]),
+            (["files/a.ers", "files/a.ers.ers"], [f"files/a.ers: {EVIDENCED}", two[1]]),
+        ):
+            status, lines, err = self.run_archive("--under", "files", *names, records="files")
+            self.assertEqual((status, lines), (1, expected), err)
+
+    def test_what_is_no_regular_file(self):
+        records = self.folder / "records" / "files"
+        self.put_with("a"), self.put("files/b"), self.put("files/c"), self.put("files/d"), self.put("files/e/f")
+        os.symlink("a.ers", records / "b.ers"), os.mkfifo(records / "c.ers"), (records / "d.ers").mkdir()
+        self.put("elsewhere/f.ers", GOOD), os.symlink(self.folder / "elsewhere", records / "e")
+        status, lines, err = self.run_archive("files", timeout=60)
+        expected = [f"files/a: {EVIDENCED}", *(f"files/{name}: refused F16 NoRecord" for name in ("b", "c", "d", "e/f"))]
+        self.assertEqual((status, lines), (1, expected))
+        for name, kind in (("b", "a link"), ("c", "no regular file"), ("d", "no regular file"), ("e/f", "a link")):
+            self.assertIn(f"files/{name}: its evidence record records/files/{name}.ers is {kind}, and is not read\n", err)
+        # a file that is a link is skipped, and its record is one without a file
+        os.remove(self.folder / "files" / "a"), os.symlink("b", self.folder / "files" / "a")
+        _, lines, err = self.run_archive("files", timeout=60)
+        self.assertIn("records/files/a.ers: refused F17 RecordAlone", lines)
+
+    def test_a_record_that_cannot_be_read(self):
+        who = as_nobody()
+        self.put_with("a"), self.put_with("b")
+        os.chmod(self.folder, 0o777), os.chmod(self.folder / "records" / "files" / "a.ers", 0)
+        time.sleep(STEP)
+        expected = ["files/a a.ers: failed open records/files/a.ers"]
+        for more in ([f"files/b: {EVIDENCED}"], []):
+            status, lines, _ = self.run_archive("--state", "state", "files", **who)
+            self.assertEqual((status, lines), (4, [*expected, *more]))
+
+    def test_a_record_that_is_out_of_reach(self):
+        """Where nobody can say whether there is one, the file fails, and is judged again."""
+        self.put_with("a"), self.put_with("b"), time.sleep(STEP)
+        lines_of = {"EIO": "files/a a.ers: failed open records/files/a.ers", "ENOENT": "files/a: refused F16 NoRecord"}
+        for error, line in lines_of.items():
+            away = (
+                "import errno\n"
+                "lstat = os.lstat\n"
+                "def unseen(path, **rest):\n"
+                "    if str(path) == 'records/files/a.ers':\n"
+                f"        raise OSError(errno.{error}, 'away')\n"
+                "    return lstat(path, **rest)\n"
+                "os.lstat = unseen\n"
+            )
+            status, lines, _ = self.by_changed(away, "--state", "state")
+            self.assertEqual((status, lines[0]), (4 if error == "EIO" else 1, line))
+        self.assertEqual(self.run_archive("--state", "state", "files")[:2], (0, [f"files/a: {EVIDENCED}"]))
+
+    def test_a_long_record(self):
+        self.put_with("a", b"")
+        with open(self.folder / "records" / "files" / "a.ers", "wb") as file:
+            file.truncate(COPIED + 1)
+        status, lines, err = self.run_archive("files")
+        self.assertEqual((status, lines), (1, ["files/a a.ers: refused F4 TooLarge"]))
+        self.assertIn("an evidence record of more than", err)
+
+    def test_names_of_hostile_form(self):
+        hostile = [f"x: {EVIDENCED}", "a\nfiles/b", "c\\d", b"\xff".decode("utf-8", "surrogateescape"), "-e", "f f.ers", "f"]
+        for name in hostile:
+            self.put_with(name, OF_OTHER)
+        status, lines, _ = self.run_archive("files")
+        self.assertEqual((status, len(lines)), (1, 7))
+        self.assertNotIn("evidenced 2021", " ".join(line.rpartition(": ")[2] for line in lines))
+        self.assertIn("files/f\\x20f.ers: refused chain 1 stamp 1 W4 K9 ImprintDiffers", lines)
+
+    def test_wrong_words(self):
+        self.put_with("a")
+        for words in (
+            ["--end", "sha256"],
+            ["--end", "sha256="],
+            ["--end", "sha256=2035"],
+            ["--end", "md5=20350101000000Z"],
+            ["--end", "sha256=20350230000000Z"],
+            ["--at", "2035"],
+            ["--at", "20350101000000"],
+            ["--at", ""],
+        ):
+            status, lines, err = self.run_archive(*words, "files")
+            self.assertEqual((status, lines, err.count("\n")), (3, [], 1), words)
+        for words in (["--whole"], ["--at", AT[1]], ENDS, ["--under", "files"]):
+            status, _, err = run_tool("cmsproof-archive", "--trust", "list", *words, "files", cwd=self.folder)
+            self.assertEqual(status, 3)
+            self.assertIn("need --records", err)
+        for folder in ("none", "list", ""):
+            status, lines, err = self.run_archive("files", records=folder)
+            self.assertEqual((status, lines, err.count("\n")), (4, [], 1), folder)
+        status, lines, _ = self.run_archive("--log", "records/files/a.ers", "files")
+        self.assertEqual((status, lines), (3, []))
+
+    def test_what_is_signed_stays(self):
+        """A record takes no line of a signature away, neither a good nor a bad one."""
+        good, bare = h.signed(MADE.anna, [(MADE.clock, BEGUN)]), h.signed(MADE.anna, [])
+        for name, given in (("good.p7s", good), ("bare.p7s", bare), ("cut.p7s", good[:-1])):
+            self.put_with(name, MADE.record(given, [RENEWED]), given)
+        self.put("files/none.p7s", good), self.put_with("text", MADE.record(FILE), FILE), self.put_with(
+            "text.p7s", OF_OTHER, good
+        )
+        self.put("files/a"), self.put("files/a.tst", MADE.token(FILE, AGAIN, MADE.clock)), self.put("records/files/a.ers", GOOD)
+        status, lines, err = self.run_archive("--stamps", "files")
+        expected = [
+            f"files/a: stamped {AGAIN}",
+            f"files/a a.ers: {EVIDENCED}",
+            "files/bare.p7s: refused signer 1 S10 NoToken",
+            f"files/bare.p7s bare.p7s.ers: evidenced {RENEWED}",
+            f"files/cut.p7s: evidenced {RENEWED}",
+            f"files/good.p7s: accepted {BEGUN}",
+            f"files/good.p7s good.p7s.ers: evidenced {RENEWED}",
+            f"files/none.p7s: accepted {BEGUN}",
+            "files/none.p7s none.p7s.ers: refused F16 NoRecord",
+            f"files/text: {EVIDENCED}",
+            "files/text.p7s: refused C5 ContentTwice",
+            "files/text.p7s text.p7s.ers: refused chain 1 stamp 1 W4 K9 ImprintDiffers",
+        ]
+        self.assertEqual((status, lines), (1, expected), err)
+
+    def test_stamps_that_fail(self):
+        """Each has its line, also where the record of the file is good, and where it is one of a record."""
+        self.put_with("a"), self.put_with("b", OF_OTHER), self.put("files/c")
+        for name in "abc":
+            self.put(f"files/{name}.tst", b"no stamp")
+        differs, none = "refused chain 1 stamp 1 W4 K9 ImprintDiffers", "malformed M5 Overrun at 0"
+        expected = [f"files/a: {EVIDENCED}", f"files/a a.tst: {none}", f"files/b b.tst: {none}", f"files/b b.ers: {differs}"]
+        expected += ["files/c: refused F16 NoRecord", f"files/c c.tst: {none}"]
+        self.assertEqual(self.run_archive("--stamps", "files")[:2], (2, expected))
+        os.symlink("a.tst", self.folder / "files" / "a.tsr")
+        self.assertIn("files/a: a.tsr, a link, is beside it, and is not read\n", self.run_archive("--stamps", "files/a")[2])
+        self.put("records/files/a.ers.tst", MADE.token(OTHER, AGAIN, MADE.clock))
+        expected = [f"records/files/a.ers: {EVIDENCED}", "records/files/a.ers.tst: refused K9 ImprintDiffers"]
+        expected += ["records/files/a.ers.tst a.ers.tst.ers: refused F16 NoRecord", f"records/files/b.ers: {differs}"]
+        self.assertEqual(self.run_archive("--stamps", "records")[:2], (1, expected))
+        names = [f"records/files/a.ers{ending}" for ending in ("", ".tst")]
+        self.assertEqual(self.run_archive("--stamps", *names)[:2], (1, expected[:3]))
+        time.sleep(STEP)
+        for lines in (expected, [], []):
+            self.assertEqual(self.run_archive("--stamps", "--state", "state", "records")[:2], (1, lines))
+            self.assertEqual(len(self.in_state()), len(expected))
+
+    def test_a_record_that_changes_meanwhile(self):
+        """What was asked about is what is judged."""
+        self.put_with("a")
+        swap = (
+            "alone = checking.verdict_of\n"
+            "def swapped(*words):\n"
+            f"    open('records/files/a.ers', 'wb').write({OF_OTHER!r})\n"
+            "    return alone(*words)\n"
+            "checking.verdict_of = swapped\n"
+        )
+        self.assertEqual(self.by_changed(swap)[:2], (0, [f"files/a: {EVIDENCED}"]))
+        self.assertEqual(self.run_archive("files")[:2], (1, ["files/a a.ers: refused chain 1 stamp 1 W4 K9 ImprintDiffers"]))
+        self.put("records/files/a.ers", GOOD)
+        for name, called in (("records/files/a.ers", "files/a a.ers"), ("files/a", "files/a")):
+            grows = (
+                "from cmsproof import octets\n"
+                "copied = octets.File.copied\n"
+                "def grown(self):\n"
+                f"    if self.name == {name!r}:\n"
+                f"        open({name!r}, 'ab').write(b'x')\n"
+                "    return copied(self)\n"
+                "octets.File.copied = grown\n"
+            )
+            failed = f"{called}: failed read {name}: it was changed while it was read"
+            self.assertEqual(self.by_changed(grows)[:2], (4, [failed]))
+
+    def test_a_record_is_read_once(self):
+        self.put_with("a")
+        counts = (
+            "from cmsproof import octets\n"
+            "copied = octets.File.copied\n"
+            "def counted(self):\n"
+            "    open('counted', 'a').write(self.name + '\\n')\n"
+            "    return copied(self)\n"
+            "octets.File.copied = counted\n"
+        )
+        self.assertEqual(self.by_changed(counts, "--explain", "--state", "state")[0], 0)
+        read = (self.folder / "counted").read_text().split()
+        self.assertEqual(sorted(read), ["files/a", "records/files/a.ers"])
+
+    def test_a_state(self):
+        self.put_several()
+        time.sleep(STEP)
+        words = ["--state", "state", "files"]
+        self.assertEqual(self.run_archive(*words)[:2], (2, self.LINES))
+        self.assertEqual(self.run_archive(*words)[:2], (2, []))
+        said = self.in_state()
+        self.assertEqual([f"{' '.join(filter(None, key))}: {row['line']}" for key, row in said.items()], self.LINES)
+        row = said["files/a", ""]
+        self.assertEqual([row["sha256"], row["content"]], [sha(GOOD).hex(), sha(FILE).hex()])
+        self.assertEqual((row["authority"], row["policy"]), (sha(MADE.clock.octets).hex(), "--records"))
+        # of several time-stamps the last one counts, which must be renewed
+        self.assertEqual(said["files/b/c.tif", ""]["authority"], sha(MADE.second.octets).hex())
+        # a record that comes, that goes, that becomes another one; and a file that comes to its record
+        self.put("records/files/h.ers", GOOD), os.remove(self.folder / "records" / "files" / "a.ers")
+        self.put("records/files/e.ers", GOOD), self.put("files/moved")
+        time.sleep(STEP)
+        expected = ["files/a: refused F16 NoRecord", *(f"files/{name}: {EVIDENCED}" for name in ("e", "h", "moved"))]
+        self.assertEqual(self.run_archive(*words)[:2], (2, expected))
+        self.assertEqual(self.run_archive(*words)[:2], (2, []))
+        self.assertNotIn(("records/files/moved.ers", ""), self.in_state())
+        # a record that was named itself has no row of its own once it is judged with its file
+        self.assertEqual(self.run_archive("--state", "state", "records/files/e.ers")[1], [f"records/files/e.ers: {EVIDENCED}"])
+        self.assertIn(("records/files/e.ers", ""), self.in_state())
+        self.assertEqual(self.run_archive(*words)[:2], (2, []))
+        self.assertNotIn(("records/files/e.ers", ""), self.in_state())
+        # what was judged by other ends is judged again, and what was judged without the word too
+        lines = self.run_archive("--end", "sha512=20350101000000Z", *words)[1]
+        self.assertEqual(len(lines), len(said))
+        self.assertEqual(self.in_state()["files/e", ""]["policy"], "--records --end sha512=20350101000000Z")
+        self.assertEqual(self.run_archive("--end", "sha512=20350101000000Z", "--end", "sha512=20360101000000Z", *words)[1], [])
+        _, out, _ = run_tool("cmsproof-archive", "--trust", "list", "--state", "state", "files/e", cwd=self.folder)
+        self.assertEqual(out, b"files/e: refused F1 UnknownForm\n")
+
+    def test_a_state_with_contents(self):
+        """A content has the line of its record, or that it has none, and is not judged again either."""
+        of = h.signed(MADE.anna, [(MADE.clock, BEGUN)])
+        self.put_with("a", GOOD), self.put_with("a.p7s", MADE.record(of), of), self.put("files/b"), self.put("files/b.p7s", of)
+        none, twice, words = "refused F16 NoRecord", "refused C5 ContentTwice", ["--state", "state", "files"]
+        expected = [f"files/a: {EVIDENCED}", f"files/a.p7s: {twice}", f"files/a.p7s a.p7s.ers: {EVIDENCED}"]
+        expected += [f"files/b: {none}", f"files/b.p7s: {twice}", f"files/b.p7s b.p7s.ers: {none}"]
+        time.sleep(STEP)
+        for lines in (expected, []):
+            self.assertEqual(self.run_archive(*words)[:2], (1, lines))
+        self.put("records/files/b.ers", GOOD), self.put("files/a", OTHER)
+        differs = "refused chain 1 stamp 1 W4 K9 ImprintDiffers"
+        expected = [f"files/a a.ers: {differs}", *expected[1:3], f"files/b: {EVIDENCED}"]
+        self.assertEqual(self.run_archive(*words)[:2], (1, expected))
+
+    def in_state(self):
+        """The rows of `state`, by file and part."""
+        _, out, _ = run_tool("cmsproof-archive", "report", "state", "--json", "-", cwd=self.folder)
+        return {(row["file"], row["part"]): row for row in map(json.loads, out.splitlines())}
+
+    def test_what_is_acknowledged(self):
+        self.put_several()
+        known = ["K9 files/b/d d.ers", "K10 files/e e.ers", "M6 files/f f.ers", "M7 files/g g.ers", "F16 files/h"]
+        known += ["F17 records/files/b/gone.ers", "F17 records/files/moved.ers"]
+        (self.folder / "known").write_text("".join(line + "\n" for line in known))
+        self.assertEqual(self.run_archive("--state", "state", "--known", "known", "files")[0], 5)
+        # another rule behind W4 is another refusal
+        (self.folder / "other").write_text("".join(line.replace("K9 ", "K10 ") + "\n" for line in known))
+        self.assertEqual(self.run_archive("--state", "state", "--known", "other", "files")[0], 1)
+
+    def test_workers_of_other_engines(self):
+        """What a worker of Dask or Spark says, in another folder."""
+        self.put_several()
+        here = str(self.folder)
+        records = evidenced.records_in(f"{here}/records", here)._replace(here=here)
+        terms = cluster.terms_for(MADE.list, records=records)._replace(folder=here)
+        named = [f"files/{name}" for name in ("a", "b/d", "h")] + ["records/files/moved.ers"]
+        found = cluster.judge(named, MADE.list, terms)
+        said = [f"{' '.join(filter(None, [one.name, one.part]))}: {one.line}" for several in found.outcomes for one in several]
+        self.assertEqual(said, [line for line in self.LINES if line.split(" ")[0].rstrip(":") in named])
+        self.assertEqual(found.outcomes[2][0].notes, ("there is no evidence record records/files/h.ers",))
+
+    def test_issuers(self):
+        """An issuer lists no authority for its tokens in records: the list must have it."""
+        self.put_with("a")
+        (self.folder / "root.pem").write_bytes(pem(MADE.root))
+        words = ["--tsa-issuer", "root.pem", "--records", "records", "files"]
+        _, out, _ = run_tool("cmsproof-archive", *words, cwd=self.folder)
+        self.assertEqual(out, b"files/a a.ers: refused chain 1 stamp 1 W4 K10 UnknownTsa\n")
+        _, out, _ = run_tool("cmsproof-archive", "--trust", "list", *words, cwd=self.folder)
+        self.assertEqual(out.decode(), f"files/a: {EVIDENCED}\n")
+
+
+class Names(unittest.TestCase):
+    """Which name is whose."""
+
+    def test_places(self):
+        records = evidenced.records_in("records", "")._replace(tops=("/r", "/a"), here="/a", folder="/r", archive="/a")
+        for name, place in (
+            ("b", "/r/b.ers"),
+            ("/a/b", "/r/b.ers"),
+            ("./b//c", "/r/b/c.ers"),
+            ("b/../c", "/r/c.ers"),
+            ("../a/b", "/r/b.ers"),
+            ("/a", None),
+            (".", None),
+            ("..", None),
+            ("../b", None),
+            ("/ab", None),
+            ("../../../etc/passwd", None),
+            ("b.ers", "/r/b.ers.ers"),
+        ):
+            self.assertEqual(records.place_of(name), place, name)
+        for place, name in (
+            ("/r/b.ers", "/a/b"),
+            ("../r/b/c.ers", "/a/b/c"),
+            ("/r/b.ers.ers", "/a/b.ers"),
+            ("/r/.ers", None),
+            ("/r/b/.ers", None),
+            ("/r/b", None),
+            ("/b.ers", None),
+            ("/r/../b.ers", None),
+        ):
+            self.assertEqual(records.file_of(place), name, place)
+        # one that is as long as nobody can name a file, and one that no file has
+        self.assertEqual(records.judged_with("a" * 100_000), [])
+        self.assertEqual(records.judged_with("a\0"), [])
+        everywhere = records._replace(tops=("/r", "/"))
+        self.assertEqual(everywhere.place_of("/etc/x"), "/r/etc/x.ers")
+
+    def test_ends(self):
+        ends = [
+            ("sha256", "20350101000000Z"),
+            ("sha1", "20160101000000.5Z"),
+            ("sha1", "20160101000000Z"),
+            ("sha1", "20170101000000Z"),
+        ]
+        self.assertEqual(evidenced.first_ends(ends), (("sha1", "20160101000000Z"), ("sha256", "20350101000000Z")))
+        said = list(evidenced.records_in(".", "", tuple(ends), AT[1], True).words())
+        expected = [
+            "--records",
+            "--end sha1=20160101000000Z",
+            "--end sha256=20350101000000Z",
+            "--at 20261231000000Z",
+            "--whole",
+        ]
+        self.assertEqual(said, expected)
+
+
+class Explained(unittest.TestCase):
+    """Of each refusal the cause and the cure."""
+
+    def test_each(self):
+        trust, seen = (DATA / "trust.txt").read_bytes(), set()
+        for record, _, options, line in ROWS:
+            if line.startswith("accepted "):
+                continue
+            parts = parts_of(2 if line.startswith("malformed") else 1, line)
+            at = options.partition("--at ")[2][:15]
+            text = explanation(record_of(record), trust, parts, line, at)
+            self.assertRegex(text, r"^Cause: .+\. Cure: .+ \(REFUSALS\.md, section 12\)\.", line)
+            self.assertNotRegex(text, "[\n`|]", line)
+            seen.add(parts["code"])
+            if "chain" in parts:
+                self.assertRegex(text, r"It is about (?:the first time-stamp|time-stamp [0-9]+ of chain [0-9]+), of [0-9]{14}")
+        self.assertEqual(seen, {"M7", "V2", *(f"W{number}" for number in range(1, 9))})
+        self.assertEqual(set(cures.OF_RECORDS), {f"K{number}" for number in range(1, 15)})
+
+    def test_what_is_said_of_some(self):
+        trust = (DATA / "trust.txt").read_bytes()
+
+        def said(name, line, at=""):
+            return explanation(record_of(name), trust, parts_of(1, line), line, at)
+
+        lapsed = said("authority_ended_before_the_renewal", "refused chain 1 stamp 1 W7 Lapsed", AT[1])
+        entry = "line 3 of the list, subject CN=tsa_rsa,O=ERS test, valid 20080101000000Z to 20180101000000Z, trusted - to -"
+        self.assertIn(f"It names {entry}.", lapsed)
+        self.assertIn("It had to hold until 2019", lapsed)
+        lost = said("renewal_of_other_octets", "refused chain 1 stamp 2 W3 NotCovered")
+        self.assertIn("It must cover the time-stamp before it.", lost)
+        other = said("bouncy_castle_renewed_five_times", "refused chain 2 stamp 1 W3 NotCovered")
+        self.assertIn("It must cover the document together with all chains before it.", other)
+        weak = said("bouncy_castle_sha1_renewed_in_2019", "refused chain 1 stamp 1 W6 Weak")
+        self.assertIn("Its use ends at 2019", weak)
+        unknown = said("authority_in_no_list", "refused chain 1 stamp 1 W4 K10 UnknownTsa")
+        self.assertIn("It names no tsa of the list (serial ", unknown)
+        self.assertIn("in another way than by this file, and only then list it as tsa", unknown)
+        # what anybody can write: what holds of the code is said
+        for octets in (b"", b"\x30", GOOD[:-1], b"\x30\x80" * 1000):
+            text = explanation(
+                octets, trust, parts_of(1, "refused chain 7 stamp 9 W7 Lapsed"), "refused chain 7 stamp 9 W7 Lapsed", ""
+            )
+            self.assertTrue(text.startswith("Cause: its authority's certificate"), text)
+
+    def test_lines(self):
+        folder = folder_of(self)
+        (folder / "list").write_bytes(MADE.list), (folder / "a").write_bytes(FILE), (folder / "b").write_bytes(FILE)
+        (folder / "r").mkdir(), (folder / "r" / "a.ers").write_bytes(OF_OTHER)
+        words = ["--trust", "list", "--records", "r", "--explain", "a", "b"]
+        _, out, _ = run_tool("cmsproof-archive", *words, cwd=folder)
+        lines = out.decode().splitlines()
+        self.assertEqual(lines[::2], ["a a.ers: refused chain 1 stamp 1 W4 K9 ImprintDiffers", "b: refused F16 NoRecord"])
+        self.assertIn("the document is another one than the record's", lines[1])
+        self.assertIn("no regular file is in the place of this file's evidence record", lines[3])
+
+
+class Drawn(WithFolder):
+    """The report, and the picture of a record."""
+
+    trust = (DATA / "trust.txt").read_bytes()
+
+    def test_the_page(self):
+        for name in ("renewed_five_times", "sha1_renewed_in_2013", "one_document"):
+            record = record_of(f"bouncy_castle_{name}")
+            self.put_with(name, record, (DATA / "files" / "document_0").read_bytes())
+        self.put_with(
+            "one_document_again", record_of("bouncy_castle_one_document"), (DATA / "files" / "document_0").read_bytes()
+        )
+        status, _, err = self.run_archive(*ENDS, *AT, "--state", "state", "files")
+        self.assertEqual(status, 0, err)
+        _, out, _ = run_tool("cmsproof-archive", "report", "state", "--html", "-", cwd=self.folder)
+        page = out.decode()
+        self.assertIn("<strong>4</strong>evidenced, 100.0 %", page)
+        titles = re.findall(r"<h3>(files/[^<]*) <small>([^<]*)</small></h3>", page)
+        self.assertEqual(
+            titles,
+            [
+                ("files/one_document and 1 more: existed by 2015-03-01", "renew before 2035-01-01"),
+                ("files/renewed_five_times: existed by 2010-05-01", "renew before 2035-01-01"),
+                ("files/sha1_renewed_in_2013: existed by 2009-01-01", "renew before 2035-01-01"),
+            ],
+        )
+        drawn = re.findall(r"<svg [^>]*><title>(files/[^<]*)</title>(.*?)</svg>", page)
+        self.assertEqual([title for title, _ in drawn], [title for title, _ in titles])
+        self.assertEqual([inside.count('class="use"') for _, inside in drawn], [1, 6, 2])
+        self.assertEqual([inside.count('class="next"') for _, inside in drawn], [0, 5, 1])
+        self.assertIn(">1. 2009-01-01, sha1<", drawn[2][1])
+        self.assertIn(">until 2016-01-01<", drawn[2][1])
+        self.assertIn("stamps the document and all before it anew", drawn[2][1])
+        self.assertIn(
+            "is asked to serve until 2026-12-31; its authority lasts until 2045-01-01; its algorithms hold until", page
+        )
+        # the only script is the page's own
+        self.assertEqual(page.count("<script"), 2)
+
+    def test_many_time_stamps(self):
+        """The last one of a record is the last one of its picture, however many there are."""
+        (self.folder / "list").write_bytes(MADE.list)
+        self.put_with("a", MADE.record(times=[f"{2021 + at // 12}{1 + at % 12:02}01100000Z" for at in range(70)]))
+        self.assertEqual(self.run_archive("--state", "state", "files")[:2], (0, ["files/a: evidenced 20210101100000Z"]))
+        _, out, _ = run_tool("cmsproof-archive", "report", "state", "--html", "-", cwd=self.folder)
+        text = out.decode()
+        self.assertIn("The last time-stamp, of 2026-10-01:", text)
+        drawn = [text.count(f'class="{kind}"') for kind in ("use", "next")]
+        self.assertEqual(drawn, [timelines.MOST_ROWS, timelines.MOST_ROWS - 2])
+        self.assertEqual(re.findall(r">([0-9]+)\. 20", text), [str(at) for at in (1, *range(8, 71))])
+
+    def test_what_is_renewed_first(self):
+        """Of however many records, each with a time of its own."""
+
+        def row(name, at, by):
+            text = rows.grounds_text((), (), (rows.Linked(1, f"20210501100000.{at:05}1Z", "", "", (by,)),))
+            return rows.Row(name, "", 0, 0, "", b"", b"", 0, EVIDENCED, text, 0)
+
+        tally, ends = page.Tally(), {"a" * 64: "20400101000000Z", "b" * 64: "20300101000000Z", "c" * 64: "20300101000000.5Z"}
+        for at in range(page.MOST_KINDS + 1):
+            tally.add(row(f"a{at:05}", at, "a" * 64), 1, None)
+        for name in ("c", "b"):
+            tally.add(row(name, 0, name * 64), 1, None)
+        tally.add(row("b2", 0, "b" * 64), 1, None), tally.add(row("d", 0, "b" * 64)._replace(grounds=rows.NOTHING[5]), 1, None)
+        said = page.renewals(tally, {("tsa", name): page.Known(name, until) for name, until in ends.items()}, {})
+        titles = [title.partition(":")[0] for title in re.findall(r"<h3>([^<]*)", said)]
+        self.assertEqual(titles, ["b and 1 more", "c", *(f"a{at:05}" for at in range(page.MOST_PICTURES - 2))])
+        self.assertIn(f"<p>And {page.MOST_KINDS + 4 - page.MOST_PICTURES:,} files more. Of 1 of them the time-stamps", said)
+
+    def test_where_moments_are(self):
+        linked = [
+            rows.Linked(1, "20050101000000Z", "1.3.14.3.2.26", "", ("a",)),
+            rows.Linked(2, "20150101000000Z", "2.999", "", ()),
+        ]
+        policy = timelines.policy_of(
+            "--sha1 --records --end sha1=20160101000000Z --end sha1=20120101000000Z --at 20260101000000Z"
+        )
+        self.assertEqual(policy, ({"sha1": "20120101000000Z"}, "20260101000000Z"))
+        first, last = timelines.uses_of(tuple(linked), policy, {"a": ("CN=<b>", "20180101000000Z")})
+        self.assertEqual((first.until, first.due, first.algorithm), ("20150101000000Z", "20120101000000Z", "sha1"))
+        self.assertEqual((last.until, last.due, last.algorithm), ("20260101000000Z", "", "2.999"))
+        scale = timelines.Scale([first, last])
+        self.assertEqual((scale.first, scale.last), (2005, 2027))
+        self.assertEqual((scale.at("20050101000000Z"), scale.at("20270101000000Z")), (timelines.LEFT, timelines.WIDTH))
+        self.assertEqual(scale.at("99991231235959Z"), timelines.WIDTH)
+        self.assertLess(scale.at("20160101000000Z"), scale.at("20160201000000Z"))
+        drawn = timelines.timeline([first, last], "<i>")
+        self.assertIn("CN=&lt;b&gt;", drawn)
+        self.assertNotIn("<i>", drawn)
+        self.assertEqual(drawn.count("<rect"), 3)
+        self.assertIn("no end of it is known", timelines.last_text([first, last]))
+        self.assertEqual(timelines.uses_of(tuple(linked), policy, {"a": ("CN=x", "<b>")})[0].lasts, "")
+        # of several authorities that it may be, the one that ends first
+        several = linked[0]._replace(authorities=("c", "b", "d", "a"))
+        known = {"a": ("CN=a", "20180101000000.5Z"), "b": ("CN=b", "20180101000000Z"), "c": ("CN=c", "20190101000000Z")}
+        self.assertEqual(timelines.uses_of((several,), policy, known)[0][4:6], known["b"])
+        # a state that somebody wrote can have them in any order
+        for uses in ([last, first], [last._replace(until="20050101000000Z")]):
+            self.assertIn("<rect", timelines.timeline(uses, ""))
+
+    def test_the_picture_of_the_guide(self):
+        """That in docs/ is what the tool draws of the record in the guide, by the words there."""
+        guide = (TOP / "docs" / "GUIDE.md").read_text()
+        words = re.search(r"--records records (--end \S+ --at \S+) --state maps.state", guide)[1]
+        record, trust = record_of("bouncy_castle_renewed_five_times"), cmsproof.TrustList(self.trust)
+        asked = cmsproof.evidence.questions(record, trust=trust).asked
+        linked = grounds_in(grounds_of_record(record, asked, rows.Noting(rows.keys_of(self.trust), b"", {}))).chains
+        places = {("tsa", name) for link in linked for name in link.authorities}
+        known = {name: (about.subject, about.until) for (_, name), about in known_in(self.trust, places).items()}
+        uses = timelines.uses_of(linked, timelines.policy_of(f"--records {words}"), known)
+        drawn = timelines.timeline(uses, "").partition("</title>")[2]
+        self.assertTrue((TOP / "docs" / "records.svg").read_text().rstrip().endswith(drawn))
+
+    def test_what_a_state_takes(self):
+        chain = [1, "20150101000000Z", "2.999", "", []]
+        for wrong in (
+            [[0, *chain[1:]]],
+            [[1, "2015", *chain[2:]]],
+            [[1, "20150101000000Z", "<b>", "", []]],
+            [[1, "20150101000000Z", "2.999", "x", []]],
+            [[1, "20150101000000Z", "2.999", "", ["x"]]],
+            [chain[:4]],
+            [None],
+            {"a": 1},
+        ):
+            text = json.dumps({"holds": [], "decided": [], "chains": wrong})
+            self.assertRaises((ValueError, TypeError), grounds_in, text)
+        self.assertEqual(len(grounds_in(json.dumps({"holds": [], "decided": [], "chains": [chain]})).chains), 1)
+        basis = ["a" * 64, "", "--sha1 --records --end sha512-224=20350101000000.5Z --at 20350101000000Z --whole", "x"]
+        self.assertEqual(basis_of(json.dumps(basis)).policy, basis[2])
+        for wrong in ("--records --at 9Z", "--records --end sha1=1.2Z", "--records --end sha1=2035Z", "--at 20350101000000.Z"):
+            self.assertRaises(ValueError, basis_of, json.dumps([*basis[:2], wrong, "x"]))
+        # however many grounds there are, each row has its own
+        texts = [rows.grounds_text((), (), (rows.Linked(1, f"2015010100000{at}Z", "", "", ()),)) for at in range(7)]
+        with mock.patch.object(state, "MOST_GROUNDS", 3), state.State(str(self.folder / "state")) as kept:
+            kept.judge_by(state.Basis("a" * 64, "", "", "x"), b"")
+            for at, text in enumerate(texts + texts):
+                kept.put_values(f"a{at:02}", [("", 0, 0, "", b"", b"", 0, EVIDENCED, text, 0)])
+            kept.commit()
+            self.assertEqual([row.grounds for row, _ in kept.rows()], texts + texts)
+            self.assertLessEqual(len(kept.grounds), 3)
+        links = chains.links_of(record_of("bouncy_castle_renewed_five_times"))
+        self.assertEqual([(link.chain, link.number) for link in links], [(1, 1), (1, 2), (1, 3), (1, 4), (2, 1), (2, 2)])
+        self.assertEqual(chains.end_of(links, 3, "x"), links[4].time)
+        self.assertEqual([chains.end_of(links, 5, at) for at in ("", "x")], [links[5].time, "x"])
+
+
+class Bundles(WithFolder):
+    """`cmsproof-archive evidence --record`."""
+
+    def make(self, *words, name="a", to="a.zip"):
+        """Makes a bundle."""
+        words = ["--trust", "list", "--record", f"records/files/{name}.ers", f"files/{name}", "--to", to, *words]
+        status, out, err = run_tool("cmsproof-archive", "evidence", *words, cwd=self.folder)
+        return status, out.decode(), err
+
+    def verify(self, *words, to="a.zip"):
+        """What is said of a bundle."""
+        status, out, err = run_tool("cmsproof-archive", "evidence", "--verify", to, *words, cwd=self.folder)
+        return status, out.decode(), err
+
+    def test_what_is_in_it(self):
+        self.put_with("a", TWICE), self.put_with("b", OF_OTHER)
+        words = [*ENDS, *AT]
+        self.assertEqual(self.make(*words)[:2], (0, f"files/a: {EVIDENCED}\n"))
+        members = self.members("a.zip")
+        manifest = json.loads(members["MANIFEST.json"])
+        self.assertEqual((manifest["file"], manifest["record"]), ("files/a", "records/files/a.ers"))
+        self.assertEqual((manifest["sha256"], manifest["line"]), (sha(TWICE).hex(), f"accepted {BEGUN}"))
+        self.assertEqual((members["record.ers"], members["content.bin"], members["trust.txt"]), (TWICE, FILE, MADE.list))
+        command = f"evidence check --trust trust.txt --answers vouched.txt {' '.join(words)} record.ers content.bin"
+        self.assertIn(command, members["VERIFY.txt"].decode())
+        same = f"a.zip: same: {EVIDENCED}"
+        self.assertEqual(self.verify("--trust", "list", *words)[:2], (0, same + "\n"))
+        self.assertEqual(self.verify("--list-of-the-bundle")[:2], (0, f"{same}, under the trust list of its maker\n"))
+        # the words by which it was judged are the user's own, or the maker's if he goes by those
+        for more in ([], AT, ENDS, [*words, "--whole"]):
+            status, out, _ = self.verify("--trust", "list", *more)
+            self.assertEqual((status, out.split(": ")[1]), (1, "differs"), more)
+        self.assertIn(f"its maker says {' '.join(words)}, and you did not\n", self.verify("--list-of-the-bundle")[2])
+        for more in (words, ENDS, AT, [*words, "--whole"], ["--end", "sha256=20100101000000Z"]):
+            status, out, err = self.verify("--list-of-the-bundle", *more)
+            self.assertEqual((status, out.split(": ")[1]), (0, "same") if more is words else (1, "differs"), more)
+            self.assertNotIn("its maker says", err)
+        # without the file in it
+        self.assertEqual(self.make("--without-content", to="b.zip")[0], 0)
+        self.assertNotIn("content.bin", self.members("b.zip"))
+        self.assertEqual(self.verify("--trust", "list", to="b.zip")[0], 3)
+        words = ["--trust", "list", "--content"]
+        self.assertEqual(self.verify(*words, "files/a", to="b.zip")[:2], (0, f"b.zip: same: {EVIDENCED}\n"))
+        self.assertEqual(self.verify(*words, "records/files/a.ers", to="b.zip")[0], 2)
+        # one that is refused has a bundle too
+        self.assertEqual(self.make(name="b", to="c.zip")[:2], (1, "files/b: refused chain 1 stamp 1 W4 K9 ImprintDiffers\n"))
+        self.assertEqual(self.verify("--trust", "list", to="c.zip")[0], 1)
+
+    def test_words_that_do_not_go_with_it(self):
+        """Who says until when algorithms hold is not told the verdict of a signed file, which says nothing of that."""
+        self.put("files/a.p7s", h.signed(MADE.anna, [(MADE.clock, BEGUN)]))
+        words = ["--trust", "list", "files/a.p7s", "--to", "a.zip"]
+        self.assertEqual(run_tool("cmsproof-archive", "evidence", *words, cwd=self.folder)[0], 0)
+        for trust in (["--trust", "list"], ["--list-of-the-bundle"]):
+            self.assertEqual(self.verify(*trust)[0], 0)
+            for more in (["--whole"], AT, ENDS):
+                status, out, _ = self.verify(*trust, *more)
+                self.assertEqual((status, out.split(": ")[1]), (1, "differs"), more)
+
+    def members(self, name):
+        """The members of a zip file."""
+        with zipfile.ZipFile(self.folder / name) as read:
+            return {member: read.read(member) for member in read.namelist()}
+
+    def test_what_is_changed(self):
+        """Each member in turn, with a manifest that has its sum; and what a manifest says."""
+        self.put_with("a", TWICE), self.make()
+        members = self.members("a.zip")
+
+        def again(**changed):
+            kept = {**members, **changed}
+            manifest = json.loads(kept.pop("MANIFEST.json"))
+            manifest["members"] = {name: bundles.summed(kept[name]) for name in bundles.MEMBERS if name in kept}
+            if "content.bin" in changed:
+                manifest["content"].update(bundles.summed(kept["content.bin"]))
+            whole = io.BytesIO()
+            bundles.put_members(whole, {**kept, "MANIFEST.json": (json.dumps(manifest, indent=1) + "\n").encode()})
+            (self.folder / "d.zip").write_bytes(whole.getvalue())
+            return self.verify("--list-of-the-bundle", to="d.zip")[:2]
+
+        def with_said(**said):
+            return again(**{"MANIFEST.json": json.dumps({**json.loads(members["MANIFEST.json"]), **said}).encode()})
+
+        self.assertEqual(again()[0], 0)
+        for name, octets in (
+            ("record.ers", GOOD),
+            ("record.ers", STRANGE),
+            ("content.bin", OTHER),
+            ("trust.txt", b"cmsproof trust 2\n"),
+            ("questions.txt", b"cmsproof questions 1\n"),
+            ("answers.txt", b"cmsproof answers 1\n"),
+            ("verdict.txt", b"accepted 19990101000000Z\n"),
+            ("VERIFY.txt", b"believe it\n"),
+        ):
+            status, out = again(**{name: octets})
+            self.assertEqual((status, out.split(": ")[1]), (1, "differs"), name)
+        for said in ({"line": "accepted 19990101000000Z"}, {"status": 1}, {"whole": True}, {"at": AT[1]}):
+            self.assertEqual(with_said(**said)[0], 1, said)
+        for said in (
+            {"ends": [["md5", AT[1]]]},
+            {"ends": [["sha1", "2016"]]},
+            {"ends": ["sha1"]},
+            {"ends": [["sha1", AT[1]], ["sha1", AT[1]]]},
+            {"at": "2016"},
+            {"content": None},
+            {"part": ""},
+            {"form": "cmsproof evidence 2"},
+        ):
+            self.assertEqual(with_said(**said)[0], 2, said)
+        both = {**members, "signed.p7s": b""}
+        self.assertEqual(again(**{name: both[name] for name in both})[0], 2)
+
+    def test_wrong_words(self):
+        self.put_with("a")
+        for words in (["--content", "list"], ["--sha1"], ["--part", ""], ["--end", "sha1"], ["--at", "x"]):
+            self.assertEqual(self.make(*words)[0], 3, words)
+        status, _, _ = run_tool("cmsproof-archive", "evidence", "--trust", "list", "files/a", "--to", "b", *AT, cwd=self.folder)
+        self.assertEqual(status, 3)
+        self.assertEqual(self.make(to="records/files/a.ers")[0], 3)
+        self.assertEqual(self.make(name="none")[0], 4)
+        self.put("records/files/a.ers", b"no record")
+        self.assertEqual(self.make()[0], 2)
+
+    @unittest.skipUnless(knows_records(), "the program does not check evidence records")
+    def test_the_commands_in_it(self):
+        """They print the line of the bundle."""
+        self.put_with("a", TWICE), self.make(*ENDS, *AT)
+        with zipfile.ZipFile(self.folder / "a.zip") as read:
+            read.extractall(self.folder / "out")
+        commands = re.findall(r"^    (cmsproof.*)$", (self.folder / "out" / "VERIFY.txt").read_text(), re.MULTILINE)[:3]
+        path = os.pathsep.join([str(PROGRAM.parent), str(INSTALLED), os.environ["PATH"]])
+        done = subprocess.run(
+            ["sh", "-ec", "\n".join(commands)], cwd=self.folder / "out", env={**os.environ, "PATH": path}, capture_output=True
+        )
+        self.assertEqual(done.stdout, (self.folder / "out" / "verdict.txt").read_bytes(), done.stderr)
+        for asked, kept in (("asked.txt", "questions.txt"), ("vouched.txt", "answers.txt")):
+            self.assertEqual((self.folder / "out" / asked).read_bytes(), (self.folder / "out" / kept).read_bytes())
+
+
+if __name__ == "__main__":
+    unittest.main()

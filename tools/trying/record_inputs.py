@@ -1,0 +1,97 @@
+"""The small evidence records (RFC 4998) of hostile_inputs.py and the commands that read them, each with what the rules say of any octets in
+their place: a tree over two documents, a group of two, and a record by SHA-1 that was renewed twice, with each field that a record may
+have."""
+from __future__ import annotations
+
+from oracle import evidence, lists, rules
+from oracle.der import element, oid
+from oracle.evidence import Policy
+from samples import building
+from samples.building import CT, sha
+from samples.recorded import Growing
+
+DATA, OTHER = b"abc", b"another document"
+TRUST = b"cmsproof trust 1\ntsa %s\n" % CT.hex().encode()
+TRUST_2 = b"cmsproof trust 2\r\n# one\r\n\r\ntsa 20240101000000Z 20240131000000Z %s" % CT.hex().encode()
+ENDS = [("sha1", b"20240120000000Z"), ("sha512", b"20350101000000.5Z"), ("sha1", b"20240116000000Z")]
+AT = b"20240131000000Z"
+BEGUN, RENEWED, AGAIN = "20240110100000Z", "20240112100000Z", "20240115100000.5Z"
+
+
+def tree(alg="sha256"):
+    """The lists of a tree of three documents: the one that must be covered, a second one beside it, and a third one."""
+    return lambda covered: [[sha(OTHER, alg), *covered], [sha(b"a third document", alg)]]
+
+
+SMALL = Growing(DATA).begin(BEGUN, make=tree())
+GROUP = Growing(DATA, OTHER).begin(BEGUN)
+OLD = Growing(DATA).begin(BEGUN, "sha1", make=tree("sha1"), attributes=building.attribute("2.999.1"))
+OLD.renew(RENEWED, make=lambda covered: [covered]).begin(AGAIN, "sha512", named=True)
+TREE, OF_GROUP, OF_OLD = SMALL.whole(), GROUP.whole(), OLD.whole(element(0xA0, building.attribute("2.999.2")))
+ENCRYPTED = SMALL.whole(element(0xA1, oid("2.999.3")))
+LINES = [line for record in (SMALL, GROUP, OLD) for line in record.asked(building.key(2))]
+ANSWERS = "".join(line + "\n" for line in ["cmsproof answers 1", *LINES]).encode()
+TERMS = rules.Terms(lists.entries_of(TRUST), LINES)
+LASTING = Policy([(name, lists.end_of_period(last)) for name, last in ENDS], lists.end_of_period(AT))
+UNSAID, WHOLE = Policy([]), Policy([], whole=True)
+
+
+def with_lists(trust, answers):
+    """What `evidence check` says of the tree with these lists."""
+    entries, fault = lists.trust(trust)
+    if fault:
+        return fault, 2
+    lines, fault = lists.answers(answers)
+    return (fault, 2) if fault else evidence.check(TREE, [DATA], rules.Terms(entries, lines), UNSAID)
+
+
+def unread(octets):
+    """What it says of a record and data that are not there: nothing of these is opened if the record is none, or is encrypted."""
+    said = evidence.check(octets, [b""], TERMS, UNSAID)
+    return said if said[1] == 2 or said[0].startswith("refused V") else ("failed open missing\n", 4)
+
+
+EVIDENCE_CHECK = ["evidence", "check", "--trust", "trust-tsa", "--answers", "answers-tsa"]
+EVIDENCE_QUESTIONS = ["evidence", "questions", "--trust", "trust-tsa"]
+SAID = [word for name, last in ENDS for word in ("--end", f"{name}={last.decode()}")] + ["--at", AT.decode()]
+# as the rows of hostile_inputs.py
+COMMANDS = [
+    ("evidence check, tree", TREE, EVIDENCE_CHECK + ["in", "content"], lambda o: evidence.check(o, [DATA], TERMS, UNSAID)),
+    (
+        "evidence check, renewed",
+        OF_OLD,
+        EVIDENCE_CHECK + SAID + ["in", "content"],
+        lambda o: evidence.check(o, [DATA], TERMS, LASTING),
+    ),
+    (
+        "evidence check, group",
+        OF_GROUP,
+        EVIDENCE_CHECK + ["--whole", "in", "other", "content"],
+        lambda o: evidence.check(o, [OTHER, DATA], TERMS, WHOLE),
+    ),
+    ("evidence check, encrypted", ENCRYPTED, EVIDENCE_CHECK + ["in", "missing"], unread),
+    ("evidence check, data", DATA, EVIDENCE_CHECK + ["tree", "in"], lambda o: evidence.check(TREE, [o], TERMS, UNSAID)),
+    (
+        "evidence check, trust list",
+        TRUST_2,
+        ["evidence", "check", "--trust", "in", "--answers", "answers-tsa", "tree", "content"],
+        lambda o: with_lists(o, ANSWERS),
+    ),
+    (
+        "evidence check, answers list",
+        ANSWERS.split(b"\n")[0] + b"\n" + ANSWERS.split(b"\n")[1],
+        ["evidence", "check", "--trust", "trust-tsa", "--answers", "in", "tree", "content"],
+        lambda o: with_lists(TRUST, o),
+    ),
+    ("evidence questions", OF_OLD, EVIDENCE_QUESTIONS + ["in"], lambda o: evidence.questions(o, TERMS)),
+]
+# what stands beside the input
+BESIDE = {
+    "trust-tsa": TRUST,
+    "answers-tsa": ANSWERS,
+    "other": OTHER,
+    "tree": TREE,
+    "of-group": OF_GROUP,
+    "of-old": OF_OLD,
+    "encrypted": ENCRYPTED,
+}

@@ -10,13 +10,14 @@ use Rattle.check_questions.specs.Written.{EncodesNothing}
 use Rattle.library_answers.specs.declared.answer.Answer.{Answer}
 use Rattle.library_calls.specs.Checked.{terms_under, IsChecked, SaysYes, SaysMoment, AnswersAsked}
 use Rattle.library_calls.specs.CheckedTokens.{SaysPasses}
-use Rattle.library_calls.specs.Evidence.{SaysShown}
+use Rattle.library_calls.specs.Evidence.{AnswersAlike, IsEvidenceChecked, SaysShown}
 use Rattle.library_calls.specs.Questions.{IsAskedIfMemory}
 use Rattle.library_calls.specs.Stamps.{SaysStamped}
 use Rattle.library_calls.specs.Stated.{EvidenceCheck}
 use Rattle.library_calls.proofs.Asking.{checked_by_asked}
 use Rattle.library_calls.proofs.Checking.{says_yes, says_moment, checked_suffices}
 use Rattle.library_calls.proofs.CheckingTokens.{says_passes}
+use Rattle.library_calls.proofs.EvidenceAlike.{checked_alike}
 use Rattle.library_calls.proofs.EvidenceSaid.{says_shown}
 use Rattle.library_calls.proofs.StampsSaid.{says_stamped}
 use Rattle.cmsproof_c.specs.Held.{SaysNoList, IsCheck, IsEvidenceCheck, IsStampCheck, IsTokenCheck, AsksFile}
@@ -89,6 +90,16 @@ shown_held input said status before size after (Some l) (Some a) h = λ m.
     says_shown said status before size after l a input m h
 shown_held input said status before size after (Some l) None h = tt
 shown_held input said status before size after None asked h = tt
+
+pub alike_held : (input : EvidenceCheck) (said : Answer) (status : ℕ) (before : List ℕ) (size : ℕ) (after : List ℕ)
+    (list : Option (List EntryValue)) (asked : Option (List Asked))
+    → IsEvidenceCheck list asked input said status before size after
+    → IfSome list (λ l. IfSome asked (λ a. (others : List Asked) → AnswersAlike l input.evidence a others
+    → IsEvidenceChecked l others input said status before size after))
+alike_held input said status before size after (Some l) (Some a) h = λ others alike.
+    checked_alike l a others input alike said status before size after h
+alike_held input said status before size after (Some l) None h = tt
+alike_held input said status before size after None asked h = tt
 
 module _ (octets : List ℕ) (said : Answer) (status : ℕ) (before : List ℕ) (size : ℕ) (after : List ℕ) where
   pub only_held : (list : Option (List EntryValue)) → AsksFile list octets said status before size after

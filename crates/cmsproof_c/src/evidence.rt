@@ -1,5 +1,6 @@
-ghost use Rattle.std.specs.Prelude.{◌≡◌, ℕ, IfSome};
-ghost use Rattle.library_calls.specs.Evidence.{SaysShown};
+ghost use Rattle.std.specs.Prelude.{◌≡◌, ℕ, List, IfSome};
+ghost use Rattle.trust_lists.specs.Asking.{Asked};
+ghost use Rattle.library_calls.specs.Evidence.{AnswersAlike, IsEvidenceChecked, SaysShown};
 ghost use Rattle.library_calls.specs.Stated.{EvidenceCheck};
 ghost use Rattle.cmsproof_c.specs.Held.{AsksEvidence, IsEvidenceCheck, VouchesSame};
 
@@ -72,6 +73,17 @@ pub extern "C" fn cmsproof_evidence_check(
       whole = whole;
     } in IsEvidenceCheck trust.old.inside.kept answers.old.inside.kept input said.new result text.old size.new
         text.new }
+    // The verdict is right with each list that answers the record's questions as the answers list does.
+    ensures sufficient { let input : EvidenceCheck = record {
+      evidence = evidence.now;
+      joined = joined.now;
+      lengths = lengths.now;
+      ends = ends.now;
+      at = at.now;
+      whole = whole;
+    } in IfSome trust.old.inside.kept (λ list. IfSome answers.old.inside.kept (λ asked. (others : List Asked)
+        → AnswersAlike list evidence.now asked others
+        → IsEvidenceChecked list others input said.new result text.old size.new text.new)) }
     // The trust list stays as it was.
     ensures trust { trust.new.inside.kept ≡ trust.old.inside.kept }
     // The answers list vouches for what it vouched for.

@@ -3,6 +3,7 @@ pub mod Asking
 pub mod Checking
 pub mod CheckingTokens
 pub mod DataObjects
+pub mod EvidenceAlike
 pub mod EvidenceSaid
 pub mod InMemory
 pub mod Moments

@@ -11,7 +11,7 @@ use Rattle.check_evidence.specs.declared.rules.EvidenceRefused.{EvidenceRefused}
 use Rattle.check_evidence.specs.declared.rules.EvidenceRefused.TheVariants as refused
 use Rattle.evidence_questions.specs.declared.fault.RecordQuestionsFault.{RecordQuestionsFault}
 use Rattle.evidence_questions.specs.declared.fault.RecordQuestionsFault.TheVariants as fault
-use Rattle.evidence_questions.specs.RecordQuestions.{AreQuestionsOfRecord}
+use Rattle.evidence_questions.specs.RecordQuestions.{AreQuestionsOfRecord, IsRecordQuestion}
 use Rattle.evidence_questions.specs.RecordWritten.{HasNoQuestions}
 use Rattle.cli_failures.specs.declared.failure.Failure.{Failure}
 use Rattle.cli_failures.specs.declared.failure.Failure.TheVariants as failure
@@ -78,6 +78,11 @@ IsEvidenceChecked list asked i said status before size after =
     IsEvidenceStated list asked i said status before size after
     ⊎ (((why : Failure) × RefusesStated i why × SaysFailure why said status before size after)
     ⊎ SaysNoMemory said status before size after)
+
+-- another list answers each question about the tokens of the record as the answers list does
+abbrev pub AnswersAlike : (list : List EntryValue) → (octets : List ℕ) → (asked others : List Asked) → Type 0
+AnswersAlike list octets asked others = (q : Asked) → IsRecordQuestion list octets q
+    → is_among others q ≡ is_among asked q
 
 -- with what the caller states, the record shows this moment for the data objects
 pub record ShowsStated (list : List EntryValue) (asked : List Asked) (i : EvidenceCheck) (m : ℕ) : Type 0 where

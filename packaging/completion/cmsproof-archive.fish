@@ -6,7 +6,7 @@ function __cmsproof_archive_at
     set -l place -
     set -l words (commandline -opc)
     set -e words[1]
-    if set -q words[1]; and contains -- $words[1] report evidence
+    if set -q words[1]; and contains -- $words[1] report evidence due
         set place $words[1]
         set -e words[1]
     end
@@ -19,6 +19,7 @@ end
 
 complete -c cmsproof-archive -n '__cmsproof_archive_at 1 -' -a report -d 'Shows what a state of cmsproof-archive holds'
 complete -c cmsproof-archive -n '__cmsproof_archive_at 1 -' -a evidence -d 'Makes a bundle, a zip file, of all that shows the verdict of one file again'
+complete -c cmsproof-archive -n '__cmsproof_archive_at 1 -' -a due -d 'Lists the evidence records'
 complete -c cmsproof-archive -n '__cmsproof_archive_at -' -l help -d 'Show this help message and exit'
 complete -c cmsproof-archive -n '__cmsproof_archive_at -' -l version -d 'Show program’s version number and exit'
 complete -c cmsproof-archive -n '__cmsproof_archive_at -' -l trust -r -F -d 'The trust list, which is read once'
@@ -77,3 +78,14 @@ complete -c cmsproof-archive -n '__cmsproof_archive_at evidence' -l without-cont
 complete -c cmsproof-archive -n '__cmsproof_archive_at evidence' -l to -r -F -d 'The bundle that is made'
 complete -c cmsproof-archive -n '__cmsproof_archive_at evidence' -l verify -r -F -d 'A bundle, of which is asked anew what it says'
 complete -c cmsproof-archive -n '__cmsproof_archive_at evidence' -l list-of-the-bundle -d 'With --verify'
+complete -c cmsproof-archive -n '__cmsproof_archive_at due' -l help -d 'Show this help message and exit'
+complete -c cmsproof-archive -n '__cmsproof_archive_at due' -l version -d 'Show program’s version number and exit'
+complete -c cmsproof-archive -n '__cmsproof_archive_at due' -l trust -r -F -d 'The trust list, which is read once'
+complete -c cmsproof-archive -n '__cmsproof_archive_at due' -l months -x -d 'Those that are due within so many months from now'
+complete -c cmsproof-archive -n '__cmsproof_archive_at due' -l by -x -d 'Those that are due by this moment'
+complete -c cmsproof-archive -n '__cmsproof_archive_at due' -l end -x -d 'The last moment at which a digest algorithm holds'
+complete -c cmsproof-archive -n '__cmsproof_archive_at due' -l jobs -x -d 'Records that are judged at a time'
+complete -c cmsproof-archive -n '__cmsproof_archive_at due' -l json -d 'A line of JSON for each record that is due, and a last one about all'
+complete -c cmsproof-archive -n '__cmsproof_archive_at due' -l files-from -r -F -d 'A list of names, one on each line'
+complete -c cmsproof-archive -n '__cmsproof_archive_at due' -l null -d 'Names in lists end in an octet 00'
+complete -c cmsproof-archive -n '__cmsproof_archive_at due' -l progress -d 'Say how far the work is, also where standard error is not a terminal'

@@ -23,6 +23,7 @@ _cmsproof_options() {
     'cmsproof-verify') echo '--help --version' ;;
     'cmsproof-archive report') echo '--help --version --html --csv --json --known --only' ;;
     'cmsproof-archive evidence') echo '--help --version --trust --content --sha1 --record --end --at --whole --part --without-content --to --verify --list-of-the-bundle' ;;
+    'cmsproof-archive due') echo '--help --version --trust --months --by --end --jobs --json --files-from --null --progress' ;;
     esac
 }
 
@@ -34,7 +35,7 @@ _cmsproof_firsts() {
     'cmsproof stamp') echo 'check questions' ;;
     'cmsproof evidence') echo 'check questions' ;;
     'cmsproof help') echo 'request show cert fit match check questions stamp evidence attach compare migrate help' ;;
-    'cmsproof-archive') echo 'report evidence' ;;
+    'cmsproof-archive') echo 'report evidence due' ;;
     esac
 }
 
@@ -125,6 +126,12 @@ _cmsproof_values() {
     'cmsproof-archive evidence --part') echo '' ;;
     'cmsproof-archive evidence --to') echo files ;;
     'cmsproof-archive evidence --verify') echo files ;;
+    'cmsproof-archive due --trust') echo files ;;
+    'cmsproof-archive due --months') echo '' ;;
+    'cmsproof-archive due --by') echo '' ;;
+    'cmsproof-archive due --end') echo '' ;;
+    'cmsproof-archive due --jobs') echo '' ;;
+    'cmsproof-archive due --files-from') echo files ;;
     *) return 1 ;;
     esac
 }
@@ -154,6 +161,7 @@ _cmsproof() {
     'cmsproof help') place=$tool\ ${COMP_WORDS[1]} ;;
     'cmsproof-archive report') place=$tool\ ${COMP_WORDS[1]} ;;
     'cmsproof-archive evidence') place=$tool\ ${COMP_WORDS[1]} ;;
+    'cmsproof-archive due') place=$tool\ ${COMP_WORDS[1]} ;;
     esac
     [ "$place" = "$tool" ] || first=2
     if words=$(_cmsproof_values "$place" "$before"); then

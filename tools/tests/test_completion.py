@@ -79,11 +79,11 @@ class Offered:
     def test_options_of_commands_and_tools(self):
         table = [(f"cmsproof {name} --", options_of(name)) for name in commands() - {"help"}]
         helps = [(name, help_of(sys.executable, INSTALLED / name, "--help")) for name in TOOLS]
-        for word in ("report", "evidence"):
+        for word in ("report", "evidence", "due"):
             name = f"cmsproof-archive {word}"
             helps.append((name, help_of(sys.executable, INSTALLED / "cmsproof-archive", word, "--help")))
         table += [(f"{name} --", options_in(text)) for name, text in helps]
-        self.assertEqual(len(table), len(commands()) - 1 + 4 + 2)
+        self.assertEqual(len(table), len(commands()) - 1 + 4 + 3)
         self.assertTrue(all("--help" in expected for _, expected in table))
         self.check(table)
 
@@ -100,6 +100,7 @@ class Offered:
             ("cmsproof-archive report --only ", verdicts),
             ("cmsproof-archive rep", {"report"}),
             ("cmsproof-archive evi", {"evidence"}),
+            ("cmsproof-archive du", {"due"}),
         ]
         self.check(table)
 
@@ -117,6 +118,9 @@ class Offered:
             ("cmsproof-archive --jobs ", nothing),
             ("cmsproof-archive report l", there),
             ("cmsproof-archive evidence --to l", there),
+            ("cmsproof-archive due l", there),
+            ("cmsproof-archive due --trust l", there),
+            ("cmsproof-archive due --months ", nothing),
             ("cmsproof-trust --tsa l", there),
             ("cmsproof-trust --until ", nothing),
             ("cmsproof-extract l", there),

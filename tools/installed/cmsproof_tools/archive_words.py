@@ -103,10 +103,15 @@ def time_of(text: str) -> str:
     return text
 
 
+def add_ends(parser: Words, by: str) -> None:
+    """The word that says until when digest algorithms hold, which goes with another one."""
+    end = f"the last moment at which a digest algorithm holds{by}: sha1 holds at none without"
+    parser.add_argument("--end", action="append", default=[], type=end_of, metavar="ALG=TIME", help=end)
+
+
 def add_judging(parser: Words, by: str) -> None:
     """The words by which evidence records are judged, which go with another one."""
-    end = f"the last moment at which a digest algorithm holds, with {by}: sha1 holds at none without"
-    parser.add_argument("--end", action="append", default=[], type=end_of, metavar="ALG=TIME", help=end)
+    add_ends(parser, f", with {by}")
     at = f"until when the last time-stamp of a record must serve, with {by}: by default its own time"
     parser.add_argument("--at", type=time_of, metavar="TIME", help=at)
     whole = f"a record may cover nothing else than its file, with {by}"
@@ -185,6 +190,8 @@ def command_of(words: list[str]) -> str | None:
     asked = {word.partition("=")[0] for word in words[1:]}
     if words[:1] == ["report"] and not asked & {"--trust", "--issuer", "--tsa-issuer"}:
         return "report"
+    if words[:1] == ["due"] and asked & {"--months", "--by", "--help", "-h"}:
+        return "due"
     return "evidence" if words[:1] == ["evidence"] and asked & {"--to", "--verify", "--help", "-h"} else None
 
 

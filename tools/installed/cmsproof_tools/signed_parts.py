@@ -191,6 +191,20 @@ def values_of(octets: Buffer, attributes: Union[Span, None], name: str) -> Itera
                 yield first, last
 
 
+def tst_fields(octets: bytes, parts: list[Span]) -> list[der.Element]:
+    """The fields of the TSTInfo (RFC 3161 2.4.2) that is the content of a SignedData with these parts. Raises ValueError or IndexError where
+    it is none."""
+    _, content = some(octets, *parts[2][2:], IN_CONTENT)
+    (inside,) = some(octets, *content[2:], 1)
+    return der.elements(der.only(der.SEQUENCE, octets[inside[2] : inside[3]]), IN_TST_INFO)
+
+
+def time_in(fields: list[der.Element]) -> Union[str, None]:
+    """The time that the fields of a TSTInfo say. Raises ValueError where it is no text."""
+    times = [field.contents.decode("ascii") for field in fields if field.identifier == GENERALIZED_TIME]
+    return next((time for time in times if is_moment(time)), None)
+
+
 def token_of(octets: bytes, stamped: bytes) -> Token:
     """A token (RFC 3161 2.4.2) with what of it can be read; the proved calls say what it is. Raises TooMany."""
     bag: list[bytes] = []
@@ -199,12 +213,7 @@ def token_of(octets: bytes, stamped: bytes) -> Token:
         bag = certificates_of(octets, parts)
         (info,) = some(octets, *parts[-1][2:], 1)
         _, sid, *_ = some(octets, *info[2:], IN_SIGNER)
-        _, content = some(octets, *parts[2][2:], IN_CONTENT)
-        (inside,) = some(octets, *content[2:], 1)
-        fields = der.elements(der.only(der.SEQUENCE, octets[inside[2] : inside[3]]), IN_TST_INFO)
-        times = [field.contents.decode("ascii") for field in fields if field.identifier == GENERALIZED_TIME]
-        time = next((time for time in times if is_moment(time)), None)
-        return Token(octets, stamped, tuple(bag), element_of(octets, sid), time)
+        return Token(octets, stamped, tuple(bag), element_of(octets, sid), time_in(tst_fields(octets, parts)))
     except TooMany:
         raise
     except (ValueError, IndexError):

@@ -1,0 +1,220 @@
+"""`cmsproof-archive due`: which evidence records (RFC 4998) must be renewed by a moment. No file is read whose record one is."""
+from __future__ import annotations
+
+import argparse
+import json
+import os
+import time
+from calendar import monthrange
+from collections import Counter
+from functools import partial
+from typing import Any, NamedTuple, Sequence, Union
+
+from cmsproof_tools.archive_words import add_ends, jobs_of, time_of
+from cmsproof_tools.evidenced import ENDING, first_ends
+from cmsproof_tools.outcomes import named
+from cmsproof_tools.pairs import is_regular
+from cmsproof_tools.progress import Progress
+from cmsproof_tools.running import DONE, FAILED, REFUSED, Words, module, one_line, shown, tell, write
+from cmsproof_tools.texts import in_order
+
+ABOUT = """Lists the evidence records (RFC 4998) that must be renewed by a moment: those whose last time-stamp does not serve until then, since
+its authority's certificate or entry in the trust list ends before, or a digest algorithm does.
+
+    cmsproof-archive due records --trust trust.txt --end sha256=20350101000000Z --months 12
+
+There is one line for each, in the order of the names: `due TIME NAME`, TIME being the last moment at which the time-stamp serves. A record
+of which nobody can say that, as one that cannot be read, or of an authority that is not in the list, is due now: `due now NAME: REASON`.
+The others have no line, and standard error counts all.
+
+Only records are read, and not their files. So it is not said that a record is right: `cmsproof-archive --records` says that. What that accepts
+is accepted with `--at` this moment, the same list and the same ends, exactly if it is not due.
+
+In a folder the files that end in .ers are records. A record named `-` is a list of names on standard input, one on each line.
+
+Exit status: 0 none is due; 1 one is; 2 one is malformed, or the trust list is; 3 wrong words; 4 a file or the library failed.
+"""
+# the last year that a moment has
+LAST_YEAR = 9999
+
+
+class Told(NamedTuple):
+    """What is said of some records: the word of each by which it is counted, the worst status, and the lines with their ends."""
+
+    words: list[str]
+    status: int
+    lines: bytes
+
+
+def months_of(text: str) -> int:
+    """The number of `--months`."""
+    if not text.isdecimal() or len(text) > 6:
+        raise argparse.ArgumentTypeError(f"{text} is no number of months")
+    return int(text)
+
+
+def parser_of(tool: str) -> Words:
+    """The parser of the words."""
+    parser = Words(tool, description=ABOUT)
+    parser.add_argument("--trust", required=True, metavar="LIST", help="the trust list, which is read once")
+    parser.add_argument("--months", type=months_of, metavar="N", help="those that are due within so many months from now")
+    parser.add_argument("--by", type=time_of, metavar="TIME", help="those that are due by this moment")
+    add_ends(parser, "")
+    jobs = "records that are judged at a time; as many as there are processors by default"
+    parser.add_argument("--jobs", type=jobs_of, default=len(os.sched_getaffinity(0)), metavar="N", help=jobs)
+    json_help = "a line of JSON for each record that is due, and a last one about all"
+    parser.add_argument("--json", action="store_true", help=json_help)
+    parser.add_argument("--files-from", action="append", default=[], metavar="FILE", help="a list of names, one on each line")
+    parser.add_argument("--null", action="store_true", help="names in lists end in an octet 00, as find -print0 writes them")
+    progress = "say how far the work is, also where standard error is not a terminal"
+    parser.add_argument("--progress", action="store_true", help=progress)
+    parser.add_argument("files", nargs="*", metavar="RECORD", help="an evidence record, a folder of records, or `-`")
+    return parser
+
+
+def months_on(now: float, months: int) -> str:
+    """The moment so many months behind another one, on the last day of a month that is shorter."""
+    found = time.gmtime(now)
+    years, month = divmod(found.tm_mon - 1 + months, 12)
+    year = found.tm_year + years
+    if year > LAST_YEAR:
+        return f"{LAST_YEAR}1231235959Z"
+    day = min(found.tm_mday, monthrange(year, month + 1)[1])
+    return f"{year:04}{month + 1:02}{day:02}{time.strftime('%H%M%S', found)}Z"
+
+
+class Named(NamedTuple):
+    """What was named: the records, in their order, what those are that are no regular files, and how many files of folders are none."""
+
+    names: list[str]
+    unfit: dict[str, str]
+    others: int
+
+
+def records_named(tool: str, given: Any) -> Named:
+    """The records that the words name, and those in folders."""
+    from cmsproof_tools.folders import files_under
+
+    archive, found, others = module("archive"), Named([], {}, 0), 0
+
+    def skip(name: str, kind: str) -> None:
+        if name.endswith(ENDING):
+            found.names.append(name)
+            found.unfit[name] = kind
+        else:
+            tell(tool, f"{shown(name)}: skipped: it is {kind}")
+
+    for name in given.files:
+        if name == "-" or name.startswith(archive.PLACES) or not os.path.isdir(name):
+            found.names.extend(archive.names_in("-", given.null) if name == "-" else [name])
+            continue
+        before = len(found.names)
+        for below in files_under(name, skip):
+            # (what cannot be looked into is no regular file)
+            if below.endswith(ENDING) or not is_regular(below):
+                found.names.append(below)
+            else:
+                others += 1
+        if len(found.names) == before:
+            tell(tool, f"{shown(name)}: no record is in it")
+    found.names.extend(name for path in given.files_from for name in archive.names_in(path, given.null))
+    return found._replace(others=others)
+
+
+def line_of(name: str, status: int, at: str, reason: str, is_json: bool) -> bytes:
+    """The line of a record that is due at a moment, or now for a reason."""
+    line = one_line(f"due {at} {shown(name)}" + (f": {reason}" if reason else ""))
+    if not is_json:
+        return line.encode() + b"\n"
+    said = {**named(name), "status": status, "line": line, "due": at, **({"reason": one_line(reason)} if reason else {})}
+    return json.dumps(said).encode() + b"\n"
+
+
+def judged(by: Any, unfit: dict[str, str], is_json: bool, name: str) -> Told:
+    """What is said of a record."""
+    lasting, checking = module("lasting"), module("checking")
+    try:
+        if name in unfit:
+            raise lasting.Unjudged(FAILED, f"it is {unfit[name]}, and is not read")
+        with checking.opened(name) as file:
+            end = lasting.end_of(file.octets, by)
+    except lasting.Unjudged as error:
+        return Told(["unjudged"], error.status, line_of(name, error.status, "now", str(error), is_json))
+    except MemoryError:
+        return failed(is_json, name, "failed memory")
+    except checking.Unread as error:
+        return failed(is_json, name, str(error))
+    except Exception as error:  # a fault of the tool itself
+        return failed(is_json, name, f"failed due: {type(error).__name__}: {error}")
+    if in_order(by.moment, end):
+        return Told(["lasting"], DONE, b"")
+    return Told(["due"], REFUSED, line_of(name, REFUSED, end, "", is_json))
+
+
+def failed(is_json: bool, name: str, reason: str) -> Told:
+    """What is said of a record that could not be judged."""
+    return Told(["unjudged"], FAILED, line_of(name, FAILED, "now", reason, is_json))
+
+
+def joined(several: list[Told]) -> list[tuple[int, Told]]:
+    """What is said of several records, said of all at once."""
+    words, statuses, lines = zip(*several)
+    return [(len(several), Told([word for one in words for word in one], max(statuses), b"".join(lines)))]
+
+
+def lost(is_json: bool, name: str, by: int) -> Told:
+    """What is said of a record whose worker was ended."""
+    return failed(is_json, name, f"failed worker: it was ended by signal {by}" if by else "failed worker: it ended")
+
+
+def told(tool: str, given: Any, by: Any, names: Sequence[str], found: Named) -> int:
+    """Writes the line of each record that is due, says how many there are of each kind, and answers the worst status."""
+    from cmsproof_tools.workers import Workers
+
+    progress, worst = Progress(tool, len(names), given.progress), DONE
+    with Workers(min(given.jobs, len(names)), partial(judged, by, found.unfit, given.json), joined) as workers:
+        for several in workers.batches(names, partial(lost, given.json)):
+            progress.put("")
+            write("-", b"".join(one.lines for one in several))
+            progress.steps([word for one in several for word in one.words])
+            worst = max([worst, *(one.status for one in several)])
+    progress.put("")
+    tell(tool, counted(progress.counts, by.moment, found.others))
+    if given.json:
+        counts = {word: progress.counts[word] for word in ("lasting", "due", "unjudged")}
+        last = {"by": by.moment, "files": len(names), **counts, "worst": worst}
+        write("-", json.dumps(last).encode() + b"\n")
+    return worst
+
+
+def counted(counts: Counter[str], moment: str, others: int) -> str:
+    """How many records were judged, and how."""
+    text = f"{sum(counts.values())} records: {counts['due']} due by {moment}"
+    text += f", {counts['unjudged']} due now, which cannot be judged" if counts["unjudged"] else ""
+    return text + (f"; {others} other files in the folders do not end in {ENDING}" if others else "")
+
+
+def moment_by(given: Any) -> Union[str, None]:
+    """The moment by which records are due; None where it is not said, or twice."""
+    if (given.months is None) is (given.by is None):
+        return None
+    return given.by or months_on(time.time(), given.months)
+
+
+def main(tool: str, words: list[str]) -> int:
+    """Runs the tool with these words and answers its exit status."""
+    parser = parser_of(tool)
+    given = parser.parse_args(words)
+    moment = moment_by(given)
+    if moment is None:
+        parser.error("by when? --months N counts from now, --by TIME is a moment: say one of both")
+    archive, lasting = module("archive"), module("lasting")
+    by = lasting.By(archive.trust_list(given.trust, False), dict(first_ends(given.end)), moment)
+    found = records_named(tool, given)
+    if not found.names:
+        parser.error("no record is named")
+    for name in ("checking", "verifying"):
+        module(name)
+    names = module("names").kept(found.names) if len(found.names) >= archive.MANY else list(found.names)
+    found.names.clear()
+    return told(tool, given, by, names, found)

@@ -1,0 +1,183 @@
+"""Until when the last time-stamp of an evidence record (RFC 4998) serves, by a trust list and the ends of digest algorithms.
+
+A record that is accepted by its own time is accepted at a later moment exactly if its last time-stamp lasts until then (5.3, step 2): its
+token passes under an entry of an authority that holds when it was made and still then, and its digest algorithms hold then. Of all but the
+imprint that is asked here, of the proved library where it has a call for it, so that nobody needs the file whose record it is.
+"""
+from __future__ import annotations
+
+from collections import deque
+from functools import cached_property
+from typing import Iterator, NamedTuple, TypeVar
+
+import cmsproof
+from cmsproof.octets import Buffer
+from cmsproof_tools import der
+from cmsproof_tools.periods import Period
+from cmsproof_tools.rows import digest_of
+from cmsproof_tools.running import MALFORMED, REFUSED, module
+from cmsproof_tools.signed_parts import CONTEXT_0, Span, header, parts_of, some, spans, time_in, tst_fields
+from cmsproof_tools.texts import Question, in_order, trust_entries
+from cmsproof_tools.timelines import NAMES, earliest
+
+# how many fields a record and an archive time-stamp have at most (RFC 4998 3.1, 4.1)
+IN_RECORD, IN_STAMP = 5, 4
+VERSION_1 = bytes.fromhex("020101")
+# the attributes that name a certificate (RFC 2634 5.4, RFC 5035 3), as elements
+NAMING = (bytes.fromhex("060b2a864886f70d010910020c"), bytes.fromhex("060b2a864886f70d010910022f"))
+# what a token fails under an entry, by what a signed file fails whose signer has such an entry; the last of those has no token of its own
+OF_SIGNER = {"S7": "K10 UnknownTsa", "S8": "K11 NotNamed", "S9": "K14 SignatureFails", "S10": ""}
+NOT_NAMED, PURPOSE, PERIOD = "K11 NotNamed", "K12 Purpose", "K13 Period"
+# the rules of a token that come before its imprint
+BEFORE_IMPRINT = tuple(f"K{number}" for number in range(1, 9))
+Item = TypeVar("Item")
+
+
+class Unjudged(Exception):
+    """Nobody can say until when a record serves: the status, and why not."""
+
+    def __init__(self, status: int, reason: str) -> None:
+        super().__init__(reason)
+        self.status = status
+
+
+class Last(NamedTuple):
+    """The last archive time-stamp of a record: its time, the identifiers of the digest algorithms of its lists and of its imprint, its token,
+    and a record that has it alone."""
+
+    time: str
+    algorithms: tuple[str, ...]
+    token: bytes
+    alone: bytes
+
+    def failing(self, rule: str) -> Unjudged:
+        """That it fails a rule, in the words of a check."""
+        return Unjudged(REFUSED, f"{rule}, its last time-stamp, of {self.time}")
+
+
+def last_in(items: Iterator[Item]) -> Item:
+    """The last of some items. Raises IndexError where there is none."""
+    return deque(items, maxlen=1).pop()
+
+
+def sequence(*parts: bytes) -> bytes:
+    """A SEQUENCE of these elements."""
+    contents = b"".join(parts)
+    return header(der.SEQUENCE, len(contents)) + contents
+
+
+def algorithms_of(octets: Buffer, fields: list[Span], imprint: bytes) -> tuple[str, ...]:
+    """The identifiers of the algorithms of an archive time-stamp with these fields: that of its lists, which is that of the imprint where it
+    is absent (RFC 4998 4.1), and that of the imprint. Raises ValueError where one cannot be read."""
+    identifier, _, begin, end = fields[0]
+    named = bytes(octets[begin:end]) if identifier == CONTEXT_0 else imprint
+    return tuple(dict.fromkeys(der.oid_text(der.elements(one, 1)[0].contents) for one in (named, imprint)))
+
+
+def last_of(octets: Buffer) -> Last:
+    """The last archive time-stamp of octets in which the library found a record. Raises ValueError or IndexError where its token cannot be
+    read."""
+    (_, _, begin, end) = next(spans(octets, 0, len(octets)))
+    parts = some(octets, begin, end, IN_RECORD)
+    _, first, begin, end = last_in(spans(octets, *last_in(spans(octets, *parts[-1][2:]))[2:]))
+    fields = some(octets, begin, end, IN_STAMP)
+    token = bytes(octets[fields[-1][1] : fields[-1][3]])
+    stated = tst_fields(token, parts_of(token, len(token)))
+    time, imprint = time_in(stated), der.elements(stated[2].contents, 1)[0].contents
+    if time is None:
+        raise ValueError("it says no time")
+    chains = sequence(sequence(bytes(octets[first:end])))
+    alone = sequence(VERSION_1, bytes(octets[parts[1][1] : parts[1][3]]), chains)
+    return Last(time, algorithms_of(octets, fields, imprint), token, alone)
+
+
+def is_good(question: Question) -> bool:
+    """Whether the signature of a question holds."""
+    return module("verifying").fault_in(question.line) is None
+
+
+class Entry:
+    """An entry of an authority in a trust list: when it holds, whether its certificate is for time-stamping alone, and itself as a list that
+    has it as a signer's, which is made if it is needed."""
+
+    def __init__(self, octets: bytes, period: Period, is_stamping: bool) -> None:
+        self.octets, self.period, self.is_stamping = octets, period, is_stamping
+
+    @cached_property
+    def as_signer(self) -> cmsproof.TrustList:
+        """The list by which the library says of a token, which is a SignedData, whether its signer is the one of this certificate."""
+        return cmsproof.TrustList(f"cmsproof trust 2\nsigner - - {self.octets.hex()}\n".encode())
+
+    def fault(self, last: Last) -> str:
+        """The rule that a token fails under this entry, "" if it fails none, but that of the imprint."""
+        if not self.is_stamping:
+            return PURPOSE
+        if not self.period.has(last.time):
+            return PERIOD
+        code = cmsproof.check(last.token, trust=self.as_signer, verifier=is_good, sha1=True).code
+        return OF_SIGNER.get(code or "", f"K5 {code}")
+
+
+class By:
+    """By what it is judged until when a record serves: the trust list, with the entries of its authorities by their keys, the ends of
+    algorithms by their names, and the moment up to which records are to serve."""
+
+    def __init__(self, trust: cmsproof.TrustList, ends: dict[str, str], moment: str) -> None:
+        self.trust, self.ends, self.moment = trust, ends, moment
+        self.entries: dict[bytes, list[Entry]] = {}
+        for one in trust_entries(trust.text):
+            if one.role == "tsa":
+                said = cmsproof.show("certificate", one.octets)
+                period = Period(said["from"], said["until"]).cut(Period(one.first, one.last))
+                entry = Entry(one.octets, period, said["stamping"] == "yes")
+                self.entries.setdefault(bytes.fromhex(said["key"]), []).append(entry)
+
+    def under(self, last: Last, asked: tuple[Question, ...]) -> list[Entry]:
+        """The entries under which the last time-stamp passes, of which these questions are asked. Raises Unjudged where there is none."""
+        found = [entry for key in dict.fromkeys(one.key for one in asked) for entry in self.entries[key]]
+        faults = [NOT_NAMED if not any(name in asked[0].tail for name in NAMING) else entry.fault(last) for entry in found]
+        if "" not in faults:
+            # (of several the one counts that comes furthest, as in a check)
+            raise last.failing("W4 " + max(faults, key=lambda one: int(one[1:].split(" ")[0]), default="K10 UnknownTsa"))
+        return [entry for entry, fault in zip(found, faults) if not fault]
+
+    def holds(self, last: Last, algorithm: str) -> str:
+        """The last moment at which a digest algorithm holds, "" without an end. Raises Unjudged where it holds at none."""
+        name = NAMES.get(algorithm, "")
+        if not name:
+            raise last.failing(f"W1 Algorithm {algorithm}")
+        if name == "sha1" and name not in self.ends:
+            raise last.failing("W6 Weak without an end of sha1")
+        return self.ends.get(name, "")
+
+
+def opened(octets: Buffer, by: By) -> Last:
+    """The last time-stamp of a record. Raises Unjudged where octets are none, or its token cannot be read."""
+    code = cmsproof.evidence.questions(octets, trust=by.trust).code
+    if code is not None:
+        line = cmsproof.show("evidence", octets).get("line", "") if code == "V1" else "refused V2 Encrypted"
+        raise Unjudged(MALFORMED if code == "V1" else REFUSED, line)
+    try:
+        last = last_of(octets)
+    except (ValueError, IndexError) as error:
+        raise Unjudged(REFUSED, "its last time-stamp is no token that can be read") from error
+    # (a token that passes is over some octets, and these are no token's)
+    said = cmsproof.check_token(last.token, b"", trust=by.trust, verifier=lambda question: False, sha1=True)
+    if said.code in BEFORE_IMPRINT:
+        raise last.failing("W4 " + said.line.removeprefix("refused "))
+    return last
+
+
+def end_of(octets: Buffer, by: By) -> str:
+    """The last moment at which the last time-stamp of a record serves. Raises Unjudged where nobody can say it, or where it is made later than
+    the moment up to which it is to serve, which a check does not accept."""
+    last = opened(octets, by)
+    asked = cmsproof.evidence.questions(last.alone, trust=by.trust).asked
+    found = by.under(last, asked)
+    if not in_order(last.time, by.moment):
+        raise last.failing(f"W5 Order by {by.moment}")
+    ends = [by.holds(last, one) for one in dict.fromkeys((*last.algorithms, digest_of(asked[0].digest)))]
+    lasts = found[0].period.last
+    for entry in found:
+        lasts = entry.period.last if in_order(lasts, entry.period.last) else lasts
+    return earliest([lasts, *ends])

@@ -11,13 +11,15 @@ from functools import cached_property
 from typing import Iterator, NamedTuple, TypeVar
 
 import cmsproof
-from cmsproof.octets import Buffer
+from cmsproof import tokens
+from cmsproof.calls import give_back, room
+from cmsproof.octets import Buffer, octets_of, of_bytes
 from cmsproof_tools import der
 from cmsproof_tools.periods import Period
 from cmsproof_tools.rows import digest_of
-from cmsproof_tools.running import MALFORMED, REFUSED, module
+from cmsproof_tools.running import MALFORMED, REFUSED, kept_if_short, module
 from cmsproof_tools.signed_parts import CONTEXT_0, Span, header, parts_of, some, spans, time_in, tst_fields
-from cmsproof_tools.texts import Question, in_order, trust_entries
+from cmsproof_tools.texts import Question, answers_of, in_order, read_questions, trust_entries
 from cmsproof_tools.timelines import NAMES, earliest
 
 # how many fields a record and an archive time-stamp have at most (RFC 4998 3.1, 4.1)
@@ -30,6 +32,7 @@ OF_SIGNER = {"S7": "K10 UnknownTsa", "S8": "K11 NotNamed", "S9": "K14 SignatureF
 NOT_NAMED, PURPOSE, PERIOD = "K11 NotNamed", "K12 Purpose", "K13 Period"
 # the rules of a token that come before its imprint
 BEFORE_IMPRINT = tuple(f"K{number}" for number in range(1, 9))
+NO_ANSWERS = answers_of([])
 Item = TypeVar("Item")
 
 
@@ -66,12 +69,18 @@ def sequence(*parts: bytes) -> bytes:
     return header(der.SEQUENCE, len(contents)) + contents
 
 
+@kept_if_short(64)
+def named_in(contents: bytes) -> str:
+    """The identifier in the contents of an AlgorithmIdentifier. Raises ValueError or IndexError where there is none."""
+    return der.oid_text(der.elements(contents, 1)[0].contents)
+
+
 def algorithms_of(octets: Buffer, fields: list[Span], imprint: bytes) -> tuple[str, ...]:
     """The identifiers of the algorithms of an archive time-stamp with these fields: that of its lists, which is that of the imprint where it
     is absent (RFC 4998 4.1), and that of the imprint. Raises ValueError where one cannot be read."""
     identifier, _, begin, end = fields[0]
     named = bytes(octets[begin:end]) if identifier == CONTEXT_0 else imprint
-    return tuple(dict.fromkeys(der.oid_text(der.elements(one, 1)[0].contents) for one in (named, imprint)))
+    return tuple(dict.fromkeys(map(named_in, (named, imprint))))
 
 
 def last_of(octets: Buffer) -> Last:
@@ -151,28 +160,42 @@ class By:
         return self.ends.get(name, "")
 
 
-def opened(octets: Buffer, by: By) -> Last:
-    """The last time-stamp of a record. Raises Unjudged where octets are none, or its token cannot be read."""
-    code = cmsproof.evidence.questions(octets, trust=by.trust).code
-    if code is not None:
-        line = cmsproof.show("evidence", octets).get("line", "") if code == "V1" else "refused V2 Encrypted"
-        raise Unjudged(MALFORMED if code == "V1" else REFUSED, line)
+def asked_of(octets: Buffer, trust: cmsproof.TrustList) -> bytes:
+    """What a verifier is asked of a record, as a text. Raises Unjudged where octets are none that can be judged."""
+    own = room()
+    try:
+        with octets_of(octets) as given:
+            text = own.asked(trust, given, "cmsproof_evidence_questions")
+    finally:
+        give_back(own)
+    if text:
+        return text
+    code = cmsproof.evidence.questions(octets, trust=trust).code
+    line = cmsproof.show("evidence", octets).get("line", "") if code == "V1" else "refused V2 Encrypted"
+    raise Unjudged(MALFORMED if code == "V1" else REFUSED, line)
+
+
+def opened(octets: Buffer, by: By) -> tuple[Last, tuple[Question, ...]]:
+    """The last time-stamp of a record, and what a verifier is asked of it. Raises Unjudged where octets are none, or where its token fails a
+    rule that comes before its imprint."""
+    text = asked_of(octets, by.trust)
     try:
         last = last_of(octets)
     except (ValueError, IndexError) as error:
         raise Unjudged(REFUSED, "its last time-stamp is no token that can be read") from error
-    # (a token that passes is over some octets, and these are no token's)
-    said = cmsproof.check_token(last.token, b"", trust=by.trust, verifier=lambda question: False, sha1=True)
-    if said.code in BEFORE_IMPRINT:
-        raise last.failing("W4 " + said.line.removeprefix("refused "))
-    return last
+    # (whatever is stamped, these octets are read as it behind those rules alone)
+    said = tokens.said_of(of_bytes(last.token), of_bytes(b""), by.trust, NO_ANSWERS, True)
+    line = tokens.line_of(said)
+    if line.split(" ")[1] in BEFORE_IMPRINT:
+        raise last.failing("W4 " + line.removeprefix("refused "))
+    asked = read_questions(text if last.alone == octets else asked_of(last.alone, by.trust))
+    return last, tuple(asked)
 
 
 def end_of(octets: Buffer, by: By) -> str:
     """The last moment at which the last time-stamp of a record serves. Raises Unjudged where nobody can say it, or where it is made later than
     the moment up to which it is to serve, which a check does not accept."""
-    last = opened(octets, by)
-    asked = cmsproof.evidence.questions(last.alone, trust=by.trust).asked
+    last, asked = opened(octets, by)
     found = by.under(last, asked)
     if not in_order(last.time, by.moment):
         raise last.failing(f"W5 Order by {by.moment}")

@@ -11,7 +11,9 @@ use der_time::read_generalized;
 ///
 /// Errors: `Usage`, which names `at`, if the text is none.
 pub fn moment_of<'a>(text: &str) -> Result<Moment, Failure<'a>>
+    // The text states this moment.
     ensures found { IfOk result (IsTimeIn text.now) }
+    // It states none, and `at` is named.
     ensures refused { IfErr result (λ f. Names (codes "at") f × StatesNoTime text.now) }
 {
     match read_generalized(text.as_bytes(), 0) {
@@ -24,7 +26,9 @@ pub fn moment_of<'a>(text: &str) -> Result<Moment, Failure<'a>>
 ///
 /// Errors: `Usage`, which names `end`, if the word states none.
 pub fn end_of<'a>(word: &str) -> Result<End, Failure<'a>>
+    // The word states this end.
     ensures found { IfOk result (IsEndIn word.now) }
+    // It states none, and `end` is named.
     ensures refused { IfErr result (λ f. Names (codes "end") f × StatesNoEnd word.now) }
 {
     let Some((name, time)) = word.split_once('=') else {

@@ -47,6 +47,6 @@ module _ (list : List EntryValue) (asked others : List Asked) (i : EvidenceCheck
   pub checked_alike : (said : Answer) (status : ℕ) (before : List ℕ) (size : ℕ) (after : List ℕ)
       → IsEvidenceChecked list asked i said status before size after
       → IsEvidenceChecked list others i said status before size after
-  checked_alike said status before size after (inl (ends, at, stated, answer, judged, told)) =
-      inl (ends, at, stated, answer, judged_alike ends at answer judged, told)
+  checked_alike said status before size after (inl (ends, at, stated, (answer, judged, told))) =
+      inl (ends, at, stated, (answer, judged_alike ends at answer judged, told))
   checked_alike said status before size after (inr h) = inr h

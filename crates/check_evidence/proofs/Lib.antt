@@ -1,11 +1,12 @@
 mod Orders
 mod Ascending
-mod Joining
+pub mod Joining
 mod Sorted
 mod Tests
+mod Going
 mod Climbing
 mod OneDigest
 mod Roots
 mod Rows
-mod States
+pub mod States
 mod Judged

@@ -1,38 +1,32 @@
--- Without lists the root is the one digest that is covered.
-use Rattle.std.proofs.Common.{◌≡◌, ℕ, List, Option, Some, None, map, is_some, sym, ap, subst, ◌∙◌}
-use Rattle.std.specs.Prelude.{All, IfSome, IfNone, IsSome}
-use Rattle.digests.specs.Digests.{alg_of, octets_of}
+-- Without lists the root is the one value that is covered.
+use Rattle.std.proofs.Common.{◌≡◌, ℕ, List, Option, Some, None, MatchOption, sym, subst, refl}
+use Rattle.std.specs.Prelude.{IfSome, IfNone, IsSome}
+use Rattle.digests.specs.Digests.{octets_of}
 use Rattle.digests.specs.declared.algorithm.Alg.{Alg}
 use Rattle.digests.specs.declared.value.Digest.{Digest}
-use Rattle.check_evidence.specs.ListTests.{only_of}
-use Rattle.check_evidence.specs.Roots.{IsRoot, IsCovered}
-use Rattle.check_evidence.proofs.Tests.{only_says, only_is_first, one_says}
+use Rattle.check_evidence.specs.Roots.{AreOne, IsRoot, IsCovered}
 
 abbrev Lists : Type 0
 Lists = Option (List (List (List ℕ)))
 
-pub one_by : (alg : Alg) (digests : List Digest) (o : Option Digest) → o ≡ only_of digests
-    → All (λ d. alg_of d ≡ alg) digests → IfSome o (λ d. alg_of d ≡ alg)
-one_by alg digests None e by = tt
-one_by alg digests (Some d) e by = only_is_first (λ c. alg_of c ≡ alg) digests d (sym e) by
+abbrev IsOnly : List (List ℕ) → Option Digest → Type 0
+IsOnly due o = MatchOption o ((v : List ℕ) → AreOne due v → ⊥) (λ d. AreOne due (octets_of d))
 
-pub one_is_root : (alg : Alg) (lists : Lists) (digests : List Digest) (o : Option Digest) → lists ≡ None
-    → o ≡ only_of digests → IfSome o (λ d. IsRoot alg lists (map octets_of digests) (octets_of d))
-one_is_root alg lists digests None none e = tt
-one_is_root alg lists digests (Some d) none e =
-    subst (λ (ls : Lists). IsRoot alg ls (map octets_of digests) (octets_of d)) (sym none)
-    (only_says digests d (sym e))
+pub one_is_root : (alg : Alg) (lists : Lists) (due : List (List ℕ)) (o : Option Digest) → lists ≡ None
+    → IsOnly due o → IfSome o (λ d. IsRoot alg lists due (octets_of d))
+one_is_root alg lists due None none one = tt
+one_is_root alg lists due (Some d) none one =
+    subst (λ (ls : Lists). IsRoot alg ls due (octets_of d)) (sym none) one
 
-pub none_is_root : (alg : Alg) (lists : Lists) (digests : List Digest) (o : Option Digest) → lists ≡ None
-    → o ≡ only_of digests → IfNone o ((root : List ℕ) → IsRoot alg lists (map octets_of digests) root → ⊥)
-none_is_root alg lists digests (Some d) none e = tt
-none_is_root alg lists digests None none e = λ root h.
-    let some = ap is_some e ∙ one_says digests root
-    (subst (λ (ls : Lists). IsRoot alg ls (map octets_of digests) root) none h) in
-    cc
+pub none_is_root : (alg : Alg) (lists : Lists) (due : List (List ℕ)) (o : Option Digest) → lists ≡ None
+    → IsOnly due o → IfNone o ((root : List ℕ) → IsRoot alg lists due root → ⊥)
+none_is_root alg lists due (Some d) none one = tt
+none_is_root alg lists due None none one =
+    λ root h. one root (subst (λ (ls : Lists). IsRoot alg ls due root) none h)
 
-pub one_if_covered : (lists : Lists) (digests : List Digest) (o : Option Digest) → lists ≡ None → o ≡ only_of digests
-    → IsCovered lists (map octets_of digests) → IsSome o
-one_if_covered lists digests o none e h =
-    let one = subst (λ (ls : Lists). IsCovered ls (map octets_of digests)) none h in
-    ap is_some e ∙ one_says digests one.0 one.1
+pub one_if_covered : (lists : Lists) (due : List (List ℕ)) (o : Option Digest) → lists ≡ None → IsOnly due o
+    → IsCovered lists due → IsSome o
+one_if_covered lists due (Some d) none one h = refl
+one_if_covered lists due None none one h =
+    let v = subst (λ (ls : Lists). IsCovered ls due) none h in
+    absurd (one v.0 v.1)

@@ -11,7 +11,7 @@ use Rattle.sha2.specs.Sha256 as sha256
 use Rattle.digests.specs.Messages.{digest_of}
 use Rattle.evidence_types.specs.EvidenceRows.{of_document, of_neighbour, of_others}
 use Rattle.check_evidence.specs.Roots.{IsAscending, InOrder, AreOne}
-use Rattle.check_evidence.specs.Rows.{RootRows, CoveredRows, CoveringRows, imprinted, aa, bb}
+use Rattle.check_evidence.specs.Rows.{RootRows, OrderRows, CoveredRows, CoveringRows, imprinted, aa, bb}
 
 abbrev Values : Type 0
 Values = List (List ℕ)
@@ -92,6 +92,17 @@ root_rows = record {
   no_lists_twice =
       record { some = (0, lit< tt, refl); only = All-from_recursion is_aa (aa ∷ aa ∷ []) (refl, (refl, tt)) };
   no_lists_two = no_two;
+}
+
+pub order_rows : OrderRows
+order_rows = record {
+  of_figure = (refl, tt);
+  of_turned = λ h. true≢false h.0;
+  one_value = tt;
+  standing_twice = (refl, (refl, tt));
+  without_sign = (refl, tt);
+  beginning = (refl, tt);
+  beginning_last = λ h. true≢false h.0;
 }
 
 -- ---- what is covered

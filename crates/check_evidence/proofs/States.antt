@@ -22,7 +22,7 @@ use Rattle.check_evidence.specs.StampStates.{States, HasTime, ImprintedBy, Named
 pub some_is : {A : Type 0} (a b : A) (o : Option A) → o ≡ Some a → o ≡ Some b → a ≡ b
 some_is {A} a b o e h = ap (λ (x : Option A). unwrap_or x a) (sym e ∙ h)
 
-one_stated : (token : List ℕ) (x y : TstValue) → States token x → States token y → x ≡ y
+pub one_stated : (token : List ℕ) (x y : TstValue) → States token x → States token y → x ≡ y
 one_stated token x y h k =
     let v : h.signed ≡ k.signed = one_value token h.signed k.signed h.encodes k.encodes in
     let content : h.content ≡ k.content = some_is h.content k.content k.signed.encapsulated.content
@@ -67,6 +67,15 @@ imprint_alg policy alg root imprint i = go (is_alg i.alg alg) refl i.digest
     go true e d = alg_says i.alg alg e
     go false e d = absurd d
 
+-- and it is that root
+pub imprint_root : (policy : Policy) (alg : Alg) (root : List ℕ) (imprint : ImprintValue)
+    → IsImprint policy imprint (of_root alg root) → imprint.digest ≡ root
+imprint_root policy alg root imprint i = go (is_alg i.alg alg) i.digest
+  where
+    go : (b : Bool) → IsDue (if b then Some root else None) imprint.digest → imprint.digest ≡ root
+    go true d = d
+    go false d = absurd d
+
 module _ (t : Terms) (token : List ℕ) (due due' : Due) (m m' : ℕ) (p : PassesFor t token due m)
     (q : PassesFor t token due' m') where
   same_data : p.signed ≡ q.signed
@@ -85,3 +94,29 @@ module _ (t : Terms) (token : List ℕ) (due due' : Due) (m m' : ℕ) (p : Passe
   pub same_alg : p.fits.alg ≡ q.fits.alg
   same_alg = contents_distinct p.fits.alg q.fits.alg (sym p.fits.named.contents
       ∙ ap (λ (s : SignerValue). s.digest_algorithm.oid) same_signer ∙ q.fits.named.contents)
+
+-- what a token states that passes
+pub passing_states : (t : Terms) (token : List ℕ) (due : Due) (m : ℕ) (p : PassesFor t token due m)
+    → States token p.stamp
+passing_states t token due m p = record {
+  signed = p.signed;
+  encodes = p.encodes;
+  econtent_type = p.econtent_type;
+  content = p.content;
+  present = p.present;
+  encodes_stamp = p.encodes_stamp;
+}
+
+-- it passes on one root
+pub one_imprinted : (t : Terms) (token : List ℕ) (a b : Alg) (x y : List ℕ) (m n : ℕ)
+    → PassesFor t token (of_root a x) m → PassesFor t token (of_root b y) n → x ≡ y
+one_imprinted t token a b x y m n p q =
+    sym (imprint_root t.policy a x p.stamp.imprint p.imprint)
+    ∙ ap (λ (s : TstValue). s.imprint.digest)
+    (one_stated token p.stamp q.stamp (passing_states t token (of_root a x) m p)
+    (passing_states t token (of_root b y) n q))
+    ∙ imprint_root t.policy b y q.stamp.imprint q.imprint
+
+-- a token passes with the moment that it states
+pub passing_time : (t : Terms) (s : StampValue) (due : Due) (m : ℕ) → PassesFor t s.stamp due m → HasTime s m
+passing_time t s due m p = (p.stamp, passing_states t s.stamp due m p, p.moment)

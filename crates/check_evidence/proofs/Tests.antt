@@ -1,7 +1,7 @@
 -- The tests of lists say what the definitions say.
-use Rattle.std.proofs.Common.{◌≡◌, ℕ, ◌<◌, Bool, Some, None, Option, true, false, List, [], ◌∷◌, length, map, get_or}
-use Rattle.std.proofs.Common.{refl, sym, ap}
-use Rattle.std.proofs.Common.{subst, arith, ◌∙◌, is_some, if◌then◌else◌}
+use Rattle.std.proofs.Common.{◌≡◌, ℕ, ◌<◌, Bool, Some, None, Option, true, false, List, [], ◌∷◌, length, get_or}
+use Rattle.std.proofs.Common.{refl, sym}
+use Rattle.std.proofs.Common.{subst, arith, ◌∙◌, is_some, MatchOption}
 use Rattle.std.specs.Prelude.{◌↔◌, ◌≢◌, IsTrue, IfSome, All, Contains, ◌==◌}
 use Rattle.std.specs.List.{list_all}
 use Rattle.std.proofs.lemmas.Bool.{and_parts, and_from, eqb-true, eq-eqb}
@@ -11,7 +11,7 @@ use Rattle.der_core.specs.Lists.{is_same}
 use Rattle.der_core.proofs.Encoded.{same}
 use Rattle.der_core.proofs.SameOctets.{same_again}
 use Rattle.check_evidence.specs.FirstValues.{HasFirst}
-use Rattle.check_evidence.specs.ListTests.{is_among, are_long, only_of}
+use Rattle.check_evidence.specs.ListTests.{is_among, are_long}
 use Rattle.digests.specs.Algorithms.{length_of}
 use Rattle.digests.specs.Digests.{octets_of}
 use Rattle.digests.specs.declared.value.Digest.{Digest}
@@ -50,54 +50,31 @@ same_says v w = (
   λ e. subst (λ (x : List ℕ). is_same v x ≡ true) (sym e) (same_again v),
 )
 
-pub only_says : (digests : List Digest) (d : Digest) → only_of digests ≡ Some d
-    → AreOne (map octets_of digests) (octets_of d)
-only_says [] d e = absurd cc
-only_says (c ∷ digests) d e = go (list_all (is_same (octets_of c)) (map octets_of digests)) refl e
-  where
-    go : (b : Bool) → list_all (is_same (octets_of c)) (map octets_of digests) ≡ b
-        → (if b then Some c else None) ≡ Some d → AreOne (octets_of c ∷ map octets_of digests) (octets_of d)
-    go false h e = absurd cc
-    go true h e =
-        let is : octets_of c ≡ octets_of d = ap octets_of (let x : c ≡ d = cc in x) in record {
-          some = (0, omega arith, is);
-          only = All-cons (λ v. v ≡ octets_of d) (octets_of c) (map octets_of digests) is
-              (subst (λ (v : List ℕ). All (λ w. w ≡ v) (map octets_of digests)) is
-              ((all_say (is_same (octets_of c)) (λ v. v ≡ octets_of c) (same_says (octets_of c))
-              (map octets_of digests)).0 h));
-        }
+-- values are one, the first, if each other has its octets
+pub one_says : (v : List ℕ) (rest due : List (List ℕ)) → due ≡ v ∷ rest → list_all (is_same v) rest ≡ true
+    → AreOne due v
+one_says v rest due e all = subst (λ (l : List (List ℕ)). AreOne l v) (sym e) (record {
+  some = (0, omega arith, refl);
+  only = All-cons (λ w. w ≡ v) v rest refl ((all_say (is_same v) (λ w. w ≡ v) (same_says v) rest).0 all);
+})
 
--- and it is one of them
-pub only_is_first : (P : Digest → Type 0) (digests : List Digest) (d : Digest) → only_of digests ≡ Some d
-    → All P digests → P d
-only_is_first P [] d e h = absurd cc
-only_is_first P (c ∷ digests) d e h = go (list_all (is_same (octets_of c)) (map octets_of digests)) e
-  where
-    go : (b : Bool) → (if b then Some c else None) ≡ Some d → P d
-    go false e = absurd cc
-    go true e = subst P (let x : c ≡ d = cc in x) (All-head P c digests h)
+-- and only then
+pub one_only : (v : List ℕ) (rest due : List (List ℕ)) → due ≡ v ∷ rest → list_all (is_same v) rest ≡ false
+    → (w : List ℕ) → AreOne due w → ⊥
+one_only v rest due e some w one =
+    let P : List ℕ → Type 0 = λ x. x ≡ w in
+    let all : All P (v ∷ rest) = subst (λ (l : List (List ℕ)). All P l) e one.only in
+    let is : v ≡ w = All-head P v rest all in
+    let same : list_all (is_same v) rest ≡ true = (all_say (is_same v) (λ x. x ≡ v) (same_says v) rest).1
+    (subst (λ (y : List ℕ). All (λ x. x ≡ y) rest) (sym is) (All-tail P v rest all)) in
+    let differ : true ≡ false = sym same ∙ some in
+    cc
 
--- where they are one there is such a digest
-pub one_says : (digests : List Digest) (v : List ℕ) → AreOne (map octets_of digests) v
-    → is_some (only_of digests) ≡ true
-one_says [] v h = absurd (let l : h.some.0 < 0 = h.some.1 in omega arith)
-one_says (c ∷ digests) v h =
-    let P : List ℕ → Type 0 = λ w. w ≡ v in
-    let is : octets_of c ≡ v = All-head P (octets_of c) (map octets_of digests) h.only in
-    let all : list_all (is_same (octets_of c)) (map octets_of digests) ≡ true =
-    (all_say (is_same (octets_of c)) (λ w. w ≡ octets_of c) (same_says (octets_of c)) (map octets_of digests)).1
-    (subst (λ (x : List ℕ). All (λ w. w ≡ x) (map octets_of digests)) (sym is)
-    (All-tail P (octets_of c) (map octets_of digests) h.only)) in
-    rw all refl
-
-none_said : (digests : List Digest) (o : Option Digest) → only_of digests ≡ o → IsTrue (is_some o)
-    → (v : List ℕ) × AreOne (map octets_of digests) v
-none_said digests None e some = absurd cc
-none_said digests (Some d) e some = (octets_of d, only_says digests d e)
-
-pub some_one : (digests : List Digest) → IsTrue (is_some (only_of digests))
-    ↔ ((v : List ℕ) × AreOne (map octets_of digests) v)
-some_one digests = (none_said digests (only_of digests) refl, λ h. one_says digests h.0 h.1)
+pub never_one : (due : List (List ℕ)) → due ≡ [] → (w : List ℕ) → AreOne due w → ⊥
+never_one due e w one =
+    let c = subst (λ (l : List (List ℕ)). Contains l w) e one.some in
+    let l : c.0 < 0 = c.1 in
+    omega arith
 
 -- ---- the lists of an archive time-stamp
 
@@ -121,11 +98,17 @@ covered_by lists first rest covered r e is =
     (told r (list_all (is_among first) covered) (All (Contains first) covered) is
     (all_say (is_among first) (Contains first) (among_says first) covered))
 
-pub one_covered : (lists : Option (List Values)) (digests : List Digest) (r : Bool) → lists ≡ None
-    → r ≡ is_some (only_of digests) → IsTrue r ↔ IsCovered lists (map octets_of digests)
-one_covered lists digests r e is =
-    subst (λ (ls : Option (List Values)). IsTrue r ↔ IsCovered ls (map octets_of digests)) (sym e)
-    (told r (is_some (only_of digests)) ((v : List ℕ) × AreOne (map octets_of digests) v) is (some_one digests))
+-- without lists the values are covered if they are one
+pub one_covered : (lists : Option (List Values)) (due : Values) (o : Option Digest) (r : Bool) → lists ≡ None
+    → MatchOption o ((v : List ℕ) → AreOne due v → ⊥) (λ d. AreOne due (octets_of d)) → r ≡ is_some o
+    → IsTrue r ↔ IsCovered lists due
+one_covered lists due o r e one is = subst (λ (ls : Option (List Values)). IsTrue r ↔ IsCovered ls due) (sym e)
+    (told r (is_some o) ((v : List ℕ) × AreOne due v) is (says o one))
+  where
+    says : (o : Option Digest) → MatchOption o ((v : List ℕ) → AreOne due v → ⊥) (λ d. AreOne due (octets_of d))
+        → IsTrue (is_some o) ↔ ((v : List ℕ) × AreOne due v)
+    says None never = (λ h. absurd cc, λ h. absurd (never h.0 h.1))
+    says (Some d) one = (λ h. (octets_of d, one), λ h. refl)
 
 pub no_others : (lists : Option (List Values)) (first : Values) (rest : List Values) (covered : Values) (r : Bool)
     → lists ≡ Some (first ∷ rest) → r ≡ list_all (is_among covered) first → IsTrue r ↔ HasNoOthers lists covered
@@ -134,11 +117,14 @@ no_others lists first rest covered r e is =
     (told r (list_all (is_among covered) first) (All (Contains covered) first) is
     (all_say (is_among covered) (Contains covered) (among_says covered) first))
 
--- what covers a digest has a first value
-pub first_covers : (lists : Option (List Values)) (first : Values) (rest : List Values) (digests : List Digest)
-    (r : Bool) → lists ≡ Some (first ∷ rest) → r ≡ list_all (is_among first) (map octets_of digests) → IsTrue r
-    → digests ≢ [] → IfSome lists HasFirst
-first_covers lists first rest [] r e is all some = absurd (some refl)
-first_covers lists [] rest (d ∷ digests) r e is all some = absurd (let h = sym is ∙ all in cc)
-first_covers lists (v ∷ first) rest (d ∷ digests) r e is all some =
-    subst (λ (ls : Option (List Values)). IfSome ls HasFirst) (sym e) tt
+-- what covers a value has a first value
+pub covers_first : (lists : Option (List Values)) (due : Values) → IsCovered lists due → due ≢ []
+    → IfSome lists HasFirst
+covers_first None due h some = tt
+covers_first (Some []) due h some = absurd h
+covers_first (Some (values ∷ lists)) [] h some = absurd (some refl)
+covers_first (Some ([] ∷ lists)) (v ∷ due) h some =
+    let c : Contains [] v = All-head (Contains []) v due h in
+    let l : c.0 < 0 = c.1 in
+    absurd (omega arith)
+covers_first (Some ((w ∷ values) ∷ lists)) (v ∷ due) h some = tt

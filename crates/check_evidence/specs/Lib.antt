@@ -6,6 +6,7 @@ pub mod FirstValues
 pub mod Places
 pub mod StampStates
 pub mod Covering
+pub mod CoveredValues
 pub mod Ends
 pub mod Standing
 pub mod Showing

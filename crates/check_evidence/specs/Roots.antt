@@ -17,14 +17,14 @@ pub record InOrder (values ordered : List (List ℕ)) : Type 0 where
   pub are : IsPermutation values ordered
   pub ascending : IsAscending ordered
 
--- the hash value of a group of values: of their octets in ascending order, one after the other (4.2, steps 2 and 4;
+-- the hash value of a group of values: of their octets in ascending order, one after the other (4.2, steps 3 and 4;
 -- 4.3, step 3)
 pub record IsGroupOf (alg : Alg) (values : List (List ℕ)) (node : List ℕ) : Type 0 where
   pub ordered : List (List ℕ)
   pub in_order : InOrder values ordered
   pub hashed : node ≡ digest_of alg (concat ordered)
 
--- the node of hash values: one by itself is its own node (4.2, step 5), several are a group
+-- the node of hash values: one by itself is its own node (4.2, step 4), several are a group
 abbrev pub IsNode : Alg → List (List ℕ) → List ℕ → Type 0
 IsNode alg [] node = ⊥
 IsNode alg (v ∷ []) node = node ≡ v
@@ -43,7 +43,7 @@ pub record AreOne (values : List (List ℕ)) (value : List ℕ) : Type 0 where
   pub only : All (λ v. v ≡ value) values
 
 -- The root of the lists of an archive time-stamp (reducedHashtree) that covers these values. Without lists the
--- time-stamp is on one value, and that is the root (4.3, step 2).
+-- time-stamp is on one value, and that is the root (4.2; 4.3, step 4).
 abbrev pub IsRoot : Alg → (lists : Option (List (List (List ℕ)))) → (covered : List (List ℕ)) → (root : List ℕ)
     → Type 0
 IsRoot alg None covered root = AreOne covered root
@@ -51,7 +51,7 @@ IsRoot alg (Some []) covered root = ⊥
 IsRoot alg (Some (values ∷ lists)) covered root = (first : List ℕ) × IsNode alg values first
     × IsRootAfter alg first lists root
 
--- the values are covered: each stands in the first list (4.3, step 1; of a group of data 4.3 again, 5.3); without lists
+-- the values are covered: each stands in the first list (4.3, step 2; of a group of data 4.3 again, 5.3); without lists
 -- they are one value
 abbrev pub IsCovered : (lists : Option (List (List (List ℕ)))) → (covered : List (List ℕ)) → Type 0
 IsCovered None covered = (value : List ℕ) × AreOne covered value

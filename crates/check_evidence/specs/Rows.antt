@@ -6,7 +6,7 @@ use Rattle.der_core.specs.Hex.{hex}
 use Rattle.digests.specs.declared.algorithm.Alg.TheVariants.{Sha256}
 use Rattle.evidence_types.specs.StampValue.{StampValue}
 use Rattle.evidence_types.specs.EvidenceRows.{bare, empty, of_document, of_neighbour, of_others}
-use Rattle.check_evidence.specs.Roots.{IsRoot, IsCovered, HasNoOthers}
+use Rattle.check_evidence.specs.Roots.{IsAscending, IsRoot, IsCovered, HasNoOthers}
 use Rattle.check_evidence.specs.Places.{Place}
 use Rattle.check_evidence.specs.Covering.{covered_at}
 
@@ -45,6 +45,18 @@ pub record RootRows : Type 0 where
   pub no_lists : IsRoot Sha256 None (aa ∷ []) aa
   pub no_lists_twice : IsRoot Sha256 None (aa ∷ aa ∷ []) aa
   pub no_lists_two : (root : List ℕ) → IsRoot Sha256 None (aa ∷ bb ∷ []) root → ⊥
+
+pub record OrderRows : Type 0 where
+  -- the first list of the figure stands in ascending order, and turned round it doesn't
+  pub of_figure : IsAscending (of_document ∷ of_neighbour ∷ [])
+  pub of_turned : IsAscending (of_neighbour ∷ of_document ∷ []) → ⊥
+  -- one value does, and one that stands twice
+  pub one_value : IsAscending (aa ∷ [])
+  pub standing_twice : IsAscending (aa ∷ aa ∷ bb ∷ [])
+  -- octets have no sign, and a value is before one that begins with it
+  pub without_sign : IsAscending (hex "7f" ∷ hex "80" ∷ [])
+  pub beginning : IsAscending (aa ∷ hex "aa00" ∷ [])
+  pub beginning_last : IsAscending (hex "aa00" ∷ aa ∷ []) → ⊥
 
 pub record CoveredRows : Type 0 where
   -- of the figure: the document, its neighbour, both; not the third document

@@ -2,7 +2,7 @@
 
 ghost use Rattle.check_evidence.specs.Laws.{RootsAreUnique, GroupsCoverMembers, MembersHaveTheRoot};
 ghost use Rattle.check_evidence.specs.Laws.{RecordsShowOneMoment, RecordsNeverBoth};
-ghost use Rattle.check_evidence.specs.Rows.{RootRows, CoveredRows, CoveringRows};
+ghost use Rattle.check_evidence.specs.Rows.{RootRows, OrderRows, CoveredRows, CoveringRows};
 
 /// Lists of hash values have at most one root, and what covers a group of data covers each of them.
 pub fn roots_are_unique()
@@ -26,6 +26,8 @@ pub fn records_are_judged()
 pub fn evidence_rules_hold()
     // The roots of lists.
     ensures roots { RootRows }
+    // Which values stand in ascending order.
+    ensures order { OrderRows }
     // What lists cover.
     ensures covered { CoveredRows }
     // What archive time-stamps must cover.

@@ -1,12 +1,14 @@
 ghost use Rattle.std.specs.Prelude.{◌≡◌, ◌≢◌, ◌∷◌, [], ℕ, List, Some, All, IfOk, IfSome, IfNone, IsOk, IsSome, IsTrue};
-ghost use Rattle.std.specs.Prelude.{◌↔◌, length, map, unwrap_or};
+ghost use Rattle.std.specs.Prelude.{◌↔◌, length, unwrap_or};
 ghost use Rattle.std.specs.Option.{option_copied};
 ghost use Rattle.digests.specs.Algorithms.{length_of};
 ghost use Rattle.digests.specs.Digests.{alg_of, octets_of};
+ghost use Rattle.check_evidence.specs.CoveredValues.{AreValues, AreGiven};
 ghost use Rattle.check_evidence.specs.Roots.{IsAscending, IsGroupOf, IsNode, IsRoot, IsCovered};
 ghost use Rattle.check_evidence.specs.Standing.{HasLengths};
 ghost use Rattle.check_evidence.specs.FirstValues.{HasFirst};
 
+use crate::covered::Covered;
 use crate::hashing::{group_of, group_with, is_ascending};
 use crate::list_tests::only;
 use crate::sorting::{sorted_group, sorted_group_with};
@@ -122,35 +124,36 @@ pub fn has_first(lists: &HashLists) -> bool
     }
 }
 
-/// The root of an archive time-stamp with these lists that covers these digests (RFC 4998 4.3, steps 2 and 3), which
-/// must be by the algorithm. With lists it is that of `root_of_lists`, whichever they are. Without lists it is the one
-/// digest that is covered, which may occur more than once, and there is none if they aren't one.
+/// The root of an archive time-stamp with these lists that covers these values (RFC 4998 4.3, steps 3 and 4). With
+/// lists it is that of `root_of_lists`, whichever they are. Without lists it is the one value that must be covered,
+/// which may occur more than once, and there is none if they aren't one.
 ///
 /// Errors: `AllocError` if memory is refused.
 pub fn root_of(
     alloc: Global,
     alg: Alg,
     lists: Option<&HashLists>,
-    covered: &[Digest],
+    covered: &Covered,
 ) -> Result<Option<Digest>, AllocError>
     requires lengths { HasLengths (option_copied lists) alg }
-    requires digests { All (λ d. alg_of d ≡ alg) covered.now }
+    // The values can be computed by this algorithm.
+    requires given { AreGiven alg covered.now }
     // It is by this algorithm.
     ensures algorithm { IfOk result (λ o. IfSome o (λ d. alg_of d ≡ alg)) }
     // It is the root of the lists.
-    ensures root { IfOk result (λ o. IfSome o (λ d. IsRoot alg (option_copied lists.entry)
-        (map octets_of covered.now) (octets_of d))) }
+    ensures root { (due : List (List ℕ)) → AreValues alg covered.now due
+        → IfOk result (λ o. IfSome o (λ d. IsRoot alg (option_copied lists.entry) due (octets_of d))) }
     // If there is none, nothing is the root.
-    ensures none { IfOk result (λ o. IfNone o ((root : List ℕ)
-        → IsRoot alg (option_copied lists.entry) (map octets_of covered.now) root → ⊥)) }
-    // There is one if digests are covered.
-    ensures some { IsCovered (option_copied lists.entry) (map octets_of covered.now) → covered.now ≢ []
-        → IfOk result (λ o. IsSome o) }
+    ensures none { (due : List (List ℕ)) → AreValues alg covered.now due
+        → IfOk result (λ o. IfNone o ((root : List ℕ) → IsRoot alg (option_copied lists.entry) due root → ⊥)) }
+    // There is one if values are covered.
+    ensures some { (due : List (List ℕ)) → AreValues alg covered.now due → IsCovered (option_copied lists.entry) due
+        → due ≢ [] → IfOk result (λ o. IsSome o) }
     // No memory is asked for if each list stands in ascending order.
     ensures memory { All IsAscending (unwrap_or (option_copied lists.entry) []) → IsOk result }
 {
     let Some(lists) = lists else {
-        return Ok(only(covered));
+        return Ok(only(alg, covered));
     };
     if !has_first(lists) {
         return Ok(None);

@@ -1,13 +1,15 @@
-ghost use Rattle.std.specs.Prelude.{◌≡◌, ◌≢◌, ◌↔◌, [], map, IsTrue, IfSome};
+ghost use Rattle.std.specs.Prelude.{◌≡◌, ◌≢◌, ◌↔◌, ℕ, List, [], IsTrue, IfSome, MatchOption};
 ghost use Rattle.std.specs.List.{list_all};
 ghost use Rattle.std.specs.Option.{option_copied};
 ghost use Rattle.der_core.specs.Lists.{is_same};
-ghost use Rattle.digests.specs.Digests.{octets_of};
+ghost use Rattle.digests.specs.Digests.{alg_of, octets_of};
+ghost use Rattle.check_evidence.specs.CoveredValues.{AreValues, AreGiven};
 ghost use Rattle.check_evidence.specs.FirstValues.{HasFirst};
-ghost use Rattle.check_evidence.specs.ListTests.{is_among, are_long, only_of};
-ghost use Rattle.check_evidence.specs.Roots.{IsCovered, HasNoOthers};
+ghost use Rattle.check_evidence.specs.ListTests.{is_among, are_long};
+ghost use Rattle.check_evidence.specs.Roots.{AreOne, IsCovered, HasNoOthers};
 ghost use Rattle.check_evidence.specs.Standing.{HasLengths};
 
+use crate::covered::Covered;
 use der_core::octets::is_same;
 use digests::{Alg, Digest};
 use evidence_types::{HashList, HashLists};
@@ -26,37 +28,14 @@ fn is_among(values: &HashList, value: &[u8]) -> bool
     false
 }
 
-// Whether each digest is one of these values.
-fn are_among(digests: &[Digest], values: &HashList) -> bool
-    ensures { result ≡ list_all (is_among values.now) (map octets_of digests.now) }
+// Whether each value that must be covered is one of these.
+fn are_among(alg: Alg, covered: &Covered, values: &HashList) -> bool
+    requires { AreGiven alg covered.now }
+    ensures { (due : List (List ℕ)) → AreValues alg covered.now due → result ≡ list_all (is_among values.now) due }
 {
-    for digest in digests {
-        if !is_among(values, digest.bytes()) {
-            return false;
-        }
-    }
-    true
-}
-
-// Whether the value is that of one of these digests.
-fn is_of(value: &[u8], digests: &[Digest]) -> bool
-    ensures { result ≡ is_among (map octets_of digests.now) value.now }
-{
-    for digest in digests {
-        if is_same(value, digest.bytes()) {
-            return true;
-        }
-    }
-    false
-}
-
-// Whether each value is that of one of these digests.
-fn are_of(values: &HashList, digests: &[Digest]) -> bool
-    ensures { result ≡ list_all (is_among (map octets_of digests.now)) values.now }
-{
-    let mut left = values.again();
-    while let Some((value, others)) = left.next() {
-        if !is_of(value.bytes(), digests) {
+    let mut left = *covered;
+    while let Some((value, others)) = left.next(alg) {
+        if !is_among(values, value.bytes()) {
             return false;
         }
         left = others;
@@ -64,27 +43,61 @@ fn are_of(values: &HashList, digests: &[Digest]) -> bool
     true
 }
 
-// Whether each digest has these octets.
-fn are_same(octets: &[u8], digests: &[Digest]) -> bool
-    ensures { result ≡ list_all (is_same octets.now) (map octets_of digests.now) }
+// Whether the value is one that must be covered.
+fn is_of(value: &[u8], alg: Alg, covered: &Covered) -> bool
+    requires { AreGiven alg covered.now }
+    ensures { (due : List (List ℕ)) → AreValues alg covered.now due → result ≡ is_among due value.now }
 {
-    for digest in digests {
-        if !is_same(octets, digest.bytes()) {
+    let mut left = *covered;
+    while let Some((other, others)) = left.next(alg) {
+        if is_same(value, other.bytes()) {
+            return true;
+        }
+        left = others;
+    }
+    false
+}
+
+// Whether each value is one that must be covered.
+fn are_of(values: &HashList, alg: Alg, covered: &Covered) -> bool
+    requires { AreGiven alg covered.now }
+    ensures { (due : List (List ℕ)) → AreValues alg covered.now due → result ≡ list_all (is_among due) values.now }
+{
+    let mut left = values.again();
+    while let Some((value, others)) = left.next() {
+        if !is_of(value.bytes(), alg, covered) {
             return false;
         }
+        left = others;
     }
     true
 }
 
-// The digest that all of these are, if they are one, which may occur more than once.
-pub(crate) fn only(digests: &[Digest]) -> Option<Digest>
-    ensures { result ≡ only_of digests.now }
+// Whether each value that must be covered has these octets.
+fn are_same(octets: &[u8], alg: Alg, covered: &Covered) -> bool
+    requires { AreGiven alg covered.now }
+    ensures { (due : List (List ℕ)) → AreValues alg covered.now due → result ≡ list_all (is_same octets.now) due }
 {
-    let [first, others @ ..] = digests else {
-        return None;
-    };
-    if are_same(first.bytes(), others) {
-        Some(*first)
+    let mut left = *covered;
+    while let Some((value, others)) = left.next(alg) {
+        if !is_same(octets, value.bytes()) {
+            return false;
+        }
+        left = others;
+    }
+    true
+}
+
+// The value that must be covered, if they are one, which may occur more than once.
+pub(crate) fn only(alg: Alg, covered: &Covered) -> Option<Digest>
+    requires { AreGiven alg covered.now }
+    ensures algorithm { IfSome result (λ d. alg_of d ≡ alg) }
+    ensures one { (due : List (List ℕ)) → AreValues alg covered.now due
+        → MatchOption result ((value : List ℕ) → AreOne due value → ⊥) (λ d. AreOne due (octets_of d)) }
+{
+    let (first, others) = covered.next(alg)?;
+    if are_same(first.bytes(), alg, &others) {
+        Some(first)
     } else {
         None
     }
@@ -129,34 +142,43 @@ pub fn have_lengths(lists: Option<&HashLists>, alg: Alg) -> bool
     }
 }
 
-/// Whether an archive time-stamp with these lists covers the digests (RFC 4998 4.3, step 1, and 5.3; rule W3): each is
-/// a value of the first list; without lists they are one, which may occur more than once. It allocates nothing, and
-/// goes through the first list once for each digest.
-pub fn are_covered(lists: Option<&HashLists>, covered: &[Digest]) -> bool
+/// Whether an archive time-stamp with these lists covers what it must (RFC 4998 4.3, step 2, and 5.3; rule W3): each
+/// value stands in the first list; without lists they are one, which may occur more than once. It allocates nothing,
+/// and goes through the first list once for each value.
+pub fn are_covered(lists: Option<&HashLists>, alg: Alg, covered: &Covered) -> bool
+    // The values can be computed by this algorithm.
+    requires { AreGiven alg covered.now }
     // Returns whether they are covered.
-    ensures covered { IsTrue result ↔ IsCovered (option_copied lists.entry) (map octets_of covered.now) }
-    // Lists that cover a digest have a first list with a value.
-    ensures first { IsTrue result → covered.now ≢ [] → IfSome (option_copied lists.entry) HasFirst }
+    ensures covered { (due : List (List ℕ)) → AreValues alg covered.now due
+        → IsTrue result ↔ IsCovered (option_copied lists.entry) due }
+    // Lists that cover a value have a first list with a value.
+    ensures first { (due : List (List ℕ)) → AreValues alg covered.now due → IsTrue result → due ≢ []
+        → IfSome (option_copied lists.entry) HasFirst }
 {
     let Some(lists) = lists else {
-        return only(covered).is_some();
+        return only(alg, covered).is_some();
     };
     match lists.next() {
-        Some((first, _)) => are_among(covered, &first),
+        Some((first, _)) => are_among(alg, covered, &first),
         None => false,
     }
 }
 
-/// Whether the first of an archive time-stamp's lists has no value but those of the digests, as where there are no
-/// lists (rule W8). It allocates nothing, and goes through the digests once for each value.
-pub fn has_no_others(lists: Option<&HashLists>, covered: &[Digest]) -> bool
-    ensures { IsTrue result ↔ HasNoOthers (option_copied lists.entry) (map octets_of covered.now) }
+/// Whether the first of an archive time-stamp's lists has no value but those that must be covered, as where there are
+/// no lists (rule W8). It allocates nothing, and computes the values that must be covered once for each value of the
+/// list.
+pub fn has_no_others(lists: Option<&HashLists>, alg: Alg, covered: &Covered) -> bool
+    // The values can be computed by this algorithm.
+    requires { AreGiven alg covered.now }
+    // Returns whether no others stand there.
+    ensures { (due : List (List ℕ)) → AreValues alg covered.now due
+        → IsTrue result ↔ HasNoOthers (option_copied lists.entry) due }
 {
     let Some(lists) = lists else {
         return true;
     };
     match lists.next() {
-        Some((first, _)) => are_of(&first, covered),
+        Some((first, _)) => are_of(&first, alg, covered),
         None => true,
     }
 }

@@ -11,7 +11,7 @@ use Rattle.check_evidence.specs.StampStates.{IsUntil}
 use Rattle.check_evidence.specs.Ends.{AlgHolds}
 use Rattle.check_evidence.specs.Standing.{FitsIn, AlgsHold, Lasts, Stands}
 use Rattle.check_evidence.specs.Failing.{FailsToLast}
-use Rattle.evidence_laws.proofs.Same.{one_alg, one_until, imprint_alg, same_signer, same_attributes, same_alg}
+use Rattle.check_evidence.proofs.States.{one_alg, one_until, imprint_alg, same_signer, same_attributes, same_alg}
 use Rattle.evidence_laws.proofs.Stages.{moments_same}
 
 -- it fits, and is used until this moment

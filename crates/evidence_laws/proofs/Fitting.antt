@@ -22,7 +22,7 @@ use Rattle.check_evidence.specs.Standing.{IsAlgOf, HasLengths, Covers, Imprints,
 use Rattle.check_evidence.specs.Failing.{FailsToFit}
 use Rattle.check_evidence.specs.Refusing.{Fits}
 use Rattle.evidence_laws.proofs.Octets.{StampOctets}
-use Rattle.evidence_laws.proofs.Same.{one_time}
+use Rattle.check_evidence.proofs.States.{one_time}
 use Rattle.evidence_laws.proofs.Beside.{Known}
 use Rattle.evidence_laws.proofs.Stated.{has_time, shows, alg_of_place}
 use Rattle.evidence_laws.proofs.Lists.{lengths, covered, root_of, must_cover_some}

@@ -14,7 +14,7 @@ use Rattle.check_evidence.specs.Covering.{covered_of, covered_after, covered_at}
 use Rattle.check_evidence.specs.Standing.{Covers, Stands}
 use Rattle.check_evidence.specs.Showing.{IsWhole}
 use Rattle.evidence_laws.specs.Laws.{GroupsAreShown}
-use Rattle.evidence_laws.proofs.Same.{one_alg, one_imprinted}
+use Rattle.check_evidence.proofs.States.{one_alg, one_imprinted}
 
 abbrev Values : Type 0
 Values = List (List ℕ)

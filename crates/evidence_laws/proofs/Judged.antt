@@ -25,7 +25,7 @@ use Rattle.check_evidence.specs.Failing.{FailsToFit, FailsToLast}
 use Rattle.check_evidence.specs.Refusing.{Fits, StampFails, Refuses}
 use Rattle.evidence_laws.specs.Laws.{RecordsAreJudged}
 use Rattle.evidence_laws.proofs.Octets.{StampOctets, chains_octets}
-use Rattle.evidence_laws.proofs.Same.{one_alg}
+use Rattle.check_evidence.proofs.States.{one_alg}
 use Rattle.evidence_laws.proofs.Places.{FirstFails, all_or_first}
 use Rattle.evidence_laws.proofs.Beside.{Known, known, of_each}
 use Rattle.evidence_laws.proofs.Stated.{has_alg}

@@ -24,7 +24,7 @@ use Rattle.check_evidence.specs.Standing.{FitsIn, AlgsHold, LastsUnder, Lasts, S
 use Rattle.check_evidence.specs.Failing.{FailsToLast}
 use Rattle.evidence_laws.proofs.Octets.{StampOctets}
 use Rattle.evidence_laws.proofs.Beside.{Known}
-use Rattle.evidence_laws.proofs.Same.{passing_time}
+use Rattle.check_evidence.proofs.States.{passing_time}
 use Rattle.evidence_laws.proofs.Stated.{same_algs}
 use Rattle.evidence_laws.proofs.Lists.{all_decided, any_decided}
 use Rattle.evidence_laws.proofs.Fitting.{at_most}

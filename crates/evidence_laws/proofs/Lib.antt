@@ -1,5 +1,4 @@
 mod Octets
-mod Same
 mod Orders
 mod Places
 mod Beside

@@ -20,7 +20,7 @@ use Rattle.check_evidence.specs.Failing.{HasNoAlg, HasOtherLength, CoversNot, To
 use Rattle.check_evidence.specs.Failing.{FailsToFit}
 use Rattle.check_evidence.specs.Refusing.{Fits}
 use Rattle.check_evidence.specs.Laws.{RootsAreUnique}
-use Rattle.evidence_laws.proofs.Same.{one_time, one_alg, shows_alg, passing_time}
+use Rattle.check_evidence.proofs.States.{one_time, one_alg, shows_alg, passing_time}
 use Rattle.evidence_laws.specs.Alone.{stamp_alone}
 
 -- its algorithm is this one, its lists have the lengths, cover what they must, and it passes with this moment

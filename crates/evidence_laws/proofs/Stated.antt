@@ -23,7 +23,7 @@ use Rattle.check_evidence.specs.Places.{Place, first_beside}
 use Rattle.check_evidence.specs.StampStates.{States, HasTime, NamedBy, HasAlg, ShowsAlg}
 use Rattle.check_evidence.specs.Standing.{IsAlgOf}
 use Rattle.evidence_laws.proofs.Octets.{StampOctets}
-use Rattle.evidence_laws.proofs.Same.{some_is, one_stated, one_alg}
+use Rattle.check_evidence.proofs.States.{some_is, one_stated, one_alg}
 use Rattle.evidence_laws.proofs.Beside.{Known}
 
 none_some : {A : Type 0} (x : A) (o : Option A) → o ≡ None → o ≡ Some x → ⊥

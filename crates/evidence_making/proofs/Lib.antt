@@ -9,3 +9,5 @@ pub mod Parts
 pub mod Renewals
 pub mod Renewed
 pub mod Standing
+pub mod RootStamps
+pub mod StandsOn

@@ -18,7 +18,7 @@ use Rattle.check_evidence.specs.Places.{first_of, stamps_of}
 use Rattle.check_evidence.specs.Showing.{IsFirst, IsWhole}
 use Rattle.judge_evidence.specs.ShowingChains.{IsRenewal}
 use Rattle.judge_evidence.specs.ShowingLaws.{held_at}
-use Rattle.judge_evidence.proofs.StampTimes.{some_is}
+use Rattle.check_evidence.proofs.States.{some_is}
 use Rattle.judge_evidence.proofs.Before.{first_before}
 use Rattle.judge_evidence.proofs.Recorded.{chains_of_record, record_of_chains}
 use Rattle.evidence_making.specs.declared.fault.RenewFault.{RenewFault}
@@ -42,7 +42,7 @@ Chains = List (List StampValue)
 any_map : {A : Type 0} (P Q : A → Type 0) (xs : List A) → ((x : A) → P x → Q x) → Any P xs → Any Q xs
 any_map P Q xs f h = (h.0, h.1, h.2, h.3, f h.1 h.4)
 
-this_says : (alg : Alg) (o : Option Alg) → is_this alg o ≡ true → o ≡ Some alg
+pub this_says : (alg : Alg) (o : Option Alg) → is_this alg o ≡ true → o ≡ Some alg
 this_says alg None e = absurd cc
 this_says alg (Some other) e = ap Some (alg_says other alg e)
 

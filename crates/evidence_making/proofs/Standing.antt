@@ -24,7 +24,7 @@ abbrev Chains : Type 0
 Chains = List (List StampValue)
 
 -- a place after which nothing comes is that of the last
-at_the_end : (earlier : Chains) (before : Stamps) (s : StampValue) (p : Place)
+pub at_the_end : (earlier : Chains) (before : Stamps) (s : StampValue) (p : Place)
     → IsIn (earlier ++ (before ++ s ∷ []) ∷ []) p → IsLastPlace p → p ≡ last_place earlier before s
 at_the_end earlier before s p there last =
     let none : p.earlier ++ chain_of p ∷ p.later ≡ p.earlier ++ (p.before ++ p.stamp ∷ []) ∷ [] =

@@ -5,4 +5,8 @@ pub mod Renewed
 pub mod Renewing
 pub mod Laws
 pub mod RenewalLaws
+pub mod Stamping
+pub mod StampSteps
+pub mod Leaves
+pub mod LeafSteps
 pub mod Rows

@@ -76,3 +76,54 @@ impl fmt::Display for RenewFault {
         }
     }
 }
+
+/// Why a token can't be the stamp of a root. `Display` prints the code and the name.
+#[derive(Clone, Copy, Debug, PartialEq, Eq, Error)]
+pub enum StampFault {
+    /// U7: it isn't a token: a CMS SignedData with a TSTInfo as its content (RFC 3161 2.4.2).
+    TokenMalformed,
+    /// U8: its imprint isn't the root: another algorithm is named, or the octets differ.
+    ImprintDiffers,
+    /// U9: its moment isn't later than that of the last time-stamp of a record (RFC 4998 5.1).
+    Order,
+}
+
+impl fmt::Display for StampFault {
+    ghost use Rattle.std.specs.Prelude.{Some};
+    ghost use Rattle.evidence_making.specs.FaultTexts.{stamp_fault_text};
+
+    ghost output = { λ f. Some (stamp_fault_text f) };
+
+    fn fmt<W: fmt::Write>(&self, f: &mut fmt::Formatter<W>) -> fmt::Result {
+        f.write_str(match self {
+            StampFault::TokenMalformed => "U7 TokenMalformed",
+            StampFault::ImprintDiffers => "U8 ImprintDiffers",
+            StampFault::Order => "U9 Order",
+        })
+    }
+}
+
+/// Why there is nothing on which the renewal of an evidence record stands. `Display` prints the code and the name; of a
+/// record that is malformed the fault follows.
+#[derive(Clone, Copy, Debug, PartialEq, Eq, Error)]
+pub enum LeafFault {
+    /// V1: it is not an evidence record.
+    Malformed(Fault),
+    /// U3: the record is encrypted, its last `timeStamp` is no token, or its last chain has no algorithm that is known
+    /// (RFC 4998 5.2).
+    NoStamp,
+}
+
+impl fmt::Display for LeafFault {
+    ghost use Rattle.std.specs.Prelude.{Some};
+    ghost use Rattle.evidence_making.specs.FaultTexts.{leaf_fault_text};
+
+    ghost output = { λ f. Some (leaf_fault_text f) };
+
+    fn fmt<W: fmt::Write>(&self, f: &mut fmt::Formatter<W>) -> fmt::Result {
+        match self {
+            LeafFault::Malformed(fault) => write!(f, "V1 {fault}"),
+            LeafFault::NoStamp => f.write_str("U3 NoStamp"),
+        }
+    }
+}

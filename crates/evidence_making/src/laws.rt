@@ -3,6 +3,7 @@ ghost use Rattle.evidence_making.specs.Laws.{MadeStampsStand, MadeRecordsShow};
 ghost use Rattle.evidence_making.specs.RenewalLaws.{NamesAreFound, ChainsShowAfter, RenewedRecordsShow};
 ghost use Rattle.evidence_making.specs.RenewalLaws.{RehashedRecordsShow, RenewedStampsStand, RehashedStampsStand};
 ghost use Rattle.evidence_making.specs.Rows.{MadeRows, RenewedRows};
+ghost use Rattle.evidence_making.specs.Stamping.{StampsAreOneCase, StandingStamps, StampsHaveTime};
 
 /// A record that is made of a token over the root of a tree and the lists of a leaf shows the moment of the token for
 /// the data object of the leaf, if the token stands (RFC 4998 4.2, 5.3).
@@ -42,4 +43,15 @@ pub fn new_stamps_stand()
     ensures renewed { RenewedStampsStand }
     // Of a record that is renewed by a hash tree.
     ensures rehashed { RehashedStampsStand }
+{}
+
+/// A token stamps a root, or states another imprint, or is no token; one that stands on a root stamps it (RFC 3161
+/// 2.4.2; RFC 4998 4.2).
+pub fn stamps_are_of_roots()
+    // Only one of the three holds, and of the first with one moment.
+    ensures one_case { StampsAreOneCase }
+    // A token that stands on a root stamps it, with the same moment.
+    ensures standing { StandingStamps }
+    // An archive time-stamp with a token that stamps a root has its moment, after which a renewal must come.
+    ensures time { StampsHaveTime }
 {}

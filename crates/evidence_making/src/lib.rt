@@ -8,6 +8,7 @@ mod frame;
 mod headers;
 mod kept;
 mod laws;
+mod leaves;
 mod lists;
 mod making;
 mod naming;
@@ -16,10 +17,16 @@ mod putting;
 #[cfg(test)]
 mod records;
 mod renewing;
+mod stamping;
 #[cfg(test)]
 mod tests;
 
-pub use fault::{MakeFault, RenewFault};
-pub use laws::{made_records_show, making_rows_hold, new_stamps_stand, renewed_records_show};
+pub use fault::{LeafFault, MakeFault, RenewFault, StampFault};
+pub use laws::{
+    made_records_show, making_rows_hold, new_stamps_stand, renewed_records_show,
+    stamps_are_of_roots,
+};
+pub use leaves::{LastStamp, last_stamp, rehash_leaf};
 pub use making::{is_sequence, make_record};
 pub use renewing::{rehash_record, renew_record};
+pub use stamping::stamp_of_root;

@@ -7,7 +7,7 @@ use der_lists::AlgorithmIdentifiers;
 use digests::Alg;
 
 // Whether an AlgorithmIdentifier names the algorithm.
-fn names(algorithm: &AlgorithmIdentifier, alg: Alg) -> bool
+pub(crate) fn names(algorithm: &AlgorithmIdentifier, alg: Alg) -> bool
     ensures { result ≡ is_this alg (alg_named algorithm.now) }
 {
     match Alg::of(algorithm.oid(), algorithm.parameters()) {

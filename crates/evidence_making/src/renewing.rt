@@ -22,7 +22,7 @@ use evidence_types::EvidenceRecord;
 use std::alloc::Global;
 
 // The record that the octets encode.
-fn record_in<'a>(octets: &'a [u8]) -> Result<EvidenceRecord<'a>, Fault>
+pub(crate) fn record_in<'a>(octets: &'a [u8]) -> Result<EvidenceRecord<'a>, Fault>
     ensures found { IfOk result (λ v. EncodesEvidence octets.now v) }
     ensures fault { IfErr result (Faults (file evidence_record) octets.now) }
 {

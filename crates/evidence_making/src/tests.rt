@@ -3,8 +3,15 @@ ghost use Rattle.std.specs.Prelude.{◌≡◌, ◌<◌, length, IfOk, All};
 ghost use Rattle.digests.specs.Digests.{alg_of};
 ghost use Rattle.evidence_types.specs.StampValue.{IsSequence};
 
-use crate::records::{NEW_CHAIN, NEW_STAMP, RECORDS, REHASHED, REHASHED_LEAF, RENEWED, SINGLE};
-use crate::{is_sequence, make_record, rehash_record, renew_record};
+use crate::records::{
+    GEN_TIME, NEW_CHAIN, NEW_STAMP, RECORDS, REHASH_LEAF, REHASHED, REHASHED_LEAF, RENEWED, ROOT,
+    SINGLE, STAMP_LEAF, TOKEN,
+};
+use crate::{
+    LeafFault, StampFault, is_sequence, last_stamp, make_record, rehash_leaf, rehash_record,
+    renew_record, stamp_of_root,
+};
+use der_time::generalized_text;
 use digests::{Alg, Digest, digest};
 use evidence_trees::Tree;
 use std::alloc::{AllocError, Global};
@@ -178,5 +185,69 @@ fn a_new_time_stamp_is_in_the_last_chain(rt: HostRuntime) -> Result<(), Fail> {
     let stamp = before_token(rt.alloc(), NEW_STAMP, &new_token)?;
     expected.extend_from_slice(&stamp)?;
     assert!(rt; record == expected);
+    Ok(())
+}
+
+/// The digest with these octets in hexadecimal digits.
+fn digest_of(alloc: Global, alg: Alg, digits: &str) -> Result<Digest, Fail> {
+    let octets = hex::decode(alloc, digits)?;
+    match Digest::given(alg, &octets) {
+        Some(digest) => Ok(digest),
+        None => Err(Fail::new("no digest")),
+    }
+}
+
+#[test]
+fn a_token_stamps_its_root_alone(rt: HostRuntime) -> Result<(), Fail> {
+    let token = hex::decode(rt.alloc(), TOKEN)?;
+    let root = digest_of(rt.alloc(), Alg::Sha256, ROOT)?;
+    let Ok(moment) = stamp_of_root(&token, &root) else {
+        return Err(Fail::new("no stamp"));
+    };
+    assert!(rt; generalized_text(moment).as_str() == GEN_TIME);
+    let other = digest(Alg::Sha256, b"document 0\n");
+    assert!(rt;
+        matches!(
+            stamp_of_root(&token, &other),
+            Err(StampFault::ImprintDiffers)
+        )
+    );
+    let longer = digest(Alg::Sha512, b"document 0\n");
+    assert!(rt;
+        matches!(
+            stamp_of_root(&token, &longer),
+            Err(StampFault::ImprintDiffers)
+        )
+    );
+    assert!(rt;
+        matches!(
+            stamp_of_root(&token[1..], &root),
+            Err(StampFault::TokenMalformed)
+        )
+    );
+    Ok(())
+}
+
+#[test]
+fn leaves_are_those_of_another_program(rt: HostRuntime) -> Result<(), Fail> {
+    let stamp = hex::decode(rt.alloc(), TOKEN)?;
+    let record = before_token(rt.alloc(), RECORDS[1].4, &stamp)?;
+    let Ok(last) = last_stamp(&record) else {
+        return Err(Fail::new("no last stamp"));
+    };
+    assert!(rt; last.alg == Alg::Sha256);
+    assert!(rt; last.leaf == digest_of(rt.alloc(), Alg::Sha256, STAMP_LEAF)?);
+    assert!(rt; generalized_text(last.moment).as_str() == GEN_TIME);
+    let document = digest(Alg::Sha512, b"document 1\n");
+    let Ok((leaf, moment)) = rehash_leaf(&record, &document) else {
+        return Err(Fail::new("no leaf"));
+    };
+    assert!(rt; leaf == digest_of(rt.alloc(), Alg::Sha512, REHASH_LEAF)?);
+    assert!(rt; moment == last.moment);
+    let unread = token(rt.alloc(), 906)?;
+    let unstamped = before_token(rt.alloc(), SINGLE, &unread)?;
+    assert!(rt; matches!(last_stamp(&unstamped), Err(LeafFault::NoStamp)));
+    assert!(rt; matches!(rehash_leaf(&unstamped, &document), Err(LeafFault::NoStamp)));
+    assert!(rt; matches!(last_stamp(&record[1..]), Err(LeafFault::Malformed(_))));
     Ok(())
 }

@@ -18,7 +18,7 @@ use Rattle.check_verdict.proofs.Found.{IsMatched}
 use Rattle.check_evidence.specs.Grounds.{Grounds}
 use Rattle.check_evidence.specs.Standing.{LastsUnder, Lasts}
 use Rattle.evidence_stamps.specs.MayLast.{TokenLasts, MayLast, IsAskedToLast}
-use Rattle.evidence_stamps.proofs.Stated.{some_is}
+use Rattle.check_evidence.proofs.States.{some_is}
 
 abbrev pub attributes_of : SignerValue → List AttributeValue
 attributes_of s = unwrap_or s.signed_attributes []

@@ -1,13 +1,13 @@
 -- What is answered about an archive time-stamp holds at its place.
-use Rattle.std.proofs.Common.{◌≡◌, ◌<◌, ◌≤◌, ℕ, Bool, List, Option, Some, None}
-use Rattle.std.proofs.Common.{Err, refl, sym, ap, subst, ◌∙◌, map, inl, inr}
+use Rattle.std.proofs.Common.{◌≡◌, ◌≢◌, ◌<◌, ◌≤◌, ℕ, Bool, List, [], ◌∷◌, Option, Some, None}
+use Rattle.std.proofs.Common.{Err, refl, sym, ap, subst, ◌∙◌, inl, inr}
 use Rattle.std.specs.Prelude.{IfSome}
+use Rattle.std.specs.List.{AllZip}
 use Rattle.der_core.specs.Values.{AlgorithmValue}
 use Rattle.digests.specs.Digests.{octets_of}
-use Rattle.der_time.specs.Moments.{generalized_moment}
 use Rattle.digests.specs.declared.algorithm.Alg.{Alg}
+use Rattle.digests.specs.declared.selection.WantedDigests.{WantedDigests}
 use Rattle.digests.specs.declared.value.Digest.{Digest}
-use Rattle.digests.proofs.Named.{contents_distinct}
 use Rattle.check_fit.specs.declared.rules.TokenRule.{TokenRule}
 use Rattle.tsp_types.specs.TstValue.{TstValue}
 use Rattle.trust_lists.specs.Asking.{Asked}
@@ -21,7 +21,10 @@ use Rattle.check_evidence.specs.Grounds.{Grounds, terms_of, of_root, of_none}
 use Rattle.check_evidence.specs.Places.{Place, first_beside, preceding, following}
 use Rattle.check_evidence.specs.Roots.{IsRoot, IsCovered}
 use Rattle.check_evidence.specs.Covering.{covered_at}
-use Rattle.check_evidence.specs.StampStates.{States, HasTime, NamedBy, HasAlg, ShowsAlg}
+use Rattle.check_evidence.specs.CoveredValues.{IsValueOf, AreValues, AreSome}
+use Rattle.check_evidence.specs.declared.covered.Covered.{Covered}
+use Rattle.check_evidence.specs.declared.covered.Covered.TheVariants as covered
+use Rattle.check_evidence.specs.StampStates.{States, HasAlg, ShowsAlg}
 use Rattle.check_evidence.specs.Standing.{IsAlgOf, HasLengths, Covers, Imprints, IsLater, IsInTime, IsOrdered, FitsIn}
 use Rattle.check_evidence.specs.Failing.{HasNoAlg, HasOtherLength, CoversNot, TokenFailsAt, TokenUnread, IsDisordered}
 use Rattle.evidence_stamps.specs.declared.around.Around.{Around}
@@ -30,22 +33,19 @@ use Rattle.evidence_stamps.specs.declared.unfit.Unfit.TheVariants as unfit
 use Rattle.evidence_stamps.specs.PlaceValues.{IsChainAlg, IsMomentOf, IsLatestBy, IsAround}
 use Rattle.evidence_stamps.specs.FitSteps.{IsBy, IsFitOf, IsAskedOfStamp, IsRootFor, RootsOrFails, PassesOrFails}
 use Rattle.evidence_stamps.specs.FitSteps.{IsBetween}
-use Rattle.evidence_stamps.proofs.Stated.{some_is, one_stated}
+use Rattle.check_evidence.proofs.States.{some_is, one_alg, one_time}
 
--- ---- a stamp has one algorithm and one moment
+-- ---- what it must cover
 
-one_named : (named : Option AlgorithmValue) (s : StampValue) (a b : Alg) → NamedBy named s a → NamedBy named s b
-    → a ≡ b
-one_named None s a b h k = contents_distinct a b (sym h.2.contents
-    ∙ ap (λ (x : TstValue). x.imprint.algorithm.oid) (one_stated s.stamp h.0 k.0 h.1 k.1) ∙ k.2.contents)
-one_named (Some named) s a b h k = contents_distinct a b (sym h.contents ∙ k.contents)
-
-pub one_alg : (s : StampValue) (a b : Alg) → HasAlg s a → HasAlg s b → a ≡ b
-one_alg s a b h k = one_named s.algorithm s a b h k
-
-one_time : (s : StampValue) (m n : ℕ) → HasTime s m → HasTime s n → m ≡ n
-one_time s m n h k = sym h.2 ∙ ap (λ (x : TstValue). generalized_moment x.time) (one_stated s.stamp h.0 k.0 h.1 k.1)
-    ∙ k.2
+-- something is due where something must be covered
+pub some_due : (alg : Alg) (c : Covered) (due : List (List ℕ)) → AreSome c → AreValues alg c due → due ≢ []
+some_due alg (covered.One d) due some are none = absurd (let z : [] ≡ octets_of d ∷ [] = sym none ∙ are in cc)
+some_due alg (covered.Each chains digests) due some are none =
+    no_data digests.now (subst (λ (l : List (List ℕ)). AllZip (IsValueOf alg chains) digests.now l) none are) some
+  where
+    no_data : (ds : List WantedDigests) → AllZip (IsValueOf alg chains) ds [] → ds ≢ [] → ⊥
+    no_data [] h some = some refl
+    no_data (d ∷ ds) h some = absurd h
 
 -- ---- what a check goes by
 
@@ -154,24 +154,24 @@ module _ (g : Grounds) (ds : List (List ℕ)) (p : Place) (s : StampValue) (is :
       has_lengths = subst (λ (x : StampValue). HasLengths x.lists alg) (sym is) lengths
 
       -- W3
-      pub fails_cover : (IsCovered s.lists (map octets_of around.covered.now) → ⊥) → CoversNot ds p
+      pub fails_cover : ((due : List (List ℕ)) → AreValues alg around.covered due → IsCovered s.lists due → ⊥)
+          → CoversNot ds p
       fails_cover not = record {
         alg = alg;
         is_alg = is_alg;
         lengths = has_lengths;
-        not = λ h. not (subst (λ (values : List (List ℕ)). IsCovered s.lists values) (sym (ar.covered alg chain))
-            (subst (λ (x : StampValue). IsCovered x.lists (covered_at alg ds p)) is h));
+        not = λ h. not (covered_at alg ds p) (ar.covered alg chain)
+            (subst (λ (x : StampValue). IsCovered x.lists (covered_at alg ds p)) is h);
       }
 
-    module _ (root : Digest) (r : IsRootFor alg s.lists (map octets_of around.covered.now) root) where
+    module _ (root : Digest) (r : IsRootFor alg s.lists around.covered root) where
       covers_it : Covers ds p alg
       covers_it = subst (λ (x : StampValue). IsCovered x.lists (covered_at alg ds p)) (sym is)
-          (subst (λ (values : List (List ℕ)). IsCovered s.lists values) (ar.covered alg chain) r.covers)
+          (r.covers (covered_at alg ds p) (ar.covered alg chain))
 
       is_its_root : IsRoot alg p.stamp.lists (covered_at alg ds p) (octets_of root)
       is_its_root = subst (λ (x : StampValue). IsRoot alg x.lists (covered_at alg ds p) (octets_of root)) (sym is)
-          (subst (λ (values : List (List ℕ)). IsRoot alg s.lists values (octets_of root)) (ar.covered alg chain)
-          r.is_root)
+          (r.is_root (covered_at alg ds p) (ar.covered alg chain))
 
       -- W4
       pub fails_token : (failed : TokenRule) → TokenFailsFor (terms_of g) s.stamp (of_digest root) failed
@@ -222,7 +222,7 @@ module _ (g : Grounds) (ds : List (List ℕ)) (p : Place) (s : StampValue) (is :
 
 module _ (g : Grounds) (ds : List (List ℕ)) (p : Place) (s : StampValue) (is : p.stamp ≡ s) (around : Around)
     (ar : IsAround g ds p around) (alg : Alg) (own : HasAlg s alg) (chain : around.alg ≡ Some alg) where
-  pub no_root : (u : Unfit) → RootsOrFails alg s.lists (map octets_of around.covered.now) (Err u)
+  pub no_root : (u : Unfit) → RootsOrFails alg s.lists around.covered (Err u)
       → IsFitOf g ds p (Err u)
   no_root (unfit.Rule rule.HashLength) h = fails_length g ds p s is around ar alg own chain h
   no_root (unfit.Rule rule.NotCovered) h = fails_cover g ds p s is around ar alg own chain h.0 h.1
@@ -234,7 +234,7 @@ module _ (g : Grounds) (ds : List (List ℕ)) (p : Place) (s : StampValue) (is :
   no_root (unfit.Rule rule.Lapsed) h = absurd h
   no_root (unfit.Rule rule.Others) h = absurd h
 
-  pub no_moment : (root : Digest) → IsRootFor alg s.lists (map octets_of around.covered.now) root → (u : Unfit)
+  pub no_moment : (root : Digest) → IsRootFor alg s.lists around.covered root → (u : Unfit)
       → PassesOrFails (terms_of g) s.stamp (of_digest root) (Err u) → IsFitOf g ds p (Err u)
   no_moment root r (unfit.Rule (rule.Token failed)) h =
       inl (fails_token g ds p s is around ar alg own chain root r failed h)
@@ -248,11 +248,11 @@ module _ (g : Grounds) (ds : List (List ℕ)) (p : Place) (s : StampValue) (is :
   no_moment root r (unfit.Rule rule.Others) h = absurd h
 
 -- a question about the token on the root is about the stamp
-pub asked_of : (checker : CheckerValue) (s : StampValue) (first : Option Alg) (covered : List (List ℕ)) (alg : Alg)
-    → HasAlg s alg → first ≡ Some alg → (root : Digest) → IsRootFor alg s.lists covered root → (token : List ℕ)
+pub asked_of : (checker : CheckerValue) (s : StampValue) (around : Around) (alg : Alg) → HasAlg s alg
+    → around.alg ≡ Some alg → (root : Digest) → IsRootFor alg s.lists around.covered root → (token : List ℕ)
     → token ≡ s.stamp → (q : Asked) → IsAskedFor checker.policy checker.trust (of_digest root) token q
-    → IsAskedOfStamp checker s first covered q
-asked_of checker s first covered alg own chain root r token e q about = record {
+    → IsAskedOfStamp checker s around q
+asked_of checker s around alg own chain root r token e q about = record {
   alg = alg;
   its = own;
   same = chain;

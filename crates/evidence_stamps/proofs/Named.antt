@@ -8,7 +8,7 @@ use Rattle.tsp_types.specs.TstValue.{TstValue}
 use Rattle.evidence_types.specs.StampValue.{StampValue}
 use Rattle.check_evidence.specs.StampStates.{NamedBy, HasAlg, ShowsAlg}
 use Rattle.evidence_stamps.specs.StateValue.{StateValue, IsStateOf}
-use Rattle.evidence_stamps.proofs.Stated.{one_stated}
+use Rattle.check_evidence.proofs.States.{one_stated}
 
 module _ (s : StampValue) (state : Option StateValue) (is : IsStateOf s.stamp state) (absent : s.algorithm ≡ None) where
   named_so : (alg : Alg) → HasAlg s alg → NamedBy None s alg

@@ -11,8 +11,10 @@ use Rattle.check_verdict.specs.Passing.{Terms, Due, PassesFor}
 use Rattle.check_verdict.specs.TokenRules.{TokenFailsFor}
 use Rattle.check_verdict.specs.Asks.{IsAskedFor}
 use Rattle.check_verdict.specs.Checkers.{CheckerValue}
+use Rattle.check_evidence.specs.declared.covered.Covered.{Covered}
 use Rattle.check_evidence.specs.declared.rules.StampRule.TheVariants as rule
 use Rattle.check_evidence.specs.Grounds.{Grounds, of_root}
+use Rattle.check_evidence.specs.CoveredValues.{AreValues}
 use Rattle.check_evidence.specs.Places.{Place}
 use Rattle.check_evidence.specs.Roots.{IsRoot, IsCovered}
 use Rattle.check_evidence.specs.StampStates.{HasAlg}
@@ -41,35 +43,33 @@ CountsUnfit (Err (unfit.Device device.AskFailed)) count count' = count' ≡ rais
 CountsUnfit result count count' = count' ≡ count
 
 -- asked about the token of a stamp, whose algorithm is that of the first of its chain, on the root of lists that cover
--- these values
-pub record IsAskedOfStamp (checker : CheckerValue) (s : StampValue) (first : Option Alg) (covered : List (List ℕ))
-    (q : Asked) : Type 0 where
+-- what they must
+pub record IsAskedOfStamp (checker : CheckerValue) (s : StampValue) (around : Around) (q : Asked) : Type 0 where
   pub alg : Alg
   pub its : HasAlg s alg
-  pub same : first ≡ Some alg
+  pub same : around.alg ≡ Some alg
   pub lengths : HasLengths s.lists alg
-  pub covers : IsCovered s.lists covered
+  pub covers : (due : List (List ℕ)) → AreValues alg around.covered due → IsCovered s.lists due
   pub root : List ℕ
-  pub is_root : IsRoot alg s.lists covered root
+  pub is_root : (due : List (List ℕ)) → AreValues alg around.covered due → IsRoot alg s.lists due root
   pub about : IsAskedFor checker.policy checker.trust (of_root alg root) s.stamp q
 
 -- ---- steps
 
--- the digest is the root of lists that have their lengths and cover these values
-pub record IsRootFor (alg : Alg) (lists : Option (List (List (List ℕ)))) (covered : List (List ℕ)) (root : Digest)
+-- the digest is the root of lists that have their lengths and cover the values that they must
+pub record IsRootFor (alg : Alg) (lists : Option (List (List (List ℕ)))) (covered : Covered) (root : Digest)
     : Type 0 where
   pub lengths : HasLengths lists alg
-  pub covers : IsCovered lists covered
+  pub covers : (due : List (List ℕ)) → AreValues alg covered due → IsCovered lists due
   pub by : alg_of root ≡ alg
-  pub is_root : IsRoot alg lists covered (octets_of root)
+  pub is_root : (due : List (List ℕ)) → AreValues alg covered due → IsRoot alg lists due (octets_of root)
 
 -- W2 and W3, and the root
-abbrev pub RootsOrFails : Alg → (lists : Option (List (List (List ℕ)))) → (covered : List (List ℕ))
-    → Result Digest Unfit → Type 0
+abbrev pub RootsOrFails : Alg → (lists : Option (List (List (List ℕ)))) → Covered → Result Digest Unfit → Type 0
 RootsOrFails alg lists covered (Ok root) = IsRootFor alg lists covered root
 RootsOrFails alg lists covered (Err (unfit.Rule rule.HashLength)) = HasLengths lists alg → ⊥
 RootsOrFails alg lists covered (Err (unfit.Rule rule.NotCovered)) =
-    HasLengths lists alg × (IsCovered lists covered → ⊥)
+    HasLengths lists alg × ((due : List (List ℕ)) → AreValues alg covered due → IsCovered lists due → ⊥)
 RootsOrFails alg lists covered (Err (unfit.Device fault)) = fault ≡ device.OutOfMemory
 RootsOrFails alg lists covered (Err (unfit.Rule _)) = ⊥
 

@@ -1,12 +1,12 @@
 -- What is handed in of the place of an archive time-stamp.
-use Rattle.std.specs.Prelude.{◌≡◌, ◌≢◌, ℕ, List, [], Option, Some, None, All, map}
-use Rattle.digests.specs.Digests.{alg_of, octets_of}
+use Rattle.std.specs.Prelude.{◌≡◌, ℕ, List, Option, Some, None}
 use Rattle.digests.specs.declared.algorithm.Alg.{Alg}
 use Rattle.evidence_types.specs.StampValue.{StampValue}
 use Rattle.check_evidence.specs.Grounds.{Grounds}
 use Rattle.check_evidence.specs.Places.{Place, first_beside, preceding, following}
 use Rattle.check_evidence.specs.StampStates.{HasTime, HasAlg}
 use Rattle.check_evidence.specs.Covering.{covered_at}
+use Rattle.check_evidence.specs.CoveredValues.{AreValues, AreGiven, AreSome}
 use Rattle.evidence_stamps.specs.declared.around.Around.{Around}
 
 -- this is the algorithm of the first stamp of its chain; or that has none
@@ -28,14 +28,14 @@ IsLatestBy (Some s) at latest = latest ≡ None
 pub record IsAround (g : Grounds) (data_objects : List (List ℕ)) (p : Place) (around : Around) : Type 0 where
   pub alg : IsChainAlg p around.alg
   pub covered : (alg : Alg) → around.alg ≡ Some alg
-      → map octets_of around.covered.now ≡ covered_at alg data_objects p
+      → AreValues alg around.covered (covered_at alg data_objects p)
   pub before : IsMomentOf (preceding p) around.before
   pub latest : IsLatestBy (following p) g.at around.latest
 
--- the digests are by the algorithm, and there is one
+-- the values that it must cover can be computed by the algorithm, and there is one
 pub record AreBy (alg : Alg) (around : Around) : Type 0 where
-  pub each : All (λ d. alg_of d ≡ alg) around.covered.now
-  pub some : around.covered.now ≢ []
+  pub given : AreGiven alg around.covered
+  pub some : AreSome around.covered
 
 abbrev pub AreWell : Around → Type 0
 AreWell around = (alg : Alg) → around.alg ≡ Some alg → AreBy alg around

@@ -1,13 +1,13 @@
 //! What is asked of an archive time-stamp by the moment that it states (RFC 4998 4.3 and 5.3): W1 to W5.
-ghost use Rattle.std.specs.Prelude.{◌≡◌, ◌≢◌, ◌↔◌, ℕ, List, [], Some, None, Err, true, All, IfSome, IsTrue};
-ghost use Rattle.std.specs.Prelude.{map, unwrap_or};
+ghost use Rattle.std.specs.Prelude.{◌≡◌, ◌≢◌, ◌↔◌, ℕ, List, [], Some, None, Err, true, All, IfOk, IfSome, IsTrue};
+ghost use Rattle.std.specs.Prelude.{unwrap_or};
 ghost use Rattle.std.specs.Option.{option_copied};
-ghost use Rattle.digests.specs.Digests.{alg_of, octets_of};
 ghost use Rattle.check_verdict.specs.Passing.{Terms, of_digest};
 ghost use Rattle.check_verdict.specs.TokenRules.{TokenFailsFor};
 ghost use Rattle.check_verdict.specs.Asks.{AsksOnly, IsAskedFor};
 ghost use Rattle.check_verdict.specs.Checkers.{terms_for};
 ghost use Rattle.check_evidence.specs.Grounds.{Grounds, of_none};
+ghost use Rattle.check_evidence.specs.CoveredValues.{AreGiven, AreSome};
 ghost use Rattle.check_evidence.specs.Places.{Place};
 ghost use Rattle.check_evidence.specs.Roots.{IsAscending};
 ghost use Rattle.check_evidence.specs.StampStates.{HasAlg};
@@ -20,7 +20,7 @@ use crate::algorithm::{alg_of, shows_alg};
 use crate::around::Around;
 use crate::token_state::TokenState;
 use crate::unfit::{Fit, Unfit};
-use check_evidence::{StampRule, are_covered, have_lengths, root_of};
+use check_evidence::{Covered, StampRule, are_covered, have_lengths, root_of};
 use check_fit::{DeviceFault, Policy, TokenRefused, TokenRule};
 use check_verdict::{Checker, Stamp, judge_stamp};
 use der_time::Moment;
@@ -48,23 +48,24 @@ fn root_for(
     alloc: Global,
     alg: Alg,
     lists: Option<&HashLists>,
-    covered: &[Digest],
+    covered: &Covered,
 ) -> Result<Digest, Unfit>
-    requires each { All (λ d. alg_of d ≡ alg) covered.now }
-    requires some { covered.now ≢ [] }
-    ensures root { RootsOrFails alg (option_copied lists.entry) (map octets_of covered.now) result }
+    requires given { AreGiven alg covered.now }
+    requires some { AreSome covered.now }
+    ensures root { RootsOrFails alg (option_copied lists.entry) covered.now result }
     ensures memory { All IsAscending (unwrap_or (option_copied lists.entry) [])
         → result ≢ Err (Unfit.Device DeviceFault.OutOfMemory) }
 {
     if !have_lengths(lists, alg) {
         return Err(Unfit::Rule(StampRule::HashLength));
     }
-    if !are_covered(lists, covered) {
+    if !are_covered(lists, alg, covered) {
         return Err(Unfit::Rule(StampRule::NotCovered));
     }
     match root_of(alloc, alg, lists, covered) {
         Ok(Some(root)) => Ok(root),
-        Ok(None) => unreachable!(),
+        // Where nothing is the root, nothing is covered.
+        Ok(None) => Err(Unfit::Rule(StampRule::NotCovered)),
         Err(_) => Err(Unfit::Device(DeviceFault::OutOfMemory)),
     }
 }
@@ -138,7 +139,7 @@ pub fn fit_of<V: Verifier>(
 ) -> Result<Fit, Unfit>
     // This is what its token states.
     requires state { IsStateOf stamp.now.stamp (option_copied state) }
-    // The digests are by the algorithm, and there is one.
+    // The values that it must cover can be computed by the algorithm, and there is one.
     requires well { AreWell around.now }
     // It fits at each such place, or fails the rule first.
     ensures judged { (g : Grounds) (data_objects : List (List ℕ)) (p : Place) → p.stamp ≡ stamp.now
@@ -146,7 +147,9 @@ pub fn fit_of<V: Verifier>(
         → IsFitOf g data_objects p result }
     // The verifier is asked only about its token, if W1 to W3 hold.
     ensures only { AsksOnly (λ test. V.asked_only test verifier.old verifier.new)
-        (IsAskedOfStamp checker.old stamp.now around.now.alg (map octets_of around.now.covered.now)) }
+        (IsAskedOfStamp checker.old stamp.now around.now) }
+    // Its algorithm is that of its chain.
+    ensures alg { IfOk result (λ fit. around.now.alg ≡ Some fit.alg) }
     // No memory is asked for if each of its lists stands in ascending order.
     ensures memory { All IsAscending (unwrap_or stamp.now.lists [])
         → result ≢ Err (Unfit.Device DeviceFault.OutOfMemory) }
@@ -164,7 +167,7 @@ pub fn fit_of<V: Verifier>(
     let Some(alg) = alg_in_chain(stamp, state, around.alg) else {
         return Err(Unfit::Rule(StampRule::Algorithm));
     };
-    let root = root_for(alloc, alg, stamp.lists(), around.covered)?;
+    let root = root_for(alloc, alg, stamp.lists(), &around.covered)?;
     let moment = moment_of(stamp.stamp(), &root, checker, verifier)?;
     if !is_between(around, moment) {
         return Err(Unfit::Rule(StampRule::Order));

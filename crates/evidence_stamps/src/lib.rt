@@ -1,11 +1,10 @@
-//! One archive time-stamp of an evidence record (RFC 4998): what it states, what it covers, whether it fits where it
-//! stands, and whether it lasts. What these are is defined in the crate `check_evidence`, in `specs/Standing.antt` and
+//! One archive time-stamp of an evidence record (RFC 4998): what it states, whether it fits where it stands, and
+//! whether it lasts. What these are is defined in the crate `check_evidence`, in `specs/Standing.antt` and
 //! `specs/Failing.antt`.
 #![tactic(auto)]
 
 mod algorithm;
 mod around;
-mod covered;
 mod ends;
 mod fitting;
 mod lasting;
@@ -14,7 +13,6 @@ mod unfit;
 
 pub use algorithm::{alg_of, shows_alg};
 pub use around::Around;
-pub use covered::{covered_after, covered_later, digest_of_chains};
 pub use ends::{End, alg_holds};
 pub use fitting::fit_of;
 pub use lasting::lasts;

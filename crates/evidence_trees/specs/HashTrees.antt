@@ -24,7 +24,7 @@ abbrev pub node_of : Alg → List ℕ → List ℕ → List ℕ
 node_of alg v w = digest_of alg (if is_less w v then w ++ v else v ++ w)
 
 -- the level above these nodes: the node of each two that are neighbours; an odd one at the end stands alone, as its own
--- node (4.2, step 5)
+-- node (4.2, step 4)
 abbrev pub level_above : Alg → List (List ℕ) → List (List ℕ)
 level_above alg [] = []
 level_above alg (v ∷ []) = v ∷ []

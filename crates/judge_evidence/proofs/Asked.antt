@@ -1,7 +1,6 @@
 -- What is asked about a place is asked about the record.
-use Rattle.std.proofs.Common.{◌≡◌, ℕ, Bool, true, false, List, Option, Some, None, map, refl, sym, ◌∙◌, subst, inl, inr}
+use Rattle.std.proofs.Common.{◌≡◌, ℕ, Bool, true, false, List, Option, Some, None, refl, sym, ◌∙◌, subst, inl, inr}
 use Rattle.std.specs.Option.{is_some}
-use Rattle.digests.specs.Digests.{octets_of}
 use Rattle.digests.specs.declared.algorithm.Alg.{Alg}
 use Rattle.digests.specs.declared.selection.WantedDigests.{WantedDigests}
 use Rattle.check_fit.specs.declared.policy.Policy.{Policy}
@@ -50,19 +49,17 @@ module _ (g : Grounds) (ds : Objects) (p : Place) (s : StampValue) (is : s ≡ p
       }
 
   -- what is asked about the stamp is asked about its place
-  to_pass : (q : Asked) → IsAskedOfStamp checker s around.alg (map octets_of around.covered.now) q
-      → IsAskedToPassAt g ds p q
+  to_pass : (q : Asked) → IsAskedOfStamp checker s around q → IsAskedToPassAt g ds p q
   to_pass q h =
-      let covered = ar.covered h.alg h.same in
+      let due = covered_at h.alg ds p in
+      let are = ar.covered h.alg h.same in
       record {
         alg = h.alg;
         is_alg = its_alg h.alg h.its h.same;
         lengths = subst (λ (x : StampValue). HasLengths x.lists h.alg) is h.lengths;
-        covers = subst (λ (x : StampValue). IsCovered x.lists (covered_at h.alg ds p)) is
-            (subst (λ (values : List (List ℕ)). IsCovered s.lists values) covered h.covers);
+        covers = subst (λ (x : StampValue). IsCovered x.lists due) is (h.covers due are);
         root = h.root;
-        is_root = subst (λ (x : StampValue). IsRoot h.alg x.lists (covered_at h.alg ds p) h.root) is
-            (subst (λ (values : List (List ℕ)). IsRoot h.alg s.lists values h.root) covered h.is_root);
+        is_root = subst (λ (x : StampValue). IsRoot h.alg x.lists due h.root) is (h.is_root due are);
         about = subst (λ (x : StampValue). IsAskedFor (terms_of g).policy g.trust (of_root h.alg h.root) x.stamp q) is
             (subst (λ (t : List EntryValue). IsAskedFor (terms_of g).policy t (of_root h.alg h.root) s.stamp q)
             by.trust (subst (λ (k : Policy). IsAskedFor k checker.trust (of_root h.alg h.root) s.stamp q)
@@ -71,7 +68,7 @@ module _ (g : Grounds) (ds : Objects) (p : Place) (s : StampValue) (is : s ≡ p
 
   -- those before it fit
   pub fit_asks : (chains : Chains) (run : Run) → IsRunAt g ds chains p run → (Only : (Asked → Bool) → Type 0)
-      → AsksOnly Only (IsAskedOfStamp checker s around.alg (map octets_of around.covered.now))
+      → AsksOnly Only (IsAskedOfStamp checker s around)
       → AsksOnly Only (IsAskedAt g ds chains p)
   fit_asks chains run h Only asks test tests = asks test (λ q about. tests q (inl (h.fit, to_pass q about)))
 

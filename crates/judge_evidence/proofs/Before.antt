@@ -12,7 +12,7 @@ use Rattle.check_evidence.specs.Showing.{IsFirst}
 use Rattle.judge_evidence.specs.ShowingChains.{IsRenewal}
 use Rattle.judge_evidence.specs.ShowingLaws.{held_at, ChainsShowBefore}
 use Rattle.judge_evidence.proofs.Splitting.{SameSplit, same_split}
-use Rattle.judge_evidence.proofs.StampTimes.{one_time, passes_at}
+use Rattle.check_evidence.proofs.States.{one_time, passing_time}
 
 abbrev Stamps : Type 0
 Stamps = List StampValue
@@ -77,7 +77,7 @@ module _ (g : Grounds) (ds : List (List ℕ)) (s : StampValue) (n : ℕ) (time :
           ordered = record {
             later = f.ordered.later;
             in_time = in_time_before (all_after p) s g.at st.moment n
-                (earlier st.moment (passes_at (terms_of g) p.stamp (of_root st.alg f.imprints.root) st.moment
+                (earlier st.moment (passing_time (terms_of g) p.stamp (of_root st.alg f.imprints.root) st.moment
                 f.imprints.passes))
                 (subst (λ (o : Option StampValue). IsInTime o g.at st.moment) next f.ordered.in_time);
           };
@@ -119,7 +119,7 @@ later_than : (g : Grounds) (ds : List (List ℕ)) (q : Place) (n m : ℕ) (t : S
     → HasTime t m → preceding q ≡ Some t → Stands g ds q → m ≤ n
 later_than g ds q n m t time its is st =
     let f = st.fits in
-    let at = passes_at (terms_of g) q.stamp (of_root st.alg f.imprints.root) st.moment f.imprints.passes in
+    let at = passing_time (terms_of g) q.stamp (of_root st.alg f.imprints.root) st.moment f.imprints.passes in
     let same : st.moment ≡ n = one_time q.stamp st.moment n at time in
     let later = subst (λ (o : Option StampValue). IsLater o st.moment) is f.ordered.later in
     let was : later.0 ≡ m = one_time t later.0 m later.1 its in

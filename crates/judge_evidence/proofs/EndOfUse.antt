@@ -28,7 +28,7 @@ use Rattle.evidence_stamps.specs.StateValue.{StateValue, IsState, IsStateOf}
 use Rattle.evidence_stamps.specs.MayLast.{TokenLasts, MayLast, IsAskedToLast}
 use Rattle.judge_evidence.specs.Asking.{IsAskedToLastAt}
 use Rattle.judge_evidence.specs.Running.{ShowsTime, IsFound}
-use Rattle.judge_evidence.proofs.StampTimes.{some_is, passes_at}
+use Rattle.check_evidence.proofs.States.{some_is, passing_time}
 
 -- ---- until when
 
@@ -191,7 +191,7 @@ module _ (g : Grounds) (ds : List (List ℕ)) (p : Place) (alg : Alg) (m : ℕ) 
 -- the moment with which it fits is the one that it states
 pub fits_at : (g : Grounds) (ds : List (List ℕ)) (p : Place) (alg : Alg) (m : ℕ) → FitsIn g ds p alg m
     → HasTime p.stamp m
-fits_at g ds p alg m f = passes_at (terms_of g) p.stamp (of_root alg f.imprints.root) m f.imprints.passes
+fits_at g ds p alg m f = passing_time (terms_of g) p.stamp (of_root alg f.imprints.root) m f.imprints.passes
 
 -- what is found of it is found if it can be told until when it is used
 pub found_if : {E : Type 0} (g : Grounds) (ds : List (List ℕ)) (p : Place) (r : Result (Option StampRule) E)

@@ -1,13 +1,11 @@
 -- What is answered of a place holds of the record.
-use Rattle.std.proofs.Common.{◌≡◌, ◌≢◌, ◌⊎◌, ◌+◌, ℕ, Bool, true, false, List, [], ◌∷◌, length, map, Option, Some}
+use Rattle.std.proofs.Common.{◌≡◌, ◌≢◌, ◌⊎◌, ◌+◌, ℕ, Bool, true, false, List, [], ◌∷◌, length, Option, Some}
 use Rattle.std.proofs.Common.{None, MatchOption, IfSome, Err, inl, inr, refl, sym, ap, ◌∙◌, subst, arith}
-use Rattle.std.proofs.Common.{if◌then◌else◌, Bor}
+use Rattle.std.proofs.Common.{if◌then◌else◌}
 use Rattle.std.proofs.lemmas.List.{length-append}
 use Rattle.std.proofs.lemmas.Grind.{flat_map-append}
 use Rattle.der_core.specs.Values.{HasLength}
-use Rattle.digests.specs.Digests.{octets_of}
 use Rattle.digests.specs.declared.algorithm.Alg.{Alg}
-use Rattle.digests.specs.declared.value.Digest.{Digest}
 use Rattle.check_fit.specs.declared.rules.DeviceFault.{DeviceFault}
 use Rattle.check_fit.specs.declared.rules.DeviceFault.TheVariants as device
 use Rattle.evidence_types.specs.StampValue.{StampValue}
@@ -21,6 +19,8 @@ use Rattle.check_evidence.specs.Places.{Place, IsIn, chain_of, chain_number, sta
 use Rattle.check_evidence.specs.Places.{preceding, last_of}
 use Rattle.check_evidence.specs.StampStates.{HasTime, HasAlg}
 use Rattle.check_evidence.specs.Covering.{covered_after, covered_at}
+use Rattle.check_evidence.specs.CoveredValues.{AreValues}
+use Rattle.check_evidence.specs.declared.covered.Covered.{Covered}
 use Rattle.check_evidence.specs.Standing.{IsAlgOf, FitsIn}
 use Rattle.check_evidence.specs.Showing.{IsWhole}
 use Rattle.evidence_stamps.specs.StateValue.{StateValue, IsStateOf}
@@ -37,7 +37,7 @@ use Rattle.judge_evidence.specs.declared.run.Run.{Run}
 use Rattle.judge_evidence.proofs.EndOfUse.{IsAheadBy, fits_at}
 use Rattle.judge_evidence.proofs.Neighbours.{follows_next, itself_beside}
 use Rattle.judge_evidence.proofs.Running.{run_past, unfit_fails}
-use Rattle.judge_evidence.proofs.StampTimes.{some_is, one_alg}
+use Rattle.check_evidence.proofs.States.{some_is, one_alg}
 
 abbrev Objects : Type 0
 Objects = List (List ℕ)
@@ -105,13 +105,15 @@ module _ (g : Grounds) (ds : Objects) (chains : Chains) (p : Place) where
 
   -- ---- one that fits
 
-  module _ (run after : Run) (alg : Alg) (m : ℕ) (found : Option StampRule) (alone : Bool) (covered : List (List ℕ))
+  module _ (run after : Run) (alg : Alg) (m : ℕ) (found : Option StampRule) (alone : Bool) (covered : Covered)
       (h : IsRunAt g ds chains p run) (f : FitsIn g ds p alg m) (is_alone : g.whole ≡ alone)
-      (covers : covered ≡ covered_at alg ds p) where
-    whole_covered : IsFirstPlace p → covered ≡ covered_after alg None [] ds
-    whole_covered first = covers ∙ (λ i. covered_after alg (last_of (first.no_stamp i)) (first.no_chain i) ds)
+      (covers : AreValues alg covered (covered_at alg ds p)) where
+    first_covers : IsFirstPlace p → AreValues alg covered (covered_after alg None [] ds)
+    first_covers first = subst (λ (due : List (List ℕ)). AreValues alg covered due)
+        (λ i. covered_after alg (last_of (first.no_stamp i)) (first.no_chain i) ds) covers
 
-    beginning : (b : Begun) → IsFirstPlace p → IsBegunBy p.stamp.lists covered m alone b → IsBeginning g ds chains b
+    beginning : (b : Begun) → IsFirstPlace p → IsBegunBy p.stamp.lists alg covered m alone b
+        → IsBeginning g ds chains b
     beginning b first k = record {
       place = p;
       there = h.there;
@@ -120,14 +122,11 @@ module _ (g : Grounds) (ds : Objects) (chains : Chains) (p : Place) where
       whole = λ e w. record {
         alg = alg;
         its = f.is_alg.its;
-        no_others = subst (λ (c : List (List ℕ)). HasNoOthers p.stamp.lists c) (whole_covered first)
-            (k.none e (sym is_alone ∙ w));
+        no_others = k.none e (sym is_alone ∙ w) (covered_after alg None [] ds) (first_covers first);
       };
       others = λ e. (
         is_alone ∙ (k.others e).0,
-        λ w. (k.others e).1
-            (subst (λ (c : List (List ℕ)). HasNoOthers p.stamp.lists c) (sym (whole_covered first))
-            (its_others w)),
+        λ w. (k.others e).1 (covered_after alg None [] ds) (first_covers first) (its_others w),
       );
     }
       where
@@ -136,8 +135,8 @@ module _ (g : Grounds) (ds : Objects) (chains : Chains) (p : Place) where
             (one_alg p.stamp w.alg alg w.its f.is_alg.its) w.no_others
 
     begun_is : (before now : Option Begun) → MatchOption before
-        (IfSome now (IsBegunBy p.stamp.lists covered m alone)) (λ b. now ≡ Some b) → now ≢ None
-        → (c : Begun) × (now ≡ Some c) × (before ≡ None → IsBegunBy p.stamp.lists covered m alone c)
+        (IfSome now (IsBegunBy p.stamp.lists alg covered m alone)) (λ b. now ≡ Some b) → now ≢ None
+        → (c : Begun) × (now ≡ Some c) × (before ≡ None → IsBegunBy p.stamp.lists alg covered m alone c)
         × ((a : Begun) → before ≡ Some a → c ≡ a)
     begun_is None None k some = absurd (some refl)
     begun_is None (Some b) k some = (b, refl, λ e. k, λ a e. absurd (let differ : None ≡ Some a = e in cc))
@@ -146,7 +145,7 @@ module _ (g : Grounds) (ds : Objects) (chains : Chains) (p : Place) where
 
     pub fits_run : (run.lapsed ≡ None → IsFound g ds p found) → after.alg ≡ Some alg → after.before ≡ Some m
         → after.lapsed ≡ lapse_with found (chain_number p) (stamp_number p) run.lapsed
-        → MatchOption run.begun (IfSome after.begun (IsBegunBy p.stamp.lists covered m alone))
+        → MatchOption run.begun (IfSome after.begun (IsBegunBy p.stamp.lists alg covered m alone))
         (λ b. after.begun ≡ Some b) → after.begun ≢ None → IsRunPast g ds chains p after
     fits_run lapse is_alg is_before is_lapsed is_begun some =
         let b = begun_is run.begun after.begun is_begun some in
@@ -179,15 +178,14 @@ pub begun_none : (P : Begun → Type 0) (S : Begun → Type 0) (o : Option Begun
 begun_none P S None c r e is h = subst P (sym is) h
 begun_none P S (Some x) c r e is h = absurd (let differ : Some x ≡ None = e in cc)
 
-pub is_around : (g : Grounds) (ds : Objects) (p : Place) (before : Option ℕ) (alg : Option Alg)
-    (covered : Bor (List Digest)) (items : List Digest) (latest : Option ℕ) (last : Bool) (ahead : Option StateValue)
-    → covered.now ≡ items → IsChainAlg p alg
-    → ((a : Alg) → alg ≡ Some a → map octets_of items ≡ covered_at a ds p) → IsMomentOf (preceding p) before
+pub is_around : (g : Grounds) (ds : Objects) (p : Place) (before : Option ℕ) (alg : Option Alg) (covered : Covered)
+    (latest : Option ℕ) (last : Bool) (ahead : Option StateValue) → IsChainAlg p alg
+    → ((a : Alg) → alg ≡ Some a → AreValues a covered (covered_at a ds p)) → IsMomentOf (preceding p) before
     → latest ≡ (if last then g.at else None) → IsAheadBy (following p) last ahead
     → IsAround g ds p (record { alg = alg; covered = covered; before = before; latest = latest })
-is_around g ds p before alg covered items latest last ahead is chain covers moment late h = record {
+is_around g ds p before alg covered latest last ahead chain covers moment late h = record {
   alg = chain;
-  covered = λ a e. ap (λ (l : List Digest). map octets_of l) is ∙ covers a e;
+  covered = covers;
   before = moment;
   latest = subst (λ (o : Option ℕ). IsLatestBy (following p) g.at o) (sym late)
       (latest_by (following p) last ahead g.at h);

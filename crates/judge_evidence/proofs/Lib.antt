@@ -2,7 +2,6 @@ pub mod Splitting
 pub mod Going
 pub mod Neighbours
 pub mod PlaceParts
-pub mod StampTimes
 pub mod Members
 pub mod MoreTrust
 pub mod Before

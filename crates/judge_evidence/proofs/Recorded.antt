@@ -8,7 +8,7 @@ use Rattle.check_evidence.specs.Places.{first_of, stamps_of}
 use Rattle.check_evidence.specs.Showing.{Shows, IsFirst, IsWhole}
 use Rattle.judge_evidence.specs.ShowingChains.{ShowsChains}
 use Rattle.judge_evidence.specs.ShowingLaws.{held_at, RecordsShowByChains, RecordsShowBefore}
-use Rattle.judge_evidence.proofs.StampTimes.{some_is}
+use Rattle.check_evidence.proofs.States.{some_is}
 use Rattle.judge_evidence.proofs.Before.{first_after, chains_show_before}
 
 -- its chains show it, whatever value they are of

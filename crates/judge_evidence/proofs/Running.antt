@@ -23,7 +23,7 @@ use Rattle.judge_evidence.specs.declared.run.Begun.{Begun}
 use Rattle.judge_evidence.specs.declared.run.Run.{Run}
 use Rattle.judge_evidence.proofs.Going.{first_begins, next_goes_on, last_ends}
 use Rattle.judge_evidence.proofs.Neighbours.{follows_next, none_follows, before_next, none_before, same_beside}
-use Rattle.judge_evidence.proofs.StampTimes.{some_is, passes_at}
+use Rattle.check_evidence.proofs.States.{some_is, passing_time}
 
 abbrev Objects : Type 0
 Objects = List (List ℕ)
@@ -168,7 +168,7 @@ module _ (g : Grounds) (ds : Objects) (chains : Chains) (p : Place) where
       → ((a : Begun) → run.begun ≡ Some a → c ≡ a)
       → IsRunPast g ds chains p after
   run_past run after alg m found c h f lapse is_alg is_before is_lapsed is_begun new old =
-      let time = passes_at (terms_of g) p.stamp (of_root alg f.imprints.root) m f.imprints.passes in
+      let time = passing_time (terms_of g) p.stamp (of_root alg f.imprints.root) m f.imprints.passes in
       record {
         there = h.there;
         alg = record {

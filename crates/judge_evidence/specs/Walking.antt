@@ -1,13 +1,16 @@
 -- What is answered while one goes through the archive time-stamps of a record.
 use Rattle.std.specs.Prelude.{◌≡◌, ⊤, ℕ, Bool, true, false, List, Option, MatchOption, Result, Ok, Err}
 use Rattle.devices.specs.Device.{raised}
+use Rattle.digests.specs.declared.algorithm.Alg.{Alg}
 use Rattle.check_fit.specs.declared.rules.DeviceFault.{DeviceFault}
 use Rattle.check_fit.specs.declared.rules.DeviceFault.TheVariants as device
 use Rattle.evidence_types.specs.StampValue.{StampValue}
+use Rattle.check_evidence.specs.CoveredValues.{AreValues}
 use Rattle.check_evidence.specs.Grounds.{Grounds}
 use Rattle.check_evidence.specs.Roots.{HasNoOthers}
 use Rattle.check_evidence.specs.Places.{Place, following}
 use Rattle.check_evidence.specs.Showing.{IsFirst, IsWhole}
+use Rattle.check_evidence.specs.declared.covered.Covered.{Covered}
 use Rattle.check_evidence.specs.declared.rules.EvidenceRefused.{EvidenceRefused}
 use Rattle.check_evidence.specs.declared.rules.EvidenceRefused.TheVariants as refused
 use Rattle.evidence_stamps.specs.StateValue.{StateValue, IsStateOf}
@@ -25,11 +28,13 @@ IsAhead p last ahead = MatchOption (following p) (last ≡ true)
 
 -- what the first of all shows, which has these lists and must cover these values: its moment, and whether other values
 -- stand in the first list, where none may
-pub record IsBegunBy (lists : Option (List (List (List ℕ)))) (covered : List (List ℕ)) (m : ℕ) (alone : Bool)
+pub record IsBegunBy (lists : Option (List (List (List ℕ)))) (alg : Alg) (covered : Covered) (m : ℕ) (alone : Bool)
     (b : Begun) : Type 0 where
   pub at : b.moment ≡ m
-  pub others : b.others ≡ true → (alone ≡ true) × (HasNoOthers lists covered → ⊥)
-  pub none : b.others ≡ false → alone ≡ true → HasNoOthers lists covered
+  pub others : b.others ≡ true → (alone ≡ true)
+      × ((due : List (List ℕ)) → AreValues alg covered due → HasNoOthers lists due → ⊥)
+  pub none : b.others ≡ false → alone ≡ true → (due : List (List ℕ)) → AreValues alg covered due
+      → HasNoOthers lists due
 
 -- the record is refused for this rule at a place, or for a device
 abbrev pub refused_at : (chain stamp : ℕ) → Unfit → EvidenceRefused

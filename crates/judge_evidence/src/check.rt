@@ -1,11 +1,13 @@
 //! The check of an evidence record (RFC 4998 5.3).
-ghost use Rattle.std.specs.Prelude.{◌≡◌, ℕ, List};
+ghost use Rattle.std.specs.Prelude.{◌≡◌, ℕ, List, Err};
+ghost use Rattle.check_fit.specs.declared.rules.DeviceFault.{DeviceFault};
 ghost use Rattle.evidence_types.specs.EvidenceValue.{EvidenceValue, EncodesEvidence};
 ghost use Rattle.check_verdict.specs.Asks.{AsksOnly};
 ghost use Rattle.check_evidence.specs.Grounds.{Grounds};
 ghost use Rattle.check_evidence.specs.Showing.{Shows};
 ghost use Rattle.judge_evidence.specs.Asking.{IsAskedOfRecord};
 ghost use Rattle.judge_evidence.specs.Data.{AreOfData, HaveWanted};
+ghost use Rattle.judge_evidence.specs.Ordering.{IsRecordOutOfOrder};
 ghost use Rattle.judge_evidence.specs.Terms.{grounds_of};
 ghost use Rattle.judge_evidence.specs.Walking.{CountsRefused};
 ghost use Rattle.judge_evidence.specs.RecordVerdicts.{IsOpened, IsOpenWithData, IsVerdict, IsDevice, ShowsOrDevice};
@@ -55,6 +57,7 @@ fn judge_record<V: Verifier>(
     ensures same { V.vouches verifier.new ≡ V.vouches verifier.old }
     ensures count { CountsRefused result (V.failures verifier.old) (V.failures verifier.new) }
     ensures device { IsDevice result → IsOpenWithData octets.now digests.now }
+    ensures memory { result ≡ Err (EvidenceRefused.Device DeviceFault.OutOfMemory) → IsRecordOutOfOrder octets.now }
 {
     let evidence = match opened(octets) {
         Ok(evidence) => evidence,
@@ -74,7 +77,7 @@ fn judge_record<V: Verifier>(
 ///
 /// Errors: V1 to V3 of the record; of the first archive time-stamp that doesn't fit the first of W1 to W5 that it
 /// fails; if all fit, of the first that doesn't last the first of W6 and W7; W8. X2 if the verifier fails; X4 if memory
-/// is refused: for the values that a time-stamp must cover, and to sort a list that is out of order.
+/// is refused to sort a list that is out of order.
 pub fn check_evidence<V: Verifier>(
     alloc: Global,
     octets: &[u8],
@@ -122,6 +125,8 @@ pub fn check_evidence<V: Verifier>(
     ensures count { CountsRefused result (V.failures verifier.old) (V.failures verifier.new) }
     // The verdict is X2 or X4 only if V1 to V3 hold.
     ensures device { IsDevice result → IsOpenWithData octets.now digests.now }
+    // It is X4 only if a list of the record is out of order.
+    ensures memory { result ≡ Err (EvidenceRefused.Device DeviceFault.OutOfMemory) → IsRecordOutOfOrder octets.now }
 {
     // No record both shows a moment and is refused.
     records_are_judged();

@@ -1,15 +1,15 @@
 //! The judgement of the chains of a record: one archive time-stamp after the other (RFC 4998 5.3).
-ghost use Rattle.std.specs.Prelude.{◌≡◌, ◌≢◌, ◌↔◌, ℕ, true, List, [], IsTrue, Some, None, IfOk, IfErr, IfSome, map};
+ghost use Rattle.std.specs.Prelude.{◌≡◌, ◌≢◌, ℕ, true, List, [], Some, None, IfOk, IfErr, IfSome};
 ghost use Rattle.std.specs.Prelude.{MatchOption, Err, false, if◌then◌else◌};
 ghost use Rattle.std.specs.Option.{option_copied};
 ghost use Rattle.devices.specs.Device.{Counts};
 ghost use Rattle.der_core.specs.Values.{HasLength};
-ghost use Rattle.digests.specs.Digests.{octets_of};
 ghost use Rattle.digests.specs.declared.algorithm.Alg.{Alg};
 ghost use Rattle.check_fit.specs.declared.rules.DeviceFault.{DeviceFault};
 ghost use Rattle.evidence_types.specs.StampValue.{StampValue};
 ghost use Rattle.evidence_types.specs.EvidenceValue.{chains_parts};
 ghost use Rattle.check_verdict.specs.Asks.{AsksOnly};
+ghost use Rattle.check_evidence.specs.CoveredValues.{AreValues, AreGiven};
 ghost use Rattle.check_evidence.specs.Grounds.{Grounds};
 ghost use Rattle.check_evidence.specs.Roots.{HasNoOthers};
 ghost use Rattle.check_evidence.specs.Places.{chain_number, stamp_number};
@@ -19,6 +19,7 @@ ghost use Rattle.evidence_stamps.specs.StateValue.{IsStateOf};
 ghost use Rattle.evidence_stamps.specs.PlaceValues.{IsChainAlg};
 ghost use Rattle.judge_evidence.specs.Asking.{IsAskedToLastAt, IsAskedAt, IsAskedOfChains};
 ghost use Rattle.judge_evidence.specs.Data.{AreOfData, HaveAlg, HaveWanted};
+ghost use Rattle.judge_evidence.specs.Ordering.{IsOutOfOrder, HasOutOfOrder};
 ghost use Rattle.judge_evidence.specs.Running.{KnowsChainAlg, IsRunAt, IsRunOver, IsFound, lapse_with};
 ghost use Rattle.judge_evidence.specs.Terms.{grounds_of, checker_of};
 ghost use Rattle.judge_evidence.specs.Walking.{IsAhead, IsChainsVerdict, IsRunOf, IsBegunBy, CountsRefused, refused_at};
@@ -28,11 +29,11 @@ use crate::lapsing::found_at;
 use crate::run::{Begun, Lapse, Run};
 use crate::stamp_place::StampPlace;
 use crate::terms::Terms;
-use check_evidence::{EvidenceRefused, StampRule, has_no_others};
+use check_evidence::{Covered, EvidenceRefused, StampRule, has_no_others};
 use check_fit::{DeviceFault, Policy};
 use check_verdict::Checker;
 use der_time::Moment;
-use digests::{Alg, Digest, WantedDigests};
+use digests::{Alg, WantedDigests};
 use evidence_stamps::{Around, Fit, TokenState, Unfit, alg_of, fit_of};
 use evidence_types::{ArchiveTimeStamp, Chains, HashLists};
 use list_answers::Verifier;
@@ -72,25 +73,27 @@ fn chain_alg(place: &StampPlace, its: Option<&TokenState>, known: Option<Alg>) -
 }
 
 // Whether other values stand in the first list, where none may.
-fn has_others(lists: Option<&HashLists>, covered: &[Digest], alone: bool) -> bool
-    ensures others { result ≡ true → (alone ≡ true)
-        × (HasNoOthers (option_copied lists.entry) (map octets_of covered.now) → ⊥) }
-    ensures none { result ≡ false → alone ≡ true
-        → HasNoOthers (option_copied lists.entry) (map octets_of covered.now) }
+fn has_others(lists: Option<&HashLists>, alg: Alg, covered: &Covered, alone: bool) -> bool
+    requires { AreGiven alg covered.now }
+    ensures others { result ≡ true → (alone ≡ true) × ((due : List (List ℕ)) → AreValues alg covered.now due
+        → HasNoOthers (option_copied lists.entry) due → ⊥) }
+    ensures none { result ≡ false → alone ≡ true → (due : List (List ℕ)) → AreValues alg covered.now due
+        → HasNoOthers (option_copied lists.entry) due }
 {
     if !alone {
         return false;
     }
-    !has_no_others(lists, covered)
+    !has_no_others(lists, alg, covered)
 }
 
-// What the first of all shows, which fits and must cover these digests.
-fn begun(place: &StampPlace, fit: &Fit, covered: &[Digest], alone: bool) -> Begun
-    ensures { IsBegunBy place.now.stamp.lists (map octets_of covered.now) fit.now.moment alone result }
+// What the first of all shows, which fits and must cover these values.
+fn begun(place: &StampPlace, fit: &Fit, covered: &Covered, alone: bool) -> Begun
+    requires { AreGiven fit.now.alg covered.now }
+    ensures { IsBegunBy place.now.stamp.lists fit.now.alg covered.now fit.now.moment alone result }
 {
     Begun {
         moment: fit.moment,
-        others: has_others(place.stamp().lists(), covered, alone),
+        others: has_others(place.stamp().lists(), fit.alg, covered, alone),
     }
 }
 
@@ -162,21 +165,22 @@ fn found_of<V: Verifier>(
     }
 }
 
-// What is known after a place that fits and must cover these digests.
+// What is known after a place that fits and must cover these values.
 fn run_past(
     place: &StampPlace,
     run: &Run,
     fit: &Fit,
     found: Option<StampRule>,
-    covered: &[Digest],
+    covered: &Covered,
     alone: bool,
 ) -> Run
+    requires { AreGiven fit.now.alg covered.now }
     ensures alg { result.alg ≡ Some fit.now.alg }
     ensures before { result.before ≡ Some fit.now.moment }
     ensures lapsed { result.lapsed ≡ lapse_with found (chain_number place.now) (stamp_number place.now)
         run.now.lapsed }
     ensures begun { MatchOption run.now.begun (IfSome result.begun (IsBegunBy place.now.stamp.lists
-        (map octets_of covered.now) fit.now.moment alone)) (λ b. result.begun ≡ Some b) }
+        fit.now.alg covered.now fit.now.moment alone)) (λ b. result.begun ≡ Some b) }
     ensures some { result.begun ≢ None }
 {
     let begun = match run.begun {
@@ -223,18 +227,17 @@ fn judge_at<V: Verifier>(
         (chains : List (List StampValue)) (data_objects : List (List ℕ)) → AreOfData digests.now data_objects
         → IsRunAt g data_objects chains place.now run.now
         → AsksOnly (λ test. V.asked_only test verifier.old verifier.new) (IsAskedAt g data_objects chains place.now) }
+    ensures memory { result ≡ Err (EvidenceRefused.Device DeviceFault.OutOfMemory) → IsOutOfOrder place.now.stamp }
     ensures same { V.vouches verifier.new ≡ V.vouches verifier.old }
     ensures count { CountsRefused result (V.failures verifier.old) (V.failures verifier.new) }
     ensures stays { checker.new ≡ checker.old }
 {
     let its = states.its.as_ref();
     let alg = chain_alg(place, its, run.alg);
-    let Ok(covered) = covered_at(alloc, place, alg, digests) else {
-        return Err(EvidenceRefused::Device(DeviceFault::OutOfMemory));
-    };
+    let covered = covered_at(place, alg, digests);
     let around = Around {
         alg,
-        covered: &covered,
+        covered,
         before: run.before,
         latest: latest_of(states.last, terms.at),
     };
@@ -291,6 +294,7 @@ pub(crate) fn judge_chains<V: Verifier>(
     ensures only { let g = grounds_of terms.now (V.vouches verifier.old) in (data_objects : List (List ℕ))
         → AreOfData digests.now data_objects
         → AsksOnly (λ test. V.asked_only test verifier.old verifier.new) (IsAskedOfChains g data_objects chains.now) }
+    ensures memory { result ≡ Err (EvidenceRefused.Device DeviceFault.OutOfMemory) → HasOutOfOrder chains.now }
     ensures same { V.vouches verifier.new ≡ V.vouches verifier.old }
     ensures count { CountsRefused result (V.failures verifier.old) (V.failures verifier.new) }
 {

@@ -1,10 +1,15 @@
-use Rattle.std.proofs.Common.{◌≡◌, map, drop}
 use Rattle.std.specs.List.{list_all}
 use Rattle.der_core.specs.Lists.{is_same}
-use Rattle.digests.specs.Digests.{octets_of}
+use Rattle.check_evidence.specs.CoveredValues.{AreGiven, how_many}
+use Rattle.check_evidence.proofs.Going.{StaysAsked}
 use Rattle.check_evidence.proofs.list_tests.are_same.Given as goal
 
--- all have the octets exactly if those that are left do
-abbrev pub invariant-loop-digest : goal.invariant-loop-digest
-invariant-loop-digest l = list_all (is_same l.octets) (map octets_of l.digests)
-    ≡ list_all (is_same l.octets) (map octets_of (drop l.digest-index l.digests))
+-- what is asked of all is asked of those that are left
+abbrev pub invariant-loop-value : goal.invariant-loop-value
+invariant-loop-value l = record {
+  given : AreGiven l.alg l.left;
+  stays : StaysAsked l.alg l.covered l.left (list_all (is_same l.octets));
+}
+
+abbrev pub decreases-loop-value : goal.decreases-loop-value
+decreases-loop-value l = how_many l.left

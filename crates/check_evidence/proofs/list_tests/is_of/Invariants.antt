@@ -1,9 +1,15 @@
-use Rattle.std.proofs.Common.{◌≡◌, map, drop}
-use Rattle.digests.specs.Digests.{octets_of}
-use Rattle.check_evidence.specs.ListTests.{is_among}
+use Rattle.std.specs.List.{list_any}
+use Rattle.der_core.specs.Lists.{is_same}
+use Rattle.check_evidence.specs.CoveredValues.{AreGiven, how_many}
+use Rattle.check_evidence.proofs.Going.{StaysAsked}
 use Rattle.check_evidence.proofs.list_tests.is_of.Given as goal
 
--- it is that of one of all exactly if it is that of one that is left
-abbrev pub invariant-loop-digest : goal.invariant-loop-digest
-invariant-loop-digest l = is_among (map octets_of l.digests) l.value
-    ≡ is_among (map octets_of (drop l.digest-index l.digests)) l.value
+-- what is asked of all is asked of those that are left
+abbrev pub invariant-loop-other : goal.invariant-loop-other
+invariant-loop-other l = record {
+  given : AreGiven l.alg l.left;
+  stays : StaysAsked l.alg l.covered l.left (list_any (is_same l.value));
+}
+
+abbrev pub decreases-loop-other : goal.decreases-loop-other
+decreases-loop-other l = how_many l.left

@@ -1,6 +1,5 @@
-use Rattle.std.proofs.Common.{◌≡◌, ◌∙◌, ℕ, List, Option, Some, None, Result, Ok, Err, map}
+use Rattle.std.proofs.Common.{◌≡◌, ◌∙◌, ℕ, List, Option, Some, None, Result, Ok, Err}
 use Rattle.std.proofs.Common.{sym, subst, rules}
-use Rattle.digests.specs.Digests.{octets_of}
 use Rattle.check_verdict.specs.Passing.{Terms, of_digest}
 use Rattle.check_verdict.specs.Asks.{AsksOnly}
 use Rattle.check_verdict.specs.Checkers.{terms_for}
@@ -17,9 +16,9 @@ use Rattle.evidence_stamps.proofs.fitting.fit_of.Goals as goal
 
 -- the digest is the root of its lists
 is_root : (g : Over) (c : After-moment_of g) → IsRootFor c.in-Some.alg c.args.stamp.now.lists
-    (map octets_of c.args.around.now.covered.now) c.in_ok-root.root
+    c.args.around.now.covered c.in_ok-root.root
 is_root g c = subst (λ (lists : Option (List (List (List ℕ)))). IsRootFor c.in-Some.alg lists
-    (map octets_of c.args.around.now.covered.now) c.in_ok-root.root) c.lists.ensures c.in_ok-root.ensures.root
+    c.args.around.now.covered c.in_ok-root.root) c.lists.ensures c.in_ok-root.ensures.root
 
 -- its token passes with a moment, or fails
 passes : (g : Over) (c : After-moment_of g) (h : Grounds)
@@ -35,10 +34,9 @@ passes g c h by =
 -- the verifier is asked about it alone
 asks : (g : Over) (c : After-moment_of g)
     → AsksOnly (λ test. g.V.Verifier.asked_only test c.args.verifier.now c.moment_of.new.verifier)
-    (IsAskedOfStamp c.args.checker.now c.args.stamp.now c.args.around.now.alg
-    (map octets_of c.args.around.now.covered.now))
+    (IsAskedOfStamp c.args.checker.now c.args.stamp.now c.args.around.now)
 asks g c = λ test tests. c.moment_of.ensures.only test (λ q about. tests q
-    (asked_of c.args.checker.now c.args.stamp.now c.args.around.now.alg (map octets_of c.args.around.now.covered.now)
+    (asked_of c.args.checker.now c.args.stamp.now c.args.around.now
     c.in-Some.alg c.in-Some.ensures.found.0 c.in-Some.ensures.found.1 c.in_ok-root.root (is_root g c)
     c.stamp-2.result.now c.stamp-2.ensures q about))
 

@@ -1,6 +1,4 @@
-use Rattle.std.proofs.Common.{◌≡◌, ◌≢◌, ℕ, List, [], All, map, refl, sym, ap, ◌∙◌, subst}
-use Rattle.digests.specs.Digests.{alg_of, octets_of}
-use Rattle.digests.specs.declared.value.Digest.{Digest}
+use Rattle.std.proofs.Common.{ℕ, List, refl, sym, ap}
 use Rattle.evidence_types.specs.StampValue.{StampValue}
 use Rattle.check_verdict.specs.Asks.{AsksOnly}
 use Rattle.check_verdict.specs.Checkers.{CheckerValue}
@@ -13,7 +11,7 @@ use Rattle.judge_evidence.specs.Data.{AreOfData}
 use Rattle.judge_evidence.specs.Running.{IsRunAt}
 use Rattle.judge_evidence.specs.Terms.{grounds_of}
 use Rattle.judge_evidence.proofs.Asked.{fit_asks, last_asks}
-use Rattle.judge_evidence.proofs.Judging.{unfit_run, device_run, fits_run, is_around, chain_is}
+use Rattle.judge_evidence.proofs.Judging.{unfit_run, device_run, fits_run, is_around}
 use Rattle.judge_evidence.proofs.Loops.{found_by}
 use Rattle.judge_evidence.proofs.walk.judge_at.Given.{Over}
 use Rattle.judge_evidence.proofs.walk.judge_at.Goals.{After-fit_of, After-found_of}
@@ -36,24 +34,24 @@ around_it : (g : Over) (c : After-fit_of g) (chains : List (List StampValue)) (d
     → AreOfData c.args.digests.now ds → IsRunAt (grounds g c) ds chains c.args.place.now c.args.run.now
     → IsAround (grounds g c) ds c.args.place.now (record {
       alg = c.chain_alg-alg.result;
-      covered = c.deref.result;
+      covered = c.covered_at-covered.result;
       before = c.args.run.now.before;
       latest = c.latest_of.result;
     })
 around_it g c chains ds are h =
-    let is : c.deref.result.now ≡ c.in-Ok.covered.items = cc in
-    is_around (grounds g c) ds c.args.place.now c.args.run.now.before c.chain_alg-alg.result c.deref.result
-    c.in-Ok.covered.items c.latest_of.result c.args.states.now.last c.args.states.now.ahead is
-    (c.chain_alg-alg.ensures.chain h.alg) (c.in-Ok.ensures.covered ds are) h.before c.latest_of.ensures
+    is_around (grounds g c) ds c.args.place.now c.args.run.now.before c.chain_alg-alg.result
+    c.covered_at-covered.result c.latest_of.result c.args.states.now.last c.args.states.now.ahead
+    (c.chain_alg-alg.ensures.chain h.alg) (c.covered_at-covered.ensures.covered ds are) h.before c.latest_of.ensures
     c.requires.ahead
 
 pub fit_of-requires-clause-well : goal.fit_of-requires-clause-well
-fit_of-requires-clause-well g c = λ a e.
-    let is : c.deref.result.now ≡ c.in-Ok.covered.items = cc in
-    record {
-      each = subst (λ (l : List Digest). All (λ (d : Digest). alg_of d ≡ a) l) (sym is) (c.in-Ok.ensures.each a e);
-      some = subst (λ (l : List Digest). l ≢ []) (sym is) (c.in-Ok.ensures.some a e);
-    }
+fit_of-requires-clause-well g c = λ a e. record {
+  given = c.covered_at-covered.ensures.given a e;
+  some = c.covered_at-covered.ensures.some;
+}
+
+pub run_past-requires : goal.run_past-requires
+run_past-requires g c = c.covered_at-covered.ensures.given c.in-Ok.fit.alg c.in-Ok.ensures.alg
 
 -- ---- what is answered
 
@@ -75,17 +73,14 @@ returns-clause-judged g c = λ chains ds are h.
     let at = (goal.at.returns-clause-judged g c).After-fit_of in
     let t : Grounds = grounds g at in
     let p = c.args.place.now in
-    let chain = c.chain_alg-alg.ensures.chain h.alg in
-    let f = c.in-Ok-fit_of.ensures.judged t ds p (sym c.stamp.ensures) (by_grounds g at)
+    let f = c.in-Ok.ensures.judged t ds p (sym c.stamp.ensures) (by_grounds g at)
     (around_it g at chains ds are h) in
-    let alg = c.in-Ok-fit_of.fit.alg in
-    let again : c.deref-2.result.now ≡ c.in-Ok.covered.items = cc in
-    let own = c.in-Ok.ensures.covered ds are alg (chain_is p c.chain_alg-alg.result alg chain f.is_alg) in
-    fits_run t ds chains p c.args.run.now c.run_past.result alg c.in-Ok-fit_of.fit.moment c.in-Ok-found_of.found
-    c.args.terms.now.whole (map octets_of c.deref-2.result.now) h f refl
-    (ap (λ (l : List Digest). map octets_of l) again ∙ own)
+    let alg = c.in-Ok.fit.alg in
+    let due = c.covered_at-covered.ensures.covered ds are alg c.in-Ok.ensures.alg in
+    fits_run t ds chains p c.args.run.now c.run_past.result alg c.in-Ok.fit.moment c.in-Ok-found_of.found
+    c.args.terms.now.whole c.covered_at-covered.result h f refl due
     (λ none. found_by c.args.terms.now (g.V.Verifier.vouches c.args.verifier.now)
-    (g.V.Verifier.vouches c.fit_of.new.verifier) p alg c.in-Ok-fit_of.fit.moment c.args.run.now.lapsed
+    (g.V.Verifier.vouches c.fit_of.new.verifier) p alg c.in-Ok.fit.moment c.args.run.now.lapsed
     c.in-Ok-found_of.found c.fit_of.ensures.same c.in-Ok-found_of.ensures.judged ds f none) c.run_past.ensures.alg
     c.run_past.ensures.before
     c.run_past.ensures.lapsed c.run_past.ensures.begun c.run_past.ensures.some
@@ -108,17 +103,14 @@ asks_then : (g : Over) (c : After-found_of g) (chains : List (List StampValue))
     → IsRunAt (grounds_of c.args.terms.now (g.V.Verifier.vouches c.args.verifier.now)) ds chains c.args.place.now
     c.args.run.now
     → FitsIn (grounds_of c.args.terms.now (g.V.Verifier.vouches c.args.verifier.now)) ds c.args.place.now
-    c.in-Ok-fit_of.fit.alg c.in-Ok-fit_of.fit.moment
+    c.in-Ok.fit.alg c.in-Ok.fit.moment
     → AsksOnly (λ test. g.V.Verifier.asked_only test c.fit_of.new.verifier c.found_of.new.verifier)
     (IsAskedAt (grounds_of c.args.terms.now (g.V.Verifier.vouches c.args.verifier.now)) ds chains c.args.place.now)
 asks_then g c chains ds h f =
     last_asks c.args.terms.now (g.V.Verifier.vouches c.args.verifier.now)
-    (g.V.Verifier.vouches c.fit_of.new.verifier) c.args.place.now c.args.run.now c.in-Ok-fit_of.fit.alg
-    c.in-Ok-fit_of.fit.moment (λ test. g.V.Verifier.asked_only test c.fit_of.new.verifier c.found_of.new.verifier)
+    (g.V.Verifier.vouches c.fit_of.new.verifier) c.args.place.now c.args.run.now c.in-Ok.fit.alg
+    c.in-Ok.fit.moment (λ test. g.V.Verifier.asked_only test c.fit_of.new.verifier c.found_of.new.verifier)
     c.fit_of.ensures.same c.found_of.ensures.only chains ds h f
-
-pub returns-in_default-clause-only : goal.returns-in_default-clause-only
-returns-in_default-clause-only g c = λ chains ds are h test tests. g.V.Verifier.asked_nothing test _
 
 pub returns-in-Err-clause-only : goal.returns-in-Err-clause-only
 returns-in-Err-clause-only g c = asks_first g (goal.at.returns-in-Err-clause-only g c).After-fit_of
@@ -126,7 +118,7 @@ returns-in-Err-clause-only g c = asks_first g (goal.at.returns-in-Err-clause-onl
 pub returns-in-Err-found_of-clause-only : goal.returns-in-Err-found_of-clause-only
 returns-in-Err-found_of-clause-only g c = λ chains ds are h test tests.
     let at = goal.at.returns-in-Err-found_of-clause-only g c in
-    let f = c.in-Ok-fit_of.ensures.judged (grounds g at.After-fit_of) ds c.args.place.now (sym c.stamp.ensures)
+    let f = c.in-Ok.ensures.judged (grounds g at.After-fit_of) ds c.args.place.now (sym c.stamp.ensures)
     (by_grounds g at.After-fit_of) (around_it g at.After-fit_of chains ds are h) in
     g.V.Verifier.asked_further test _ _ _ (asks_first g at.After-fit_of chains ds are h test tests)
     (asks_then g at.After-found_of chains ds h f test tests)
@@ -134,7 +126,7 @@ returns-in-Err-found_of-clause-only g c = λ chains ds are h test tests.
 pub returns-clause-only : goal.returns-clause-only
 returns-clause-only g c = λ chains ds are h test tests.
     let at = goal.at.returns-clause-only g c in
-    let f = c.in-Ok-fit_of.ensures.judged (grounds g at.After-fit_of) ds c.args.place.now (sym c.stamp.ensures)
+    let f = c.in-Ok.ensures.judged (grounds g at.After-fit_of) ds c.args.place.now (sym c.stamp.ensures)
     (by_grounds g at.After-fit_of) (around_it g at.After-fit_of chains ds are h) in
     g.V.Verifier.asked_further test _ _ _ (asks_first g at.After-fit_of chains ds are h test tests)
     (asks_then g at.After-found_of chains ds h f test tests)

@@ -1,31 +1,17 @@
-//! What an archive time-stamp that renews others must cover (RFC 4998 5.2).
-ghost use Rattle.std.specs.Prelude.{◌≡◌, ◌≢◌, ◌++◌, ℕ, List, [], true};
+ghost use Rattle.std.specs.Prelude.{◌≡◌, ◌≢◌, ◌++◌, ℕ, List, []};
 ghost use Rattle.der_core.specs.Element.{el};
 ghost use Rattle.der_core.specs.Values.{HasLength};
 ghost use Rattle.digests.specs.Digests.{alg_of, octets_of};
 ghost use Rattle.digests.specs.Messages.{digest_of};
-ghost use Rattle.digests.specs.Selection.{FedWanted, set_of};
-ghost use Rattle.digests.specs.Sets.{is_in};
 ghost use Rattle.evidence_types.specs.StampValue.{StampValue};
 ghost use Rattle.evidence_types.specs.EvidenceValue.{chains_parts};
 ghost use Rattle.check_evidence.specs.Covering.{covered_of};
 
+use crate::hashing::finish;
 use der_core::header;
 use der_core::tags::SEQUENCE;
 use digests::{Alg, Algs, Digest, Wanted, digest};
 use evidence_types::ArchiveTimeStamp;
-
-// The digest of what was fed.
-fn finish(alg: Alg, hashers: Wanted) -> Digest
-    requires { is_in alg (set_of hashers) ≡ true }
-    ensures algorithm { alg_of result ≡ alg }
-    ensures octets { (m : List ℕ) → FedWanted hashers m → octets_of result ≡ digest_of alg m }
-{
-    match hashers.finish().of(alg) {
-        Some(digest) => digest,
-        None => unreachable!(),
-    }
-}
 
 // The digest of two pieces, one after the other.
 fn digest_of_both(alg: Alg, first: &[u8], then: &[u8]) -> Digest

@@ -11,3 +11,4 @@ pub mod Renewed
 pub mod Standing
 pub mod RootStamps
 pub mod StandsOn
+pub mod Already

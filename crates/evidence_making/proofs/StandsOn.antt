@@ -50,12 +50,12 @@ Chains = List (List StampValue)
 
 -- ---- the last
 
-last_end : {A : Type 0} (o : Option A) (front : List A) (x : A) → last_or o (front ++ x ∷ []) ≡ Some x
+pub last_end : {A : Type 0} (o : Option A) (front : List A) (x : A) → last_or o (front ++ x ∷ []) ≡ Some x
 last_end o [] x = refl
 last_end o (y ∷ front) x = last_end (Some y) front x
 
 -- a last element that is found is at the end
-found_end : {A : Type 0} (xs : List A) (x : A) (h : HasEnd xs) → last_or None xs ≡ Some x → x ≡ h.end
+pub found_end : {A : Type 0} (xs : List A) (x : A) (h : HasEnd xs) → last_or None xs ≡ Some x → x ≡ h.end
 found_end {A} xs x h e =
     some_is x h.end (last_or None xs) e (ap (λ (l : List A). last_or None l) h.is ∙ last_end None h.front h.end)
 
@@ -172,7 +172,7 @@ module _ (chains : Chains) (p : Place) (there : IsIn chains p) (is_last : IsLast
 
 -- ---- refusals
 
-not_open : (o : Option EncryptionValue) → o ≡ None → IsSome o → ⊥
+pub not_open : (o : Option EncryptionValue) → o ≡ None → IsSome o → ⊥
 not_open None e h = absurd cc
 not_open (Some x) e h = absurd cc
 
@@ -341,7 +341,7 @@ module _ (octets : List ℕ) (v : EvidenceValue) (is : EncodesEvidence octets v 
   without_moment h = inr (of_record EndsWithoutTime h)
 
 -- of one that isn't
-never_encoded : (octets : List ℕ) (fault : Fault) → Faults (file evidence_record) octets fault → (v : EvidenceValue)
+pub never_encoded : (octets : List ℕ) (fault : Fault) → Faults (file evidence_record) octets fault → (v : EvidenceValue)
     → EncodesEvidence octets v → ⊥
 never_encoded octets fault has v encodes =
     refuted (file evidence_record) octets fault evidence_record_clear (evidence_encodes octets v encodes) has

@@ -9,4 +9,6 @@ pub mod Stamping
 pub mod StampSteps
 pub mod Leaves
 pub mod LeafSteps
+pub mod Done
+pub mod DoneSteps
 pub mod Rows

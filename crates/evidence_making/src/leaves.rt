@@ -35,7 +35,7 @@ pub struct LastStamp {
 }
 
 // The record that the octets encode, whose data are open.
-fn opened<'a>(octets: &'a [u8]) -> Result<EvidenceRecord<'a>, LeafFault>
+pub(crate) fn opened<'a>(octets: &'a [u8]) -> Result<EvidenceRecord<'a>, LeafFault>
     ensures { IsOpened octets.now result }
 {
     let record = match record_in(octets) {
@@ -56,7 +56,7 @@ struct ChainEnds<'a> {
 }
 
 // The last chain.
-fn last_chain<'a>(chains: &Chains<'a>) -> Chain<'a>
+pub(crate) fn last_chain<'a>(chains: &Chains<'a>) -> Chain<'a>
     requires { chains.now ≢ [] }
     ensures { last_or None chains.now ≡ Some result }
 {
@@ -71,7 +71,7 @@ fn last_chain<'a>(chains: &Chains<'a>) -> Chain<'a>
 }
 
 // The last archive time-stamp of a chain.
-fn last_in<'a>(chain: &Chain<'a>) -> ArchiveTimeStamp<'a>
+pub(crate) fn last_in<'a>(chain: &Chain<'a>) -> ArchiveTimeStamp<'a>
     requires { chain.now ≢ [] }
     ensures { last_or None chain.now ≡ Some result }
 {
@@ -86,7 +86,7 @@ fn last_in<'a>(chain: &Chain<'a>) -> ArchiveTimeStamp<'a>
 }
 
 // The first archive time-stamp of a chain.
-fn first_in<'a>(chain: &Chain<'a>) -> ArchiveTimeStamp<'a>
+pub(crate) fn first_in<'a>(chain: &Chain<'a>) -> ArchiveTimeStamp<'a>
     requires { chain.now ≢ [] }
     ensures { first_of chain.now ≡ Some result }
 {
@@ -110,7 +110,7 @@ fn ends_of<'a>(chains: &Chains<'a>) -> ChainEnds<'a>
 }
 
 // The algorithm of an archive time-stamp.
-fn alg_in(stamp: &ArchiveTimeStamp) -> Option<Alg>
+pub(crate) fn alg_in(stamp: &ArchiveTimeStamp) -> Option<Alg>
     ensures { MatchOption result ((alg : Alg) → HasAlg stamp.now alg → ⊥) (HasAlg stamp.now) }
 {
     let state = TokenState::read(stamp.stamp());
@@ -118,7 +118,7 @@ fn alg_in(stamp: &ArchiveTimeStamp) -> Option<Alg>
 }
 
 // The moment of an archive time-stamp.
-fn moment_in(stamp: &ArchiveTimeStamp) -> Option<Moment>
+pub(crate) fn moment_in(stamp: &ArchiveTimeStamp) -> Option<Moment>
     ensures { MatchOption result ((m : ℕ) → HasTime stamp.now m → ⊥) (HasTime stamp.now) }
 {
     let state = TokenState::read(stamp.stamp())?;

@@ -3,6 +3,7 @@
 #![tactic(auto)]
 
 mod algorithm;
+mod done;
 mod fault;
 mod frame;
 mod headers;
@@ -21,6 +22,7 @@ mod stamping;
 #[cfg(test)]
 mod tests;
 
+pub use done::{rehashed_by, renewed_by};
 pub use fault::{LeafFault, MakeFault, RenewFault, StampFault};
 pub use laws::{
     made_records_show, making_rows_hold, new_stamps_stand, renewed_records_show,

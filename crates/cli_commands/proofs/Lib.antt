@@ -1,5 +1,6 @@
 pub mod Held
 pub mod Malformed
+pub mod Undone
 pub mod Nonces
 pub mod Shown
 pub mod Fitting

@@ -23,7 +23,10 @@ fault_told (failure.MalformedMessage m fault) before after ends told =
     inl (record { message = Some m; fault = fault; line = told })
 fault_told (failure.Trust fault) before after ends told = inr (inl (fault, told))
 fault_told (failure.Answers fault) before after ends told = inr (inr (inl (fault, told)))
-fault_told (failure.Uncompared why) before after ends told = inr (inr (inr (why, ends, told)))
+fault_told (failure.Uncompared why) before after ends told = inr (inr (inr (inl (why, ends, told))))
+fault_told (failure.Sums fault) before after ends told = inr (inr (inr (inr (fault, ends, told))))
+fault_told (failure.Unstamping why) before after ends told = absurd (let no : ⊥ = cc in no)
+fault_told (failure.Unmade why) before after ends told = absurd (let no : ⊥ = cc in no)
 fault_told failure.Different before after ends told = absurd (let no : ⊥ = cc in no)
 fault_told failure.Collision before after ends told = absurd (let no : ⊥ = cc in no)
 fault_told (failure.Unattached why) before after ends told = absurd (let no : ⊥ = cc in no)
@@ -57,6 +60,8 @@ fault_told (failure.Open path) before after ends told = absurd (let no : ⊥ = c
 fault_told (failure.Read path) before after ends told = absurd (let no : ⊥ = cc in no)
 fault_told (failure.Size path) before after ends told = absurd (let no : ⊥ = cc in no)
 fault_told (failure.Write path) before after ends told = absurd (let no : ⊥ = cc in no)
+fault_told (failure.Unput path) before after ends told = absurd (let no : ⊥ = cc in no)
+fault_told (failure.Taken path) before after ends told = absurd (let no : ⊥ = cc in no)
 fault_told failure.Memory before after ends told = absurd (let no : ⊥ = cc in no)
 
 pub refusal_told : (f : Failure) (before after : Option (List ℕ)) → status_of f ≡ status.Refused
@@ -66,7 +71,7 @@ refusal_told failure.NotText before after ends told = absurd (let no : ⊥ = cc 
 refusal_told failure.NotSignedData before after ends told = inl told
 refusal_told (failure.Unmatched why) before after ends told = inr (inl (why, told))
 refusal_told (failure.Refused why) before after ends told =
-    inr (inr (inr (inr (inr (inr (inr (inr (why, ends, told))))))))
+    inr (inr (inr (inr (inr (inr (inr (inr (inr (why, ends, told)))))))))
 refusal_told failure.Different before after ends told = inr (inr (inr (inl (inl told))))
 refusal_told failure.Collision before after ends told = inr (inr (inr (inl (inr told))))
 refusal_told (failure.Uncompared why) before after ends told = inr (inr (inr (inr (inl (why, ends, told)))))
@@ -74,6 +79,12 @@ refusal_told (failure.Unattached why) before after ends told = inr (inr (inr (in
 refusal_told (failure.Unstamped why) before after ends told = inr (inr (inr (inr (inr (inr (inl (why, told)))))))
 refusal_told (failure.Unshown why) before after ends told =
     inr (inr (inr (inr (inr (inr (inr (inl (why, ends, told))))))))
+refusal_told (failure.Sums fault) before after ends told =
+    inr (inr (inr (inr (inr (inr (inr (inr (inl (inl (fault, ends, told))))))))))
+refusal_told (failure.Unstamping why) before after ends told =
+    inr (inr (inr (inr (inr (inr (inr (inr (inl (inr (inl (why, told)))))))))))
+refusal_told (failure.Unmade why) before after ends told =
+    inr (inr (inr (inr (inr (inr (inr (inr (inl (inr (inr (why, told)))))))))))
 refusal_told (failure.Unasked questions.NotSignedData) before after ends told = inr (inr (inl told))
 refusal_told (failure.Unasked (questions.Malformed fault)) before after ends told = absurd (let no : ⊥ = cc in no)
 refusal_told (failure.Unasked questions.WriteFailed) before after ends told = absurd (let no : ⊥ = cc in no)
@@ -86,6 +97,8 @@ refusal_told (failure.Open path) before after ends told = absurd (let no : ⊥ =
 refusal_told (failure.Read path) before after ends told = absurd (let no : ⊥ = cc in no)
 refusal_told (failure.Size path) before after ends told = absurd (let no : ⊥ = cc in no)
 refusal_told (failure.Write path) before after ends told = absurd (let no : ⊥ = cc in no)
+refusal_told (failure.Unput path) before after ends told = absurd (let no : ⊥ = cc in no)
+refusal_told (failure.Taken path) before after ends told = absurd (let no : ⊥ = cc in no)
 refusal_told failure.Memory before after ends told = absurd (let no : ⊥ = cc in no)
 
 -- the same of a failure that was reported

@@ -18,9 +18,15 @@ use Rattle.check_fit.specs.declared.rules.TokenRule.{TokenRule}
 use Rattle.check_fit.specs.RuleTexts.{refused_text, token_rule_text}
 use Rattle.check_evidence.specs.declared.rules.EvidenceRefused.{EvidenceRefused}
 use Rattle.check_evidence.specs.EvidenceTexts.{evidence_refused_text}
+use Rattle.evidence_sums.specs.declared.sums_fault.SumsFault.{SumsFault}
+use Rattle.evidence_sums.specs.FaultTexts.{sums_fault_text}
+use Rattle.evidence_making.specs.declared.fault.MakeFault.{MakeFault}
+use Rattle.evidence_making.specs.declared.fault.StampFault.{StampFault}
+use Rattle.evidence_making.specs.FaultTexts.{make_fault_text, stamp_fault_text}
 use Rattle.cli_failures.specs.declared.status.Status.{Status}
 use Rattle.cli_failures.specs.declared.status.Status.TheVariants as status
-use Rattle.cli_failures.specs.Failures.{said, malformed_line, refused_status, uncompared_status, unshown_status}
+use Rattle.cli_failures.specs.Failures.{said, malformed_line, refused_status, sums_status, uncompared_status}
+use Rattle.cli_failures.specs.Failures.{unshown_status}
 
 -- a writer took the line of a fault, if what it takes is known
 pub record TellsFault (before after : Option (List ℕ)) : Type 0 where
@@ -44,10 +50,17 @@ abbrev pub TellsUncompared : Status → (before after : Option (List ℕ)) → T
 TellsUncompared ends before after = (why : CompareFault) × (uncompared_status why.rule ≡ ends)
     × Appends before after (compare_fault_text why ++ (10 ∷ []))
 
+-- a writer took the line of a file of sums that isn't read, with which a command ends with this status, if what it
+-- takes is known
+abbrev pub TellsSums : Status → (before after : Option (List ℕ)) → Type 0
+TellsSums ends before after = (fault : SumsFault) × (sums_status fault.rule ≡ ends)
+    × Appends before after (sums_fault_text fault ++ (10 ∷ []))
+
 -- a writer took the line of a file that isn't of its form, if what it takes is known
 abbrev pub TellsMalformed : (before after : Option (List ℕ)) → Type 0
 TellsMalformed before after = TellsFault before after ⊎ (TellsTrustFault before after
-    ⊎ (TellsAnswersFault before after ⊎ TellsUncompared status.Malformed before after))
+    ⊎ (TellsAnswersFault before after ⊎ (TellsUncompared status.Malformed before after
+    ⊎ TellsSums status.Malformed before after)))
 
 -- a writer took the line of a file that isn't a SignedData, if what it takes is known
 abbrev pub TellsAnotherType : (before after : Option (List ℕ)) → Type 0
@@ -82,10 +95,24 @@ abbrev pub TellsUnshown : (before after : Option (List ℕ)) → Type 0
 TellsUnshown before after = (why : EvidenceRefused) × (unshown_status why ≡ status.Refused)
     × Appends before after (evidence_refused_text why ++ (10 ∷ []))
 
+-- a writer took the line of a rule by which a token can't be the stamp of a root, if what it takes is known
+abbrev pub TellsUnstamping : (before after : Option (List ℕ)) → Type 0
+TellsUnstamping before after = (why : StampFault) × Appends before after
+    (said (codes "refused") (stamp_fault_text why))
+
+-- a writer took the line of a rule by which no evidence record is made, if what it takes is known
+abbrev pub TellsUnmade : (before after : Option (List ℕ)) → Type 0
+TellsUnmade before after = (why : MakeFault) × Appends before after (said (codes "refused") (make_fault_text why))
+
+-- a writer took the line of a rule by which evidence records are not made, if what it takes is known
+abbrev pub TellsMaking : (before after : Option (List ℕ)) → Type 0
+TellsMaking before after = TellsSums status.Refused before after
+    ⊎ (TellsUnstamping before after ⊎ TellsUnmade before after)
+
 -- a writer took the line of a rule that refuses a file, if what it takes is known
 abbrev pub TellsRefusal : (before after : Option (List ℕ)) → Type 0
 TellsRefusal before after = TellsAnotherType before after
     ⊎ (TellsUnmatched before after ⊎ (TellsUnasked before after
     ⊎ (TellsUnlike before after ⊎ (TellsUncompared status.Refused before after ⊎ (TellsUnattached before after
-    ⊎ (TellsUnstamped before after ⊎ (TellsUnshown before after ⊎ ((why : Refused)
-    × (refused_status why ≡ status.Refused) × Appends before after (refused_text why ++ (10 ∷ []))))))))))
+    ⊎ (TellsUnstamped before after ⊎ (TellsUnshown before after ⊎ (TellsMaking before after ⊎ ((why : Refused)
+    × (refused_status why ≡ status.Refused) × Appends before after (refused_text why ++ (10 ∷ [])))))))))))

@@ -10,12 +10,15 @@ use crate::lists;
 use crate::output::put_questions;
 use crate::rereading::{Describes, Rereadable};
 use crate::room::{Rooms, limit_of};
+use check_fit::{DeviceFault, Refused};
+use check_stream::StreamQuestionsFault;
 use cli_failures::{Failure, files};
 use cli_tasks::QuestionsWords;
-use cmsproof_api::{DeviceFault, Pass, Refused, StreamQuestionsFault, Trust};
+use cms_stream::Pass;
 use std::alloc::{AllocError, Global};
 use std::io::{Read, Seek, Write};
 use std::rt::Files;
+use trust_lists::Trust;
 
 /// Prints the text of the questions of the file that these words name, as they are found (decision 112 of
 /// `docs/DECISIONS.md`).

@@ -4,9 +4,11 @@ ghost use Rattle.cli_commands.specs.Attaching.{LacksMemoryToAttach, failure_of_a
 
 use cli_failures::{Failure, files};
 use cli_tasks::AttachWords;
-use cmsproof_api::{AttachFault, CmsFault, FromWrite};
+use cms_types::CmsFault;
+use devices::FromWrite;
 use std::alloc::Global;
 use std::rt::Files;
+use tsp_requester::AttachFault;
 
 /// Attaches the token to the signer of the file that these words name, and then writes the file with it.
 ///
@@ -44,7 +46,7 @@ fn attached<'a>(
         ⊎ TellsNotAttached file.now signer token.now f) }
 {
     let mut octets = FromWrite::new(Vec::new(alloc));
-    match cmsproof_api::attach(file, signer, token, &mut octets) {
+    match tsp_requester::attach(file, signer, token, &mut octets) {
         Ok(()) => Ok(octets.into_inner()),
         Err(fault) => Err(failure_of(fault)),
     }

@@ -13,12 +13,15 @@ ghost use Rattle.lines_report.specs.VerdictLine.{IsVerdictLine};
 use crate::lists;
 use crate::rereading::{Describes, Rereadable};
 use crate::room::{Rooms, limit_of};
+use check_fit::{DeviceFault, Policy, Refused};
+use check_stream::{check_stream_by, check_stream_with};
+use check_verdict::{Accepted, Checker};
 use cli_failures::{Failure, files};
 use cli_tasks::CheckWords;
-use cmsproof_api::{
-    Accepted, Answers, Checker, DeviceFault, FromWrite, Pass, Policy, Refused, Source,
-    check_stream_by, check_stream_with, report,
-};
+use cms_stream::Pass;
+use devices::{FromWrite, Source};
+use lines_report::report;
+use list_answers::Answers;
 use std::alloc::{AllocError, Global};
 use std::io::{Read, Seek};
 use std::rt::Files;

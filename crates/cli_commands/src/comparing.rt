@@ -3,7 +3,7 @@ ghost use Rattle.cli_commands.specs.Comparing.{IsSameLine, LacksMemoryToTell, Sh
 
 use cli_failures::{Failure, files};
 use cli_tasks::CompareWords;
-use cmsproof_api::Compared;
+use cms_compare::Compared;
 use std::alloc::Global;
 use std::rt::Files;
 
@@ -41,7 +41,7 @@ fn text_of<'a>(
     ensures unlike { IfErr result (λ f. LacksMemoryToTell first.now first_signer second.now second_signer f
         ⊎ TellsUnlike first.now first_signer second.now second_signer f) }
 {
-    match cmsproof_api::compare(first, first_signer, second, second_signer) {
+    match cms_compare::compare(first, first_signer, second, second_signer) {
         Ok(Compared::Same) => Ok(String::from_str(alloc, "same\n")?.into_bytes()),
         Ok(Compared::Different) => Err(Failure::Different),
         Ok(Compared::Collision) => Err(Failure::Collision),

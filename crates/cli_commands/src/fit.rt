@@ -5,9 +5,10 @@ ghost use Rattle.check_fit.specs.declared.rules.Refused.{Refused};
 ghost use Rattle.check_fit.specs.FileFitting.{facts_of, IsReading, FitsFile};
 ghost use Rattle.cli_commands.specs.Fit.{ShowsFit, ShowsUnfit, TellsFits, TellsUnfit};
 
+use check_fit::{Policy, fits};
 use cli_failures::{Failure, files};
 use cli_tasks::FitWords;
-use cmsproof_api::{Policy, Source, fits};
+use devices::Source;
 use std::alloc::Global;
 use std::rt::Files;
 

@@ -2,8 +2,9 @@ ghost use Rattle.std.specs.Prelude.{IfErr, IfOk};
 ghost use Rattle.cli_commands.specs.Lists.{IsAnswersOf, IsFailureOfAnswers, IsFailureOfTrust, IsTrustOf};
 
 use cli_failures::{Failure, files};
-use cmsproof_api::{Answers, Trust};
+use list_answers::Answers;
 use std::rt::Files;
+use trust_lists::Trust;
 
 /// The trust list that the file of this path holds.
 #[tactic(auto, using(crate::proofs::ListFaults::no_trust))]

@@ -5,9 +5,10 @@ ghost use Rattle.cli_failures.specs.declared.failure.Failure.TheVariants.{Memory
 use crate::lists;
 use cli_failures::{Failure, files};
 use cli_tasks::MigrateWords;
-use cmsproof_api::{FromWrite, Trust};
+use devices::FromWrite;
 use std::alloc::Global;
 use std::rt::Files;
+use trust_lists::Trust;
 
 /// Reads the trust list, of either version, and then writes it as a text of version 2 into the file that should take
 /// it.

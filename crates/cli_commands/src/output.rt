@@ -3,10 +3,12 @@ ghost use Rattle.check_stream.specs.StreamQuestions.{CountsReads};
 ghost use Rattle.cli_commands.specs.Asking.{AsksPass};
 
 use crate::rereading::Rereadable;
-use cmsproof_api::{
-    Pass, QuestionsFault, Sink, SinkFault, StreamQuestionsFault, Trust, questions_stream,
-};
+use check_questions::QuestionsFault;
+use check_stream::{StreamQuestionsFault, questions_stream};
+use cms_stream::Pass;
+use devices::{Sink, SinkFault};
 use std::io::{Read, Write};
+use trust_lists::Trust;
 
 /// A borrowed writer as a sink: the octets go straight to it.
 ///

@@ -15,7 +15,8 @@ ghost use Rattle.cli_commands.specs.Requests.{IsRequestOf, IsRequestWritten};
 
 use cli_failures::{Failure, files, request, signature};
 use cli_tasks::{RequestWords, Stamped};
-use cmsproof_api::{Alg, Digest, Int};
+use der_core::Int;
+use digests::{Alg, Digest};
 use list_answers::Digits;
 use std::alloc::Global;
 use std::rt::Files;
@@ -175,16 +176,30 @@ fn digest_of<'a>(alloc: Global, name: &str, digits: &str) -> Result<Digest, Fail
     }
 }
 
-fn alg_of<'a>(name: &str) -> Result<Alg, Failure<'a>>
+/// The algorithm of this name.
+///
+/// Errors: `Usage`, which names `alg`, if there is none.
+pub fn alg_of<'a>(name: &str) -> Result<Alg, Failure<'a>>
+    // It has this name.
     ensures found { IfOk result (λ alg. name.now ≡ name_of alg) }
+    // No algorithm has the name.
     ensures refused { IfErr result (RefusesAlg name.now) }
 {
     Alg::named(name).ok_or(Failure::Usage("alg"))
 }
 
-fn policy_contents<'a>(alloc: Global, text: Option<&str>) -> Result<Option<Vec<u8>>, Failure<'a>>
+/// The contents of the object identifier that a text states, for the policy of a request, if there is one.
+///
+/// Errors: `Usage`, which names `policy`, if it states none; memory is refused.
+pub fn policy_contents<'a>(
+    alloc: Global,
+    text: Option<&str>,
+) -> Result<Option<Vec<u8>>, Failure<'a>>
+    // They are those of the identifier that the text states.
     ensures found { IfOk result (λ found. IsPolicy (option_copied text.entry) (option_map (λ v. v.items) found)) }
+    // It states none, or memory was refused.
     ensures refused { IfErr result (λ f. (f ≡ Failure.Memory) ⊎ RefusesPolicy (option_copied text.entry) f) }
+    // They are contents of an OBJECT IDENTIFIER.
     ensures formed { IfOk result (λ found. IfSome found (λ v. is_oid v.items ≡ true)) }
 {
     let Some(text) = text else {
@@ -193,10 +208,19 @@ fn policy_contents<'a>(alloc: Global, text: Option<&str>) -> Result<Option<Vec<u
     Ok(Some(request::policy_of(alloc, text)?))
 }
 
+/// The contents of the INTEGER that hexadecimal digits state, for the nonce of a request, if there are any.
+///
+/// Errors: `Usage`, which names `nonce`, if they state none; memory is refused.
 #[tactic(auto, using(crate::proofs::Nonces::refuses_nonce))]
-fn nonce_contents<'a>(alloc: Global, digits: Option<&str>) -> Result<Option<Vec<u8>>, Failure<'a>>
+pub fn nonce_contents<'a>(
+    alloc: Global,
+    digits: Option<&str>,
+) -> Result<Option<Vec<u8>>, Failure<'a>>
+    // They are the octets that the digits state.
     ensures found { IfOk result (λ found. IsInHex (option_copied digits.entry) (option_map (λ v. v.items) found)) }
+    // The digits state none, or memory was refused.
     ensures refused { IfErr result (λ f. (f ≡ Failure.Memory) ⊎ RefusesNonce (option_copied digits.entry) f) }
+    // They are contents of an INTEGER.
     ensures formed { IfOk result (λ found. IfSome found (λ v. is_integer v.items ≡ true)) }
 {
     let Some(digits) = digits else {
@@ -210,7 +234,8 @@ fn nonce_contents<'a>(alloc: Global, digits: Option<&str>) -> Result<Option<Vec<
     }
 }
 
-fn nonce_in<'c>(contents: &'c Option<Vec<u8>>) -> Option<Int<'c>>
+/// The nonce of these contents, if there are any.
+pub fn nonce_in<'c>(contents: &'c Option<Vec<u8>>) -> Option<Int<'c>>
     requires { IfSome contents.now (λ v. is_integer v.items ≡ true) }
     ensures { result ≡ option_map (λ v. v.items) contents.now }
 {

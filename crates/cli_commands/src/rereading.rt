@@ -3,7 +3,9 @@ ghost use Rattle.std.specs.declared.fs.Metadata.{Metadata};
 ghost use Rattle.devices.specs.Device.{Counts};
 ghost use Rattle.cli_commands.specs.Rereading.{IsAtFront, IsKnown, States};
 
-use cmsproof_api::{Algs, Pass, Source, SourceFault};
+use cms_stream::Pass;
+use devices::{Source, SourceFault};
+use digests::Algs;
 use std::fs::{Metadata, OpenFile};
 use std::io::{Read, Seek};
 

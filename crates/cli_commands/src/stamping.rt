@@ -7,14 +7,15 @@ ghost use Rattle.cli_commands.specs.Stamping.{HasNoStampQuestions, IsVerdictOf};
 
 use crate::checking::line_of;
 use crate::lists;
+use check_fit::{Policy, Refused, TokenRefused};
+use check_questions::{QuestionsFault, token_questions};
+use check_verdict::{Accepted, Checker, Stamp, judge_stamp_of};
 use cli_failures::token::stamp_in;
 use cli_failures::{Failure, files};
 use cli_tasks::{StampQuestionsWords, StampWords};
-use cmsproof_api::{
-    Accepted, Checker, FromRead, FromWrite, Policy, QuestionsFault, Refused, Stamp, TokenRefused,
-    Trust, judge_stamp_of, token_questions,
-};
+use devices::{FromRead, FromWrite};
 use std::rt::Files;
+use trust_lists::Trust;
 
 /// The line that says by when the file of these words existed, if its stamp passes.
 ///

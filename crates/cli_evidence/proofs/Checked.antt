@@ -1,6 +1,6 @@
 -- What is said of an evidence record that was checked.
 use Rattle.std.proofs.Common.{◌≡◌, ◌⊎◌, ℕ, Bool, List, Option, Result, Ok, Err, refl, inl, inr, codes}
-use Rattle.std.specs.Prelude.{Any, IfErr, IfOk, MatchResult}
+use Rattle.std.specs.Prelude.{Any, IfErr, IfOk, IsSomeAnd, MatchResult}
 use Rattle.devices.specs.Device.{raised}
 use Rattle.check_fit.specs.declared.rules.DeviceFault.{DeviceFault}
 use Rattle.check_fit.specs.declared.rules.DeviceFault.TheVariants as device
@@ -12,17 +12,19 @@ use Rattle.check_evidence.specs.Refusing.{Refuses}
 use Rattle.check_evidence.specs.declared.rules.EvidenceRefused.{EvidenceRefused}
 use Rattle.check_evidence.specs.declared.rules.EvidenceRefused.TheVariants as refused
 use Rattle.judge_evidence.specs.Data.{AreOfData}
-use Rattle.judge_evidence.specs.RecordVerdicts.{IsVerdict}
+use Rattle.judge_evidence.specs.Ordering.{IsRecordOutOfOrder}
+use Rattle.judge_evidence.specs.RecordVerdicts.{IsVerdict, IsWanted}
 use Rattle.judge_evidence.specs.Walking.{CountsRefused}
 use Rattle.cli_tasks.specs.declared.task.EvidenceWords.{EvidenceWords}
 use Rattle.cli_failures.specs.declared.failure.Failure.{Failure}
 use Rattle.cli_failures.specs.declared.failure.Failure.TheVariants as failure
 use Rattle.cli_failures.specs.Causes.{Names}
-use Rattle.cli_failures.specs.Ends.{StatesNoEnd}
+use Rattle.cli_failures.specs.Ends.{StatesNoEnd, StatesNoTime}
 use Rattle.cli_failures.specs.Files.{IsFailureToOpen, IsHeld}
-use Rattle.cli_commands.specs.Lists.{IsAnswersOf, IsTrustOf}
+use Rattle.cli_commands.specs.Lists.{IsAnswersOf, IsFailureOfAnswers, IsFailureOfTrust, IsTrustOf}
 use Rattle.cli_commands.specs.Stamping.{IsUnread}
-use Rattle.cli_evidence.specs.Checking.{AcceptsData, AreEndsIn, IsChecked, IsFault, IsGrounds, IsMomentAt, RefusesData}
+use Rattle.cli_evidence.specs.Checking.{AcceptsData, AreEndsIn, AreEndsStated, AreStated, IsChecked, IsFault}
+use Rattle.cli_evidence.specs.Checking.{IsGrounds, IsMomentAt, IsRefusal, RefusesData, RefusesRecord}
 use Rattle.cli_evidence.specs.Digesting.{AreDigested, IsUndigested, TellsUnwanted}
 use Rattle.cli_evidence.proofs.Unopened.{unopened}
 use Rattle.cli_evidence.specs.Verdicts.{TellsAccepted, TellsRefused}
@@ -45,32 +47,53 @@ grounds_by trust vouched ends at whole = record {
 
 -- ---- before the record is judged
 
-module _ {F : Type 0} (holds : F → Option (List ℕ)) (words : EvidenceWords) (f : Failure) where
-  no_memory : f ≡ failure.Memory → RefusesData holds words f
-  no_memory is = inr (inl (inl (inl is)))
+as_fault : {F : Type 0} (holds : F → Option (List ℕ)) (fault : DeviceFault) → IsUnread holds fault
+    → IsFault holds fault
+as_fault holds device.ReadFailed unread = unread
+as_fault holds device.ContentTooLong unread = unread
+as_fault holds device.AskFailed unread = unread
+as_fault holds device.TooLong unread = unread
+as_fault holds device.OutOfMemory unread = absurd unread
 
+module _ {F : Type 0} (holds : F → Option (List ℕ)) (words : EvidenceWords) (f : Failure) where
   pub ends_refused : (f ≡ failure.Memory)
       ⊎ (Names (codes "end") f × Any (λ word. StatesNoEnd word.now) words.ends.items) → RefusesData holds words f
-  ends_refused (inl is) = no_memory is
-  ends_refused (inr states) = inl (inl states)
+  ends_refused (inl is) = inl is
+  ends_refused (inr states) = inr (inl (inl states))
 
-  pub wanted_refused : (octets : List ℕ) → IsHeld holds octets → TellsUnwanted octets f → RefusesData holds words f
-  wanted_refused octets held (failed, fails, is) =
-      inr (inr (inr (inr (inl (unopened holds octets failed held f fails is)))))
+  pub at_refused : AreEndsStated words → Names (codes "at") f × IsSomeAnd words.at (λ text. StatesNoTime text.now)
+      → RefusesData holds words f
+  at_refused ends (named, none) = inr (inl (inr (named, ends, none)))
 
-  as_fault : (fault : DeviceFault) → IsUnread holds fault → IsFault holds fault
-  as_fault device.ReadFailed unread = unread
-  as_fault device.ContentTooLong unread = unread
-  as_fault device.AskFailed unread = unread
-  as_fault device.TooLong unread = unread
-  as_fault device.OutOfMemory unread = tt
+  module _ (stated : AreStated words) where
+    pub trust_refused : IsFailureOfTrust holds words.trust f → RefusesData holds words f
+    trust_refused fails = inr (inr (stated, inl fails))
 
-  pub data_refused : (f ≡ failure.Memory)
-      ⊎ (Any (λ path. IsFailureToOpen path f) words.data.items ⊎ IsUndigested holds f) → RefusesData holds words f
-  data_refused (inl is) = no_memory is
-  data_refused (inr (inl opens)) = inr (inr (inr (inr (inr (inl opens)))))
-  data_refused (inr (inr (fault, unread, is))) =
-      inr (inr (inr (inr (inr (inr (inl (fault, as_fault fault unread, is)))))))
+    module _ (trust : List EntryValue) (trusted : IsTrustOf holds trust) where
+      pub answers_refused : IsFailureOfAnswers holds words.answers f → RefusesData holds words f
+      answers_refused fails = inr (inr (stated, inr (trust, trusted, inl fails)))
+
+      module _ (vouched : List Asked) (answered : IsAnswersOf holds vouched) where
+        pub record_refused : RefusesRecord holds words f → RefusesData holds words f
+        record_refused fails = inr (inr (stated, inr (trust, trusted, inr (vouched, answered, fails))))
+
+        module _ (octets : List ℕ) (held : IsHeld holds octets) where
+          pub wanted_refused : TellsUnwanted octets f → RefusesData holds words f
+          wanted_refused (failed, fails, is) =
+              record_refused (inr (inl (unopened holds octets failed held f fails is)))
+
+          module _ (wanted : Algs) (is_wanted : IsWanted octets (Ok wanted)) where
+            pub open_refused : Any (λ path. IsFailureToOpen path f) words.data.items ⊎ IsRefusal holds words f
+                → RefusesData holds words f
+            open_refused fails = record_refused (inr (inr (octets, wanted, held, is_wanted, fails)))
+
+            pub data_refused : (f ≡ failure.Memory)
+                ⊎ (Any (λ path. IsFailureToOpen path f) words.data.items ⊎ IsUndigested holds f)
+                → RefusesData holds words f
+            data_refused (inl is) = inl is
+            data_refused (inr (inl opens)) = open_refused (inl opens)
+            data_refused (inr (inr (fault, unread, is))) =
+                open_refused (inr (inl (fault, as_fault holds fault unread, is)))
 
 -- ---- the verdict
 
@@ -94,8 +117,11 @@ module _ {F : Type 0} (holds : F → Option (List ℕ)) (words : EvidenceWords) 
       whole = refl;
     }
 
-    module _ (octets : List ℕ) (held : IsHeld holds octets) (wanted : Algs) (digests : List WantedDigests)
-        (digested : AreDigested holds wanted words.data.items digests) where
+    are_stated : AreStated words
+    are_stated = ((ends, stated), (at, moment))
+
+    module _ (octets : List ℕ) (held : IsHeld holds octets) (wanted : Algs) (is_wanted : IsWanted octets (Ok wanted))
+        (digests : List WantedDigests) (digested : AreDigested holds wanted words.data.items digests) where
       abbrev Judged : Result ℕ EvidenceRefused → Type 0
       Judged verdict = (data_objects : List (List ℕ)) → AreOfData digests data_objects
           → IsVerdict g octets data_objects verdict
@@ -109,21 +135,26 @@ module _ {F : Type 0} (holds : F → Option (List ℕ)) (words : EvidenceWords) 
 
       refusal : (why : EvidenceRefused) (f : Failure) → Refuses g octets digested.data_objects why
           → f ≡ failure.Unshown why → RefusesData holds words f
-      refusal why f refuses is =
-          inr (inr (inr (inr (inr (inr (inr (g, octets, digested.data_objects, why, checked, refuses, is)))))))
+      refusal why f refuses is = open_refused holds words f are_stated trust trusted vouched answered octets held
+          wanted is_wanted (inr (inr (g, octets, digested.data_objects, why, checked, refuses, is)))
+
+      -- X4 is told of a record with a list out of order
+      abbrev Sorts : Result ℕ EvidenceRefused → Type 0
+      Sorts verdict = verdict ≡ Err (refused.Device device.OutOfMemory) → IsRecordOutOfOrder octets
 
       refused_by : (why : EvidenceRefused) (f : Failure) → IsVerdict g octets digested.data_objects (Err why)
-          → CountsRefused (let r : Result ℕ EvidenceRefused = Err why in r) 0 0
+          → CountsRefused (let r : Result ℕ EvidenceRefused = Err why in r) 0 0 → Sorts (Err why)
           → f ≡ failure.Unshown why → RefusesData holds words f
-      refused_by (refused.Record failed) f refuses counts is = refusal (refused.Record failed) f refuses is
-      refused_by (refused.Stamp chain stamp failed) f refuses counts is =
+      refused_by (refused.Record failed) f refuses counts sorts is = refusal (refused.Record failed) f refuses is
+      refused_by (refused.Stamp chain stamp failed) f refuses counts sorts is =
           refusal (refused.Stamp chain stamp failed) f refuses is
-      refused_by (refused.Device device.OutOfMemory) f fault counts is =
-          inr (inr (inr (inr (inr (inr (inl (device.OutOfMemory, tt, is)))))))
-      refused_by (refused.Device device.AskFailed) f fault counts is = absurd (never_raised counts)
-      refused_by (refused.Device device.ReadFailed) f fault counts is = absurd fault
-      refused_by (refused.Device device.TooLong) f fault counts is = absurd fault
-      refused_by (refused.Device device.ContentTooLong) f fault counts is = absurd fault
+      refused_by (refused.Device device.OutOfMemory) f fault counts sorts is =
+          open_refused holds words f are_stated trust trusted vouched answered octets held wanted is_wanted
+          (inr (inl (device.OutOfMemory, (octets, held, sorts refl), is)))
+      refused_by (refused.Device device.AskFailed) f fault counts sorts is = absurd (never_raised counts)
+      refused_by (refused.Device device.ReadFailed) f fault counts sorts is = absurd fault
+      refused_by (refused.Device device.TooLong) f fault counts sorts is = absurd fault
+      refused_by (refused.Device device.ContentTooLong) f fault counts sorts is = absurd fault
 
       module _ {T : Type 0} (bytes : T → List ℕ) where
         abbrev Told : Result T Failure → Result ℕ EvidenceRefused → Type 0
@@ -144,8 +175,8 @@ module _ {F : Type 0} (holds : F → Option (List ℕ)) (words : EvidenceWords) 
         accepts (Err why) (Ok l) judged told = absurd told
 
         pub refuses : (verdict : Result ℕ EvidenceRefused) (r : Result T Failure) → Judged verdict
-            → CountsRefused verdict 0 0 → Told r verdict → IfErr r (RefusesData holds words)
-        refuses verdict (Ok l) judged counts told = tt
-        refuses (Ok m) (Err f) judged counts told = inr (inl (inl (inl told)))
-        refuses (Err why) (Err f) judged counts told =
-            refused_by why f (judged digested.data_objects digested.are) counts told
+            → CountsRefused verdict 0 0 → Sorts verdict → Told r verdict → IfErr r (RefusesData holds words)
+        refuses verdict (Ok l) judged counts sorts told = tt
+        refuses (Ok m) (Err f) judged counts sorts told = inl told
+        refuses (Err why) (Err f) judged counts sorts told =
+            refused_by why f (judged digested.data_objects digested.are) counts sorts told

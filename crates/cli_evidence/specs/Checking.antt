@@ -8,7 +8,9 @@ use Rattle.std.specs.Borrow.{Bor}
 use Rattle.std.specs.List.{AllZip}
 use Rattle.check_fit.specs.declared.rules.DeviceFault.{DeviceFault}
 use Rattle.check_fit.specs.declared.rules.DeviceFault.TheVariants as device
+use Rattle.digests.specs.declared.set.Algs.{Algs}
 use Rattle.trust_lists.specs.Asking.{Asked, is_among}
+use Rattle.trust_lists.specs.Entries.{EntryValue}
 use Rattle.list_answers.specs.AnswersText.{answers_of}
 use Rattle.check_evidence.specs.Grounds.{AlgEnd, Grounds}
 use Rattle.check_evidence.specs.Showing.{Shows}
@@ -16,6 +18,8 @@ use Rattle.check_evidence.specs.Refusing.{RecordFails, Refuses}
 use Rattle.check_evidence.specs.declared.rules.RecordRule.{RecordRule}
 use Rattle.check_evidence.specs.declared.rules.EvidenceRefused.{EvidenceRefused}
 use Rattle.check_evidence.specs.declared.rules.EvidenceRefused.TheVariants as refused
+use Rattle.judge_evidence.specs.Ordering.{IsRecordOutOfOrder}
+use Rattle.judge_evidence.specs.RecordVerdicts.{IsWanted}
 use Rattle.lines_report.specs.VerdictLine.{IsVerdictLine}
 use Rattle.cli_tasks.specs.declared.task.EvidenceWords.{EvidenceWords}
 use Rattle.cli_failures.specs.declared.failure.Failure.{Failure}
@@ -24,7 +28,7 @@ use Rattle.cli_failures.specs.Causes.{Names}
 use Rattle.cli_failures.specs.Ends.{IsEndIn, IsTimeIn, StatesNoEnd, StatesNoTime}
 use Rattle.cli_failures.specs.Files.{IsFailureToOpen, IsFailureToRead, IsHeld}
 use Rattle.cli_commands.specs.Judging.{IsContentHeld}
-use Rattle.cli_commands.specs.Lists.{IsTrustOf, IsFailureOfTrust, IsFailureOfAnswers}
+use Rattle.cli_commands.specs.Lists.{IsAnswersOf, IsTrustOf, IsFailureOfTrust, IsFailureOfAnswers}
 use Rattle.cli_commands.specs.Stamping.{IsUnread}
 
 -- the words state these ends of algorithms, in their order
@@ -67,10 +71,18 @@ AcceptsData holds words text = (g : Grounds) × (octets : List ℕ) × (data_obj
 
 -- ---- why it is not accepted
 
--- a word states no end of an algorithm, or no moment
+-- the words state ends of algorithms
+abbrev pub AreEndsStated : EvidenceWords → Type 0
+AreEndsStated words = (ends : List AlgEnd) × AreEndsIn words.ends.items ends
+
+-- a word states no end of an algorithm; or the words for ends do, and the one for the moment states none
 abbrev pub IsUnstated : EvidenceWords → Failure → Type 0
 IsUnstated words f = (Names (codes "end") f × Any (λ word. StatesNoEnd word.now) words.ends.items)
-    ⊎ (Names (codes "at") f × IsSomeAnd words.at (λ text. StatesNoTime text.now))
+    ⊎ (Names (codes "at") f × AreEndsStated words × IsSomeAnd words.at (λ text. StatesNoTime text.now))
+
+-- the words state ends and, where one is given, a moment
+abbrev pub AreStated : EvidenceWords → Type 0
+AreStated words = AreEndsStated words × ((at : Option ℕ) × IsMomentAt words.at at)
 
 -- V1 or V2: the record of a file fails a rule, whatever the data are
 abbrev pub IsUnopened : {F : Type 0} → (holds : F → Option (List ℕ)) → Failure → Type 0
@@ -78,9 +90,10 @@ IsUnopened holds f = (octets : List ℕ) × (failed : RecordRule) × IsHeld hold
     × ((data_objects : List (List ℕ)) → RecordFails octets data_objects failed)
     × (f ≡ failure.Unshown (refused.Record failed))
 
--- X1 or X5: a file of data isn't read to its end; X4: memory was refused
+-- X1 or X5: a file of data isn't read to its end; X4: memory was refused to sort a list of the record, which a file
+-- holds and which has one out of order
 abbrev pub IsFault : {F : Type 0} → (holds : F → Option (List ℕ)) → DeviceFault → Type 0
-IsFault holds device.OutOfMemory = Unit {0}
+IsFault holds device.OutOfMemory = (octets : List ℕ) × IsHeld holds octets × IsRecordOutOfOrder octets
 IsFault holds fault = IsUnread holds fault
 
 -- a device failed, or the record is refused
@@ -89,9 +102,23 @@ IsRefusal holds words f = ((fault : DeviceFault) × IsFault holds fault × (f �
     ⊎ ((g : Grounds) × (octets : List ℕ) × (data_objects : List (List ℕ)) × (why : EvidenceRefused)
     × IsChecked holds words g octets data_objects × Refuses g octets data_objects why × (f ≡ failure.Unshown why))
 
--- a word isn't as it must be, a list's file fails or isn't a list, a file can't be opened or read, memory runs out, or
--- the record is refused
+-- the data of an open record, which a file holds: a file of them can't be opened, a device failed, or the record is
+-- refused
+abbrev pub RefusesOpen : {F : Type 0} → (holds : F → Option (List ℕ)) → EvidenceWords → Failure → Type 0
+RefusesOpen holds words f = (octets : List ℕ) × (wanted : Algs) × IsHeld holds octets × IsWanted octets (Ok wanted)
+    × (Any (λ path. IsFailureToOpen path f) words.data.items ⊎ IsRefusal holds words f)
+
+-- the file of the record can't be read, V1, V2, or its data have a fault
+abbrev pub RefusesRecord : {F : Type 0} → (holds : F → Option (List ℕ)) → EvidenceWords → Failure → Type 0
+RefusesRecord holds words f = IsFailureToRead words.record f ⊎ (IsUnopened holds f ⊎ RefusesOpen holds words f)
+
+-- a list's file can't be read or isn't a list, the trust list's first; or both are read, and the record is refused
+abbrev pub RefusesLists : {F : Type 0} → (holds : F → Option (List ℕ)) → EvidenceWords → Failure → Type 0
+RefusesLists holds words f = IsFailureOfTrust holds words.trust f
+    ⊎ ((trust : List EntryValue) × IsTrustOf holds trust × (IsFailureOfAnswers holds words.answers f
+    ⊎ ((vouched : List Asked) × IsAnswersOf holds vouched × RefusesRecord holds words f)))
+
+-- memory runs out; or the first of these fails: the words for ends, the one for the moment, the trust list, the answers
+-- list, the record, the files of data, and what the record shows
 abbrev pub RefusesData : {F : Type 0} → (holds : F → Option (List ℕ)) → EvidenceWords → Failure → Type 0
-RefusesData holds words f = IsUnstated words f ⊎ (IsFailureOfTrust holds words.trust f
-    ⊎ (IsFailureOfAnswers holds words.answers f ⊎ (IsFailureToRead words.record f ⊎ (IsUnopened holds f
-    ⊎ (Any (λ path. IsFailureToOpen path f) words.data.items ⊎ IsRefusal holds words f)))))
+RefusesData holds words f = (f ≡ failure.Memory) ⊎ (IsUnstated words f ⊎ (AreStated words × RefusesLists holds words f))

@@ -8,14 +8,18 @@ ghost use Rattle.cli_evidence.specs.Checking.{AcceptsData, AreEndsIn, IsMomentAt
 ghost use Rattle.cli_evidence.specs.Digesting.{AreDigested, IsDigested, IsUndigested, TellsUnwanted};
 ghost use Rattle.cli_evidence.specs.Verdicts.{TellsAccepted, TellsRefused};
 
+use check_evidence::EvidenceRefused;
+use check_fit::digests_from;
+use check_verdict::Accepted;
 use cli_commands::{answers_in, line_of, trust_in};
 use cli_failures::ends::{end_of, moment_of};
 use cli_failures::{Failure, files};
 use cli_tasks::EvidenceWords;
-use cmsproof_api::{
-    Accepted, Algs, End, EvidenceRefused, FromRead, Moment, WantedDigests, check_evidence,
-    digests_from, wanted_by,
-};
+use der_time::Moment;
+use devices::FromRead;
+use digests::{Algs, WantedDigests};
+use evidence_stamps::End;
+use judge_evidence::{check_evidence, wanted_by};
 use std::alloc::Global;
 use std::rt::Files;
 

@@ -1,5 +1,5 @@
-//! What `evidence check` and `evidence questions` do: the files that they read, what they print of evidence records
-//! (RFC 4998), and how they end.
+//! What the commands about evidence records (RFC 4998) do: what `evidence check` and `evidence questions` print of a
+//! record, and how these and those that make records (`cli_making`) end.
 #![tactic(auto)]
 
 mod check;

@@ -3,11 +3,14 @@ ghost use Rattle.std.specs.Prelude.{IfErr, IfOk};
 ghost use Rattle.cli_commands.specs.Lists.{IsTrustOf};
 ghost use Rattle.cli_evidence.specs.Questions.{HasNoRecordQuestions, ShowsNoRecordQuestions, ShowsRecordQuestions};
 
+use check_evidence::EvidenceRefused;
 use cli_commands::trust_in;
 use cli_failures::{Failure, files};
 use cli_tasks::EvidenceQuestionsWords;
-use cmsproof_api::{EvidenceRefused, FromWrite, RecordQuestionsFault, Trust, questions_of_record};
+use devices::FromWrite;
+use evidence_questions::{RecordQuestionsFault, questions_of_record};
 use std::rt::Files;
+use trust_lists::Trust;
 
 /// The text of the questions of the evidence record that these words name.
 ///

@@ -1,21 +1,26 @@
-//! What a command about an evidence record does: its text is made first, and then printed.
-ghost use Rattle.std.specs.Prelude.{◌≡◌, ◌⊎◌, ℕ, List, IfErr, IfOk};
+//! What a command about evidence records does: its text is made first, and then printed.
+ghost use Rattle.std.specs.Prelude.{◌≡◌, ◌≢◌, ◌⊎◌, ℕ, List, IfErr, IfOk, OnOk};
 ghost use Rattle.std.specs.Io.KnownBytes.{Appends};
+ghost use Rattle.cli_tasks.specs.declared.task.MakeWords.{MakeWords};
+ghost use Rattle.cli_tasks.specs.declared.task.RootRequestWords.{RootRequestWords};
 ghost use Rattle.cli_failures.specs.declared.failure.Failure.{Failure};
 ghost use Rattle.cli_failures.specs.Failures.{failure_text, status_of};
 ghost use Rattle.cli_failures.specs.Output.{Begins};
 ghost use Rattle.cli_commands.specs.Telling.{TellsMalformed, TellsRefusal};
+ghost use Rattle.cli_making.specs.Making.{AreRecordsWritten};
+ghost use Rattle.cli_making.specs.Requesting.{IsRootRequestWritten};
 ghost use Rattle.cli_evidence.specs.Tasks.{FailsBy, IsDoneBy, StopsBy};
 
 use crate::check::check_record;
 use crate::questions::record_questions;
 use cli_failures::output::put;
 use cli_failures::{Failure, Status};
+use cli_making::{make_records, make_root_request};
 use cli_tasks::EvidenceTask;
 use std::io::Write;
 use std::rt::Files;
 
-/// Does a task about an evidence record, and reports how it ended.
+/// Does a task about evidence records, and reports how it ended.
 ///
 /// What was requested goes to `out`; the reason why something was not done goes to `err`. The octets of files are what
 /// `rt` gives.
@@ -27,6 +32,15 @@ where
     // With `Done` the output took what this task prints of what files hold, if it is known what it takes.
     ensures done { result ≡ Status.Done → (text : List ℕ) × IsDoneBy R.File.remaining task.now text
         × Appends (O.contents out.old) (O.contents out.new) text }
+    // A request that was to be made was written.
+    ensures requested { (words : RootRequestWords) → task.now ≡ EvidenceTask.Request words → result ≡ Status.Done
+        → IsRootRequestWritten R.File.remaining R.File.contents words }
+    // It was not written into the file of the sums, by their paths.
+    ensures apart { (words : RootRequestWords) → task.now ≡ EvidenceTask.Request words → result ≡ Status.Done
+        → words.out.now ≢ words.sums.now }
+    // The records that were to be made were written.
+    ensures made { (words : MakeWords) → task.now ≡ EvidenceTask.Make words → result ≡ Status.Done
+        → AreRecordsWritten R.File.remaining R.File.contents words }
     // Why a record is refused is printed, and is a failure of this task.
     ensures told { (result ≡ Status.Malformed) ⊎ (result ≡ Status.Refused) → (f : Failure)
         × FailsBy R.File.remaining task.now f × (status_of f ≡ result)
@@ -60,21 +74,32 @@ fn text_of<'a, R: Files + AllocGlobal>(
     task: &EvidenceTask<'a>,
 ) -> Result<Vec<u8>, Failure<'a>>
     ensures done { IfOk result (λ text. IsDoneBy R.File.remaining task.now text.items) }
+    ensures requested { (words : RootRequestWords) → task.now ≡ EvidenceTask.Request words
+        → OnOk result (IsRootRequestWritten R.File.remaining R.File.contents words) }
+    ensures apart { (words : RootRequestWords) → task.now ≡ EvidenceTask.Request words
+        → OnOk result (words.out.now ≢ words.sums.now) }
+    ensures made { (words : MakeWords) → task.now ≡ EvidenceTask.Make words
+        → OnOk result (AreRecordsWritten R.File.remaining R.File.contents words) }
     ensures failed { IfErr result (FailsBy R.File.remaining task.now) }
 {
     match task {
         EvidenceTask::Check(words) => check_record(rt, words),
         EvidenceTask::Questions(words) => record_questions(rt, words),
+        EvidenceTask::Request(words) => make_root_request(rt, words),
+        EvidenceTask::Make(words) => make_records(rt, words),
     }
 }
 
-/// Prints the octets of a text.
+/// Prints the octets of a text; of an empty one nothing.
 fn put_text<O: Write, E: Write>(text: &[u8], out: &mut O, err: &mut E) -> Status
     ensures status { (result ≡ Status.Done) ⊎ (result ≡ Status.Failed) }
     ensures told { result ≡ Status.Done → Appends (O.contents out.old) (O.contents out.new) text.now }
     ensures cut { result ≡ Status.Failed → Begins (O.contents out.old) (O.contents out.new) text.now }
     ensures quiet { result ≡ Status.Done → err.new ≡ err.old }
 {
+    if text.is_empty() {
+        return Status::Done;
+    }
     match put(out, text) {
         Ok(()) => Status::Done,
         Err(lost) => lost.report_error(err),

@@ -27,6 +27,13 @@ use Rattle.check_evidence.specs.declared.rules.RecordRule.TheVariants as record_
 use Rattle.check_evidence.specs.declared.rules.EvidenceRefused.{EvidenceRefused}
 use Rattle.check_evidence.specs.declared.rules.EvidenceRefused.TheVariants as evidence
 use Rattle.check_evidence.specs.EvidenceTexts.{evidence_refused_text}
+use Rattle.evidence_sums.specs.declared.sums_fault.SumsFault.{SumsFault}
+use Rattle.evidence_sums.specs.declared.sums_fault.SumsRule.{SumsRule}
+use Rattle.evidence_sums.specs.declared.sums_fault.SumsRule.TheVariants as sums
+use Rattle.evidence_sums.specs.FaultTexts.{sums_fault_text}
+use Rattle.evidence_making.specs.declared.fault.MakeFault.{MakeFault}
+use Rattle.evidence_making.specs.declared.fault.MakeFault.TheVariants as making
+use Rattle.evidence_making.specs.FaultTexts.{make_fault_text, stamp_fault_text}
 use Rattle.tsp_requester.specs.AttachFaultTexts.{attach_fault_text}
 use Rattle.cms_compare.specs.declared.fault.CompareRule.{CompareRule}
 use Rattle.cms_compare.specs.declared.fault.CompareRule.TheVariants as compare
@@ -71,10 +78,15 @@ failure_text (failure.Uncompared why) = compare_fault_text why ++ (10 ∷ [])
 failure_text (failure.Unattached why) = said (codes "refused") (attach_fault_text why)
 failure_text (failure.Answers fault) = said (codes "answers") (answers_fault_text fault)
 failure_text (failure.Trust fault) = said (codes "trust") (trust_fault_text fault)
+failure_text (failure.Sums fault) = sums_fault_text fault ++ (10 ∷ [])
+failure_text (failure.Unstamping why) = said (codes "refused") (stamp_fault_text why)
+failure_text (failure.Unmade why) = said (codes "refused") (make_fault_text why)
 failure_text (failure.Open path) = said (codes "failed open") path.now
 failure_text (failure.Read path) = said (codes "failed read") path.now
 failure_text (failure.Size path) = said (codes "failed size") path.now
 failure_text (failure.Write path) = said (codes "failed write") path.now
+failure_text (failure.Unput path) = said (codes "failed write") (string_bytes path)
+failure_text (failure.Taken path) = said (codes "failed replace") (string_bytes path)
 failure_text failure.Memory = said (codes "failed") (codes "memory")
 
 -- a file that isn't a ContentInfo is malformed, a device fails, and anything else is refused by a rule
@@ -99,6 +111,14 @@ abbrev pub uncompared_status : CompareRule → Status
 uncompared_status (compare.Malformed (cms.Malformed fault)) = status.Malformed
 uncompared_status _ = status.Refused
 
+-- a file of sums that isn't of its form is malformed, and a name in it is refused
+abbrev pub sums_status : SumsRule → Status
+sums_status sums.Line = status.Malformed
+sums_status sums.Empty = status.Malformed
+sums_status sums.Name = status.Refused
+sums_status sums.NameTwice = status.Refused
+sums_status sums.OutOfMemory = status.Failed
+
 abbrev pub status_of : Failure → Status
 status_of (failure.Words text) = status.Usage
 status_of failure.NotText = status.Usage
@@ -117,10 +137,15 @@ status_of (failure.Uncompared why) = uncompared_status why.rule
 status_of (failure.Unattached why) = status.Refused
 status_of (failure.Trust fault) = status.Malformed
 status_of (failure.Answers fault) = status.Malformed
+status_of (failure.Sums fault) = sums_status fault.rule
+status_of (failure.Unstamping why) = status.Refused
+status_of (failure.Unmade why) = status.Refused
 status_of (failure.Open path) = status.Failed
 status_of (failure.Read path) = status.Failed
 status_of (failure.Size path) = status.Failed
 status_of (failure.Write path) = status.Failed
+status_of (failure.Unput path) = status.Failed
+status_of (failure.Taken path) = status.Failed
 status_of failure.Memory = status.Failed
 
 -- of the line of a failure with which a command ends so, what goes to the standard output: all, or nothing if the line
@@ -163,3 +188,15 @@ failure_by_rule _ fault = failure.Answers fault
 
 abbrev pub failure_of_answers : AnswersFault → Failure
 failure_of_answers fault = failure_by_rule fault.rule fault
+
+abbrev pub failure_by_sums : SumsRule → SumsFault → Failure
+failure_by_sums sums.OutOfMemory fault = failure.Memory
+failure_by_sums _ fault = failure.Sums fault
+
+abbrev pub failure_of_sums : SumsFault → Failure
+failure_of_sums fault = failure_by_sums fault.rule fault
+
+-- the failure of a command for which no record was made: a lack of memory is no rule
+abbrev pub failure_of_making : MakeFault → Failure
+failure_of_making making.TooLong = failure.Unmade making.TooLong
+failure_of_making making.OutOfMemory = failure.Memory

@@ -1,8 +1,14 @@
--- How opening and reading a file fails, and what is read of one.
-use Rattle.std.specs.Prelude.{◌≡◌, ◌⊎◌, ℕ, List, Option, IfSome}
+-- How opening, reading and writing a file fails, what is read of one, and what is put below a folder.
+use Rattle.std.specs.Prelude.{◌≡◌, ◌≢◌, ◌⊎◌, ◌++◌, ⊤, ℕ, List, Option, IfSome, codes}
 use Rattle.std.specs.Borrow.{Bor}
+use Rattle.std.specs.String.{string_bytes}
+use Rattle.std.specs.Io.KnownBytes.{Appends}
+use Rattle.lines_shown.specs.ResponseLines.{shown_text}
 use Rattle.cli_failures.specs.declared.failure.Failure.{Failure}
+use Rattle.cli_failures.specs.declared.failure.Failure.TheVariants as failure
 use Rattle.cli_failures.specs.declared.failure.Failure.TheVariants.{Open, Read, Size, Memory}
+use Rattle.cli_failures.specs.declared.folder.Found.{Found}
+use Rattle.cli_failures.specs.declared.folder.Found.TheVariants as found
 
 -- the failure if a file can't be opened, which names the file, or memory ran out
 abbrev pub IsFailureToOpen : (path : Bor (List ℕ)) → Failure → Type 0
@@ -15,3 +21,48 @@ IsFailureToRead path f = (f ≡ Memory) ⊎ ((f ≡ Open path) ⊎ ((f ≡ Read 
 -- these are all the octets of a file that was opened, if it is known what such a file holds
 abbrev pub IsHeld : {F : Type 0} → (holds : F → Option (List ℕ)) → (octets : List ℕ) → Type 0
 IsHeld {F} holds octets = (file : F) × IfSome (holds file) (λ held. octets ≡ held)
+
+-- a file that was opened holds other octets than these, if it is known what such a file holds
+abbrev pub HoldsOther : {F : Type 0} → (holds : F → Option (List ℕ)) → (octets : List ℕ) → Type 0
+HoldsOther {F} holds octets = (file : F) × IfSome (holds file) (λ held. octets ≢ held)
+
+-- ---- below a folder
+
+-- the path of the file that is put below a folder by a name: FOLDER/NAME.ers
+abbrev pub path_below : (folder name : List ℕ) → List ℕ
+path_below folder name = folder ++ codes "/" ++ name ++ codes ".ers"
+
+-- the octets are there as they should be: a file that was opened holds them, or took them after what it held, if it is
+-- known what such a file holds
+abbrev pub IsPut : {F : Type 0} → (holds contents : F → Option (List ℕ)) → (octets : List ℕ) → Type 0
+IsPut {F} holds contents octets =
+    IsHeld holds octets ⊎ ((before : F) × (after : F) × Appends (contents before) (contents after) octets)
+
+-- what is found where octets would be put: nothing, a file that holds them, or a file that holds others
+abbrev pub IsFound : {F : Type 0} → (holds : F → Option (List ℕ)) → (octets : List ℕ) → Found → Type 0
+IsFound holds octets found.Nothing = ⊤
+IsFound holds octets found.Same = IsHeld holds octets
+IsFound holds octets found.Other = HoldsOther holds octets
+
+-- the same of one file that was opened, and holds this if that is known
+abbrev pub IsFoundIn : (held : Option (List ℕ)) → (octets : List ℕ) → Found → Type 0
+IsFoundIn held octets found.Nothing = ⊥
+IsFoundIn held octets found.Same = IfSome held (λ h. octets ≡ h)
+IsFoundIn held octets found.Other = IfSome held (λ h. octets ≢ h)
+
+-- the failure names this path, as it is shown, where octets can't be written
+abbrev pub IsUnput : (path : List ℕ) → Failure → Type 0
+IsUnput path (failure.Unput named) = string_bytes named ≡ shown_text path
+IsUnput path _ = ⊥
+
+-- the failure names this path, as it is shown, where a file is that is not replaced
+abbrev pub IsTaken : (path : List ℕ) → Failure → Type 0
+IsTaken path (failure.Taken named) = string_bytes named ≡ shown_text path
+IsTaken path _ = ⊥
+
+-- the failure if octets can't be put below a folder, which names the file: it can't be written, or it is there and
+-- holds others; or memory ran out
+abbrev pub IsFailureBelow : {F : Type 0} → (holds : F → Option (List ℕ)) → (folder name octets : List ℕ) → Failure
+    → Type 0
+IsFailureBelow holds folder name octets f = (f ≡ Memory)
+    ⊎ (IsUnput (path_below folder name) f ⊎ (IsTaken (path_below folder name) f × HoldsOther holds octets))

@@ -4,8 +4,9 @@ ghost use Rattle.cli_failures.specs.Causes.{Names};
 ghost use Rattle.cli_failures.specs.Ends.{IsEndIn, IsTimeIn, StatesNoEnd, StatesNoTime};
 
 use crate::failure::Failure;
-use cmsproof_api::{Alg, End, Moment};
-use der_time::read_generalized;
+use der_time::{Moment, read_generalized};
+use digests::Alg;
+use evidence_stamps::End;
 
 /// The moment that a text states, the contents of a GeneralizedTime (X.690 11.7; RFC 3161 2.4.2).
 ///

@@ -1,18 +1,25 @@
 ghost use Rattle.std.specs.Prelude.{◌≡◌};
-ghost use Rattle.cli_failures.specs.Failures.{refused_status, unasked_status, uncompared_status, unshown_status};
+ghost use Rattle.cli_failures.specs.Failures.{refused_status, sums_status, unasked_status, uncompared_status};
+ghost use Rattle.cli_failures.specs.Failures.{unshown_status};
 
 use crate::output::put;
 use crate::status::Status;
 use arrayvec::ArrayVec;
-use cmsproof_api::{
-    AnswersFault, AnswersRule, AttachFault, CmsFault, CompareFault, CompareRule, EvidenceRefused,
-    Fault, FileRule, MatchFault, QuestionsFault, ReadFault, RecordRule, Refused, TokenRule,
-    TrustFault, TrustRule,
-};
+use check_evidence::{EvidenceRefused, RecordRule};
+use check_fit::{FileRule, Refused, TokenRule};
+use check_questions::QuestionsFault;
+use cms_compare::{CompareFault, CompareRule};
+use cms_types::CmsFault;
+use der_core::{Fault, ReadFault};
+use evidence_making::{MakeFault as MakeRecordFault, StampFault};
+use evidence_sums::{SumsFault, SumsRule};
+use list_answers::{AnswersFault, AnswersRule};
 use std::alloc::{AllocError, AllocFailed};
 use std::fmt;
 use std::io::{self, ErrorKind, Write};
 use thiserror::Error;
+use trust_lists::{TrustFault, TrustRule};
+use tsp_requester::{AttachFault, MatchFault};
 
 /// The standard output, in the place of a path.
 pub const STANDARD_OUTPUT: &str = "-";
@@ -82,6 +89,12 @@ pub enum Failure<'a> {
     Trust(TrustFault),
     /// The file that should hold an answers list isn't one.
     Answers(AnswersFault),
+    /// The file that should hold sums isn't one, or a name in it is refused.
+    Sums(SumsFault),
+    /// The token can't be the stamp of the root of a tree, by this rule.
+    Unstamping(StampFault),
+    /// No evidence record was made.
+    Unmade(MakeRecordFault),
     /// The file of this path can't be opened.
     Open(&'a str),
     /// The file of this path can't be read.
@@ -90,6 +103,11 @@ pub enum Failure<'a> {
     Size(&'a str),
     /// The file of this path can't be created or written.
     Write(&'a str),
+    /// The file of this path, as it is shown, can't be written below a folder.
+    Unput(String),
+    /// The file of this path, as it is shown, is there, holds something else than would be written, and is not
+    /// replaced.
+    Taken(String),
     /// Memory ran out.
     Memory,
 }
@@ -119,10 +137,15 @@ impl fmt::Display for Failure<'_> {
             Failure::Unattached(fault) => write!(f, "refused {fault}\n"),
             Failure::Trust(fault) => write!(f, "trust {fault}\n"),
             Failure::Answers(fault) => write!(f, "answers {fault}\n"),
+            Failure::Sums(fault) => write!(f, "{fault}\n"),
+            Failure::Unstamping(fault) => write!(f, "refused {fault}\n"),
+            Failure::Unmade(fault) => write!(f, "refused {fault}\n"),
             Failure::Open(path) => write!(f, "failed open {path}\n"),
             Failure::Read(path) => write!(f, "failed read {path}\n"),
             Failure::Size(path) => write!(f, "failed size {path}\n"),
             Failure::Write(path) => write!(f, "failed write {path}\n"),
+            Failure::Unput(path) => write!(f, "failed write {path}\n"),
+            Failure::Taken(path) => write!(f, "failed replace {path}\n"),
             Failure::Memory => f.write_str("failed memory\n"),
         }
     }
@@ -211,6 +234,59 @@ impl From<AnswersFault> for Failure<'_> {
     }
 }
 
+impl From<SumsFault> for Failure<'_> {
+    ghost use Rattle.std.specs.Prelude.{◌≡◌};
+    ghost use Rattle.cli_failures.specs.Failures.{failure_of_sums};
+
+    // Each fault becomes the failure that the definition gives.
+    ghost from_gives = { λ fault f. f ≡ failure_of_sums fault };
+
+    fn from(fault: SumsFault) -> Self {
+        match fault.rule {
+            SumsRule::OutOfMemory => Failure::Memory,
+            _ => Failure::Sums(fault),
+        }
+    }
+}
+
+impl From<StampFault> for Failure<'_> {
+    ghost use Rattle.std.specs.Prelude.{◌≡◌};
+    ghost use Rattle.cli_failures.specs.declared.failure.Failure.TheVariants.{Unstamping};
+
+    // Each fault becomes `Unstamping`.
+    ghost from_gives = { λ fault f. f ≡ Unstamping fault };
+
+    fn from(fault: StampFault) -> Self {
+        Failure::Unstamping(fault)
+    }
+}
+
+impl From<MakeRecordFault> for Failure<'_> {
+    ghost use Rattle.std.specs.Prelude.{◌≡◌};
+    ghost use Rattle.cli_failures.specs.Failures.{failure_of_making};
+
+    // Each fault becomes the failure that the definition gives.
+    ghost from_gives = { λ fault f. f ≡ failure_of_making fault };
+
+    fn from(fault: MakeRecordFault) -> Self {
+        match fault {
+            MakeRecordFault::TooLong => Failure::Unmade(fault),
+            MakeRecordFault::OutOfMemory => Failure::Memory,
+        }
+    }
+}
+
+/// How a command ends that refuses a file of sums by this rule.
+fn sums_status(rule: SumsRule) -> Status
+    ensures { result ≡ sums_status rule }
+{
+    match rule {
+        SumsRule::Line | SumsRule::Empty => Status::Malformed,
+        SumsRule::Name | SumsRule::NameTwice => Status::Refused,
+        SumsRule::OutOfMemory => Status::Failed,
+    }
+}
+
 /// How a command ends that didn't print the questions of a file for this reason.
 fn unasked_status(fault: QuestionsFault) -> Status
     ensures { result ≡ unasked_status fault }
@@ -283,6 +359,8 @@ impl<'a> Failure<'a> {
             Failure::NotSignedData | Failure::Unmatched(_) => Status::Refused,
             Failure::Different | Failure::Collision | Failure::Unattached(_) => Status::Refused,
             Failure::Unstamped(_) => Status::Refused,
+            Failure::Unstamping(_) | Failure::Unmade(_) => Status::Refused,
+            Failure::Sums(fault) => sums_status(fault.rule),
             Failure::Uncompared(fault) => uncompared_status(*fault),
             Failure::Malformed(_) | Failure::MalformedMessage(_, _) => Status::Malformed,
             Failure::Trust(_) | Failure::Answers(_) => Status::Malformed,

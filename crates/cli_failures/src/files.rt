@@ -1,11 +1,14 @@
 ghost use Rattle.std.specs.Prelude.{◌≡◌, ◌≢◌, ◌≤◌, ◌⊎◌, IfErr, IfOk, IfSome, IsSomeAnd, OnOk, is_some, length};
 ghost use Rattle.std.specs.IoError.{error_kind};
 ghost use Rattle.std.specs.Io.KnownBytes.{Appends};
-ghost use Rattle.cli_failures.specs.Files.{IsFailureToOpen, IsFailureToRead, IsHeld};
+ghost use Rattle.cli_failures.specs.Files.{IsFailureBelow, IsFailureToOpen, IsFailureToRead, IsHeld, IsPut, IsTaken};
+ghost use Rattle.cli_failures.specs.Files.{IsUnput};
 
 use crate::failure::Failure;
+use crate::folder::{Found, found_below, path_of, put_below};
 use crate::replacing::{are_same, write};
-use cmsproof_api::FromRead;
+use devices::FromRead;
+use lines_shown::show_response::shown_text;
 use std::alloc::Global;
 use std::fs::{self, OpenFile};
 use std::io::{self, ErrorKind, Read};
@@ -103,6 +106,73 @@ pub fn write_whole<'p, R: Files + AllocGlobal>(
         (R.File.contents after) octets.now) }
 {
     write(rt, path, octets).map_err(|error| device_failure(&error, Failure::Write(path)))
+}
+
+// The failure that a file of this path can't be written, after such an error. The path is shown as a text with any
+// octets is, since a part of it is a name from elsewhere.
+fn unput<'p>(alloc: Global, error: &io::Error, path: &str) -> Failure<'p>
+    ensures { (result ≡ Failure.Memory) ⊎ IsUnput path.now result }
+{
+    match shown_text(alloc, path.as_bytes()) {
+        Ok(shown) => device_failure(error, Failure::Unput(shown)),
+        Err(_) => Failure::Memory,
+    }
+}
+
+// The failure that a file of this path is not replaced.
+fn taken<'p>(alloc: Global, path: &str) -> Failure<'p>
+    ensures { (result ≡ Failure.Memory) ⊎ IsTaken path.now result }
+{
+    match shown_text(alloc, path.as_bytes()) {
+        Ok(shown) => Failure::Taken(shown),
+        Err(_) => Failure::Memory,
+    }
+}
+
+/// Tests whether these octets can be put as the file `FOLDER/NAME.ers`, as `write_below` puts them. The folder must be
+/// there; on the way from it there must be folders or nothing, and no link; at the path of the file there must be
+/// nothing, or a regular file that holds exactly these octets.
+pub fn test_below<'p, R: Files + AllocGlobal>(
+    rt: &R,
+    folder: &str,
+    name: &str,
+    octets: &[u8],
+) -> Result<(), Failure<'p>>
+    // A failure is a lack of memory, or names the file: it can't be written, or it is there and holds other octets.
+    ensures { IfErr result (IsFailureBelow R.File.remaining folder.now name.now octets.now) }
+{
+    let path = path_of(rt.alloc(), folder, name)?;
+    match found_below(rt, folder, name, path.as_str(), octets) {
+        Ok(Found::Nothing | Found::Same) => Ok(()),
+        Ok(Found::Other) => Err(taken(rt.alloc(), path.as_str())),
+        Err(error) => Err(unput(rt.alloc(), &error, path.as_str())),
+    }
+}
+
+/// Writes these octets as the file `FOLDER/NAME.ers`, and makes the folders on the way. A file that is there with
+/// exactly these octets stays as it is, and one with others is never replaced. It is there once the octets are written
+/// whole. Nothing is written where `test_below` fails.
+pub fn write_below<'p, R: Files + AllocGlobal>(
+    rt: &R,
+    folder: &str,
+    name: &str,
+    octets: &[u8],
+) -> Result<(), Failure<'p>>
+    // A failure is a lack of memory, or names the file: it can't be written, or it is there and holds other octets.
+    ensures failure { IfErr result (IsFailureBelow R.File.remaining folder.now name.now octets.now) }
+    // They were there in a file that was opened, or come after what such a file held, if it is known what it holds.
+    ensures whole { OnOk result (IsPut R.File.remaining R.File.contents octets.now) }
+{
+    let path = path_of(rt.alloc(), folder, name)?;
+    match found_below(rt, folder, name, path.as_str(), octets) {
+        Ok(Found::Nothing) => match put_below(rt, folder, name, path.as_str(), octets) {
+            Ok(()) => Ok(()),
+            Err(error) => Err(unput(rt.alloc(), &error, path.as_str())),
+        },
+        Ok(Found::Same) => Ok(()),
+        Ok(Found::Other) => Err(taken(rt.alloc(), path.as_str())),
+        Err(error) => Err(unput(rt.alloc(), &error, path.as_str())),
+    }
 }
 
 /// Refuses the path of a file that is to be written, the value of the option of this name, if it names a file that is

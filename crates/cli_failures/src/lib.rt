@@ -8,6 +8,7 @@
 pub mod ends;
 mod failure;
 pub mod files;
+mod folder;
 pub mod output;
 mod replacing;
 pub mod request;

@@ -78,6 +78,39 @@ fn replace<R: Files + AllocGlobal>(
     written
 }
 
+/// Writes octets beside a path where nothing is, and then puts them there. If that fails, what was written is removed.
+/// What came to that place meanwhile is not replaced.
+pub fn put_new<R: Files + AllocGlobal>(rt: &R, path: &str, octets: &[u8]) -> io::Result<()>
+    ensures { OnOk result ((before : R.File) × (after : R.File) × Appends (R.File.contents before)
+        (R.File.contents after) octets.now) }
+{
+    let (beside, file) = made_beside(rt, path, false)?;
+    let written = match fill(file, None, octets) {
+        Ok(()) => settle(rt, beside.as_str(), path),
+        Err(error) => Err(error),
+    };
+    if written.is_err() {
+        let _ = fs::remove_file(rt, beside.as_str());
+    }
+    written
+}
+
+/// Gives a file the path where nothing is yet. A second name of the file fails if something is there, as a move does
+/// not; where the file system has no second names, the file is moved.
+fn settle<R: Files>(rt: &R, beside: &str, path: &str) -> io::Result<()> {
+    match fs::hard_link(rt, beside, path) {
+        Ok(()) => {
+            let _ = fs::remove_file(rt, beside);
+            Ok(())
+        }
+        Err(_) => match fs::symlink_metadata(rt, path) {
+            Ok(_) => Err(io::Error::from(ErrorKind::AlreadyExists)),
+            Err(error) if error.kind() == ErrorKind::NotFound => fs::rename(rt, beside, path),
+            Err(error) => Err(error),
+        },
+    }
+}
+
 /// A new file beside a path, and its path. One that is to replace a file is made private; another has the permissions
 /// that new files have.
 fn made_beside<R: Files + AllocGlobal>(

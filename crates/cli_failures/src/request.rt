@@ -7,9 +7,11 @@ ghost use Rattle.cli_failures.specs.Causes.{Names};
 ghost use Rattle.cli_failures.specs.Requests.{SpellsNone, longer};
 
 use crate::failure::Failure;
-use cmsproof_api::{Digest, Int, MakeFault, Oid, Request};
+use der_core::{Int, Oid};
 use der_oid_text::{OidFault, oid_parse};
+use digests::Digest;
 use std::alloc::Global;
+use tsp_types::{MakeFault, Request};
 
 /// The contents of the object identifier that a text spells, for the policy of a request.
 ///

@@ -2,7 +2,9 @@ ghost use Rattle.std.specs.Prelude.{IfErr, IfOk};
 ghost use Rattle.cli_failures.specs.Signatures.{HasNoSigner, IsSignatureDigest};
 
 use crate::failure::Failure;
-use cmsproof_api::{Alg, AttachFault, CmsFault, Digest, SignedData, digest};
+use cms_types::{CmsFault, SignedData};
+use digests::{Alg, Digest, digest};
+use tsp_requester::AttachFault;
 
 /// The digest of the signature of the signer of this number, from 1, in the SignedData that the octets of a file
 /// encode.

@@ -5,11 +5,12 @@ ghost use Rattle.cli_failures.specs.Stamps.{IsStampIn};
 ghost use Rattle.cli_failures.specs.Tokens.{Answers, AnswersNot};
 
 use crate::failure::{Failure, Message};
-use cmsproof_api::{ReadFault, Request, Response, answers, granted_token};
-use der_core::Cursor;
 use der_core::octets::has_tag;
 use der_core::tags::SEQUENCE;
+use der_core::{Cursor, ReadFault};
 use der_lists::Opaque;
+use tsp_requester::{answers, granted_token};
+use tsp_types::{Request, Response};
 
 /// Why octets that should be this message can't be read as one. Reading allocates nothing.
 fn malformed<'a>(message: Message, fault: ReadFault) -> Failure<'a>

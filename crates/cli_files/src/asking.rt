@@ -12,15 +12,17 @@ ghost use Rattle.cli_files.specs.Names.{heading_of};
 use crate::lines::put_failure;
 use crate::names::heading_of;
 use crate::worst::worse;
+use check_questions::QuestionsFault;
 use cli_commands::{Describes, ask_by, stamp_questions_by, trust_in};
 use cli_evidence::record_questions_by;
 use cli_failures::output::put;
 use cli_failures::{Failure, Status};
 use cli_tasks::{About, QuestionsEach, QuestionsWords};
-use cmsproof_api::{Pass, QuestionsFault, Trust};
+use cms_stream::Pass;
 use std::alloc::Global;
 use std::io::Write;
 use std::rt::Files;
+use trust_lists::Trust;
 
 /// The first line of the text.
 const FIRST_LINE: &[u8] = b"cmsproof questions 1\n";

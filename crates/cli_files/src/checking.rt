@@ -5,10 +5,12 @@ ghost use Rattle.cli_files.specs.Lines.{TellsAll, TellsNotAll};
 
 use crate::lines::put_said;
 use crate::worst::worse;
+use check_fit::Policy;
+use check_verdict::Checker;
 use cli_commands::{Describes, answers_in, check_by, trust_in};
 use cli_failures::{Failure, Status};
 use cli_tasks::{CheckEach, CheckWords};
-use cmsproof_api::{Checker, Pass, Policy};
+use cms_stream::Pass;
 use std::io::Write;
 use std::rt::Files;
 

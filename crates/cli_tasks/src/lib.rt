@@ -5,7 +5,7 @@ mod task;
 
 pub use task::{
     About, AttachWords, CheckEach, CheckWords, CompareWords, Each, EvidenceQuestionsWords,
-    EvidenceTask, EvidenceWords, FitEach, FitWords, ListWords, Many, MatchWords, MigrateWords,
-    QuestionsEach, QuestionsWords, RequestWords, Several, StampQuestionsWords, StampWords, Stamped,
-    Task, TextTask,
+    EvidenceTask, EvidenceWords, FitEach, FitWords, ListWords, MakeWords, Many, MatchWords,
+    MigrateWords, QuestionsEach, QuestionsWords, RequestWords, RootRequestWords, Several,
+    StampQuestionsWords, StampWords, Stamped, Task, TextTask,
 };

@@ -177,13 +177,17 @@ pub struct StampQuestionsWords<'a> {
     pub stamp: &'a str,
 }
 
-/// What a command about an evidence record is asked to do.
+/// What a command about evidence records is asked to do.
 #[derive(Debug, Drop)]
 pub enum EvidenceTask<'a> {
     /// To say by when data existed, by a record.
     Check(EvidenceWords<'a>),
     /// To print what a verifier must be asked about a record.
     Questions(EvidenceQuestionsWords<'a>),
+    /// To make the request for a stamp of the root of the tree over the digests of many files.
+    Request(RootRequestWords<'a>),
+    /// To make a record of each of these files, by the stamp of the root.
+    Make(MakeWords<'a>),
 }
 
 /// The evidence record that is checked, the data that it should be for, the lists that it is checked with, and how long
@@ -213,6 +217,38 @@ pub struct EvidenceQuestionsWords<'a> {
     pub trust: &'a str,
     /// The path of the file that holds the record.
     pub record: &'a str,
+}
+
+/// The digests of many files, as `sha256sum` and its kin write them, and the values of the request for a stamp of the
+/// root of the tree over them.
+#[derive(Clone, Copy, Debug, PartialEq, Eq)]
+pub struct RootRequestWords<'a> {
+    /// The algorithm of the digests, by its name.
+    pub alg: &'a str,
+    /// The policy that is requested, an object identifier in decimal with points.
+    pub policy: Option<&'a str>,
+    /// The contents of the nonce, an INTEGER, in hexadecimal.
+    pub nonce: Option<&'a str>,
+    /// Whether the certificate of the authority is requested.
+    pub cert: bool,
+    /// The path of the file that holds the digests.
+    pub sums: &'a str,
+    /// The path of the file that the request goes into.
+    pub out: &'a str,
+}
+
+/// The digests of many files, as `sha256sum` and its kin write them, the stamp of the root of the tree over them, and
+/// the folder that the records go into.
+#[derive(Clone, Copy, Debug, PartialEq, Eq)]
+pub struct MakeWords<'a> {
+    /// The algorithm of the digests, by its name.
+    pub alg: &'a str,
+    /// The path of the file that holds the token of the stamp.
+    pub token: &'a str,
+    /// The path of the folder that the records go into.
+    pub into: &'a str,
+    /// The path of the file that holds the digests.
+    pub sums: &'a str,
 }
 
 /// What a command asks of each of several files.

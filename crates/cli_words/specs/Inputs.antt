@@ -52,6 +52,8 @@ abbrev pub evidence_paths : EvidenceTask → List (List ℕ)
 evidence_paths (evidence.Check words) = words.trust.now ∷ words.answers.now ∷ words.record.now
     ∷ map (λ s. s.now) words.data.items
 evidence_paths (evidence.Questions words) = words.trust.now ∷ words.record.now ∷ []
+evidence_paths (evidence.Request words) = words.sums.now ∷ []
+evidence_paths (evidence.Make words) = words.token.now ∷ words.sums.now ∷ []
 
 -- the content that is read for each of several files, if one is handed in
 abbrev pub content_of : Each → Option (Bor (List ℕ))

@@ -6,6 +6,8 @@ use Rattle.cli_tasks.specs.declared.task.EvidenceQuestionsWords.{EvidenceQuestio
 use Rattle.cli_tasks.specs.declared.task.EvidenceTask.{EvidenceTask}
 use Rattle.cli_tasks.specs.declared.task.EvidenceTask.TheVariants as task
 use Rattle.cli_tasks.specs.declared.task.EvidenceWords.{EvidenceWords}
+use Rattle.cli_tasks.specs.declared.task.MakeWords.{MakeWords}
+use Rattle.cli_tasks.specs.declared.task.RootRequestWords.{RootRequestWords}
 use Rattle.cli_words.specs.Words.{IsFlagIn}
 
 -- all values of an argument, in the order of the words; none if it isn't on the command line
@@ -28,12 +30,32 @@ pub record IsEvidenceQuestionsIn (given : Found) (words : EvidenceQuestionsWords
   pub trust : first_value given (codes "trust") ≡ Some words.trust.now
   pub path : first_value given (codes "RECORD") ≡ Some words.record.now
 
+-- the same for a request for a stamp of the root of a tree
+pub record IsRootRequestIn (given : Found) (words : RootRequestWords) : Type 0 where
+  pub alg : first_value given (codes "alg") ≡ Some words.alg.now
+  pub policy : option_map (λ s. s.now) words.policy ≡ first_value given (codes "policy")
+  pub nonce : option_map (λ s. s.now) words.nonce ≡ first_value given (codes "nonce")
+  pub cert : IsFlagIn given (codes "cert") words.cert
+  pub sums : first_value given (codes "SUMS") ≡ Some words.sums.now
+  pub out : first_value given (codes "OUT") ≡ Some words.out.now
+
+-- the same for records that are made by such a stamp
+pub record IsMakeIn (given : Found) (words : MakeWords) : Type 0 where
+  pub alg : first_value given (codes "alg") ≡ Some words.alg.now
+  pub token : first_value given (codes "token") ≡ Some words.token.now
+  pub into : first_value given (codes "into") ≡ Some words.into.now
+  pub sums : first_value given (codes "SUMS") ≡ Some words.sums.now
+
 -- the same for every task about records
 abbrev pub IsEvidenceTaskIn : Found → EvidenceTask → Type 0
 IsEvidenceTaskIn given (task.Check words) = IsEvidenceIn given words
 IsEvidenceTaskIn given (task.Questions words) = IsEvidenceQuestionsIn given words
+IsEvidenceTaskIn given (task.Request words) = IsRootRequestIn given words
+IsEvidenceTaskIn given (task.Make words) = IsMakeIn given words
 
 -- the command that asks for such a task, behind `evidence`
 abbrev pub evidence_command_of : EvidenceTask → List ℕ
 evidence_command_of (task.Check words) = codes "check"
 evidence_command_of (task.Questions words) = codes "questions"
+evidence_command_of (task.Request words) = codes "request"
+evidence_command_of (task.Make words) = codes "make"

@@ -2,13 +2,13 @@ use crate::arguments::with_words;
 use crate::grammar::{ABOUT_EVIDENCE, ABOUT_STAMPS};
 use crate::help::{
     ATTACH_LINES, CERTIFICATE_LINES, CHECK_LINES, COMPARE_LINES, EVIDENCE_CHECK_LINES,
-    EVIDENCE_LINES, EVIDENCE_QUESTIONS_LINES, FIT_LINES, MATCH_LINES, MIGRATE_LINES,
-    QUESTIONS_LINES, REQUEST_LINES, SHOW_LINES, STAMP_CHECK_LINES, STAMP_LINES,
-    STAMP_QUESTIONS_LINES,
+    EVIDENCE_LINES, EVIDENCE_MAKE_LINES, EVIDENCE_QUESTIONS_LINES, EVIDENCE_REQUEST_LINES,
+    FIT_LINES, MATCH_LINES, MIGRATE_LINES, QUESTIONS_LINES, REQUEST_LINES, SHOW_LINES,
+    STAMP_CHECK_LINES, STAMP_LINES, STAMP_QUESTIONS_LINES,
 };
 use crate::vocabulary::{
-    ATTACH, CERTIFICATE, CHECK, COMPARE, EVIDENCE_CHECK, EVIDENCE_QUESTIONS, FIT, MATCH, MIGRATE,
-    QUESTIONS, REQUEST, SHOW, STAMP_CHECK, STAMP_QUESTIONS,
+    ATTACH, CERTIFICATE, CHECK, COMPARE, EVIDENCE_CHECK, EVIDENCE_MAKE, EVIDENCE_QUESTIONS,
+    EVIDENCE_REQUEST, FIT, MATCH, MIGRATE, QUESTIONS, REQUEST, SHOW, STAMP_CHECK, STAMP_QUESTIONS,
 };
 use clap::Command;
 use std::alloc::{AllocError, Global};
@@ -33,13 +33,15 @@ pub enum Named {
     Evidence,
     EvidenceCheck,
     EvidenceQuestions,
+    EvidenceRequest,
+    EvidenceMake,
 }
 
 impl Named {
     /// The word that names it.
     pub fn name(&self) -> &'static str {
         match self {
-            Named::Request => "request",
+            Named::Request | Named::EvidenceRequest => "request",
             Named::Show => "show",
             Named::Certificate => "cert",
             Named::Fit => "fit",
@@ -51,6 +53,7 @@ impl Named {
             Named::Migrate => "migrate",
             Named::Stamp => "stamp",
             Named::Evidence => "evidence",
+            Named::EvidenceMake => "make",
         }
     }
 }
@@ -75,7 +78,12 @@ pub static ALL: [Named; 12] = [
 pub static STAMPS: [Named; 2] = [Named::StampCheck, Named::StampQuestions];
 
 /// Those about evidence records.
-pub static EVIDENCE: [Named; 2] = [Named::EvidenceCheck, Named::EvidenceQuestions];
+pub static EVIDENCE: [Named; 4] = [
+    Named::EvidenceCheck,
+    Named::EvidenceQuestions,
+    Named::EvidenceRequest,
+    Named::EvidenceMake,
+];
 
 /// The words of one command. Each command is a function of its own, since a proof of all in one takes minutes.
 pub fn command<'a>(alloc: Global, named: &Named) -> Result<Command<'a>, AllocError> {
@@ -96,6 +104,8 @@ pub fn command<'a>(alloc: Global, named: &Named) -> Result<Command<'a>, AllocErr
         Named::Evidence => Ok(evidence(alloc)),
         Named::EvidenceCheck => evidence_check(alloc),
         Named::EvidenceQuestions => evidence_questions(alloc),
+        Named::EvidenceRequest => evidence_request(alloc),
+        Named::EvidenceMake => evidence_make(alloc),
     }
 }
 
@@ -235,4 +245,24 @@ fn evidence_questions<'a>(alloc: Global) -> Result<Command<'a>, AllocError> {
         )
         .after_help(EVIDENCE_QUESTIONS_LINES);
     with_words(alloc, command, EVIDENCE_QUESTIONS.as_slice())
+}
+
+fn evidence_request<'a>(alloc: Global) -> Result<Command<'a>, AllocError> {
+    let command = Command::new(alloc, "request")
+        .about(
+            "Makes a request for a time-stamp of the root of the hash tree over the digests in SUMS (RFC 4998 4.2), \
+                and writes it into OUT.",
+        )
+        .after_help(EVIDENCE_REQUEST_LINES);
+    with_words(alloc, command, EVIDENCE_REQUEST.as_slice())
+}
+
+fn evidence_make<'a>(alloc: Global) -> Result<Command<'a>, AllocError> {
+    let command = Command::new(alloc, "make")
+        .about(
+            "Makes an evidence record of each file in SUMS, by the time-stamp token in TOKEN (RFC 4998 4.2), and \
+                writes it into FOLDER.",
+        )
+        .after_help(EVIDENCE_MAKE_LINES);
+    with_words(alloc, command, EVIDENCE_MAKE.as_slice())
 }

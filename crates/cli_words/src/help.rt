@@ -37,6 +37,8 @@ Example:
   cmsproof check --trust trusted.txt --answers answers.txt signed.p7s
   cmsproof stamp check --trust trusted.txt --answers answers.txt response.tsr document.pdf
   cmsproof evidence check --trust trusted.txt --answers answers.txt record.ers document.pdf
+  cmsproof evidence request --cert SHA256SUMS request.tsq
+  cmsproof evidence make --token token.tok --into records SHA256SUMS
   cmsproof attach --signer 1 --token token.tok signed.p7s stamped.p7s
   cmsproof compare signed.p7s stamped.p7s
   cmsproof migrate trusted.txt trusted-2.txt";
@@ -341,10 +343,18 @@ Examples:
 
 /// What the commands about evidence records are.
 pub const EVIDENCE_LINES: &str = "\
-The commands are `evidence check` and `evidence questions`; `cmsproof evidence check --help` says
-what each takes and prints. What is in a record `cmsproof show evidence` shows.
+The commands are `evidence check`, `evidence questions`, `evidence request` and `evidence make`;
+`cmsproof evidence check --help` says what each takes and prints. What is in a record
+`cmsproof show evidence` shows.
+
+One time-stamp is enough for many files: `request` asks for one of the root of a hash tree over
+their digests, and `make` makes a record of each file by it (RFC 4998 4.2).
 
 Examples:
+  sha256sum *.pdf > SHA256SUMS
+  cmsproof evidence request --cert SHA256SUMS request.tsq
+  cmsproof match request.tsq response.tsr token.tok
+  cmsproof evidence make --token token.tok --into records SHA256SUMS
   cmsproof evidence questions --trust trusted.txt record.ers > questions.txt
   cmsproof evidence check --trust trusted.txt --answers answers.txt record.ers document.pdf";
 
@@ -417,6 +427,70 @@ TRUST is read and judged before RECORD is opened. No signature is checked.
 Examples:
   cmsproof evidence questions --trust trusted.txt record.ers > questions.txt
   cmsproof evidence questions --trust trusted.txt *.ers | cmsproof-verify > answers.txt";
+
+/// What a request for a stamp of the root of a tree is made of.
+pub const EVIDENCE_REQUEST_LINES: &str = "\
+SUMS has a line for each file, as `sha256sum` and its kin write it, but not with their --tag: its
+digest by the algorithm of --alg, in hexadecimal digits of either case, a space, a second space or
+`*`, and its name. If the name has a backslash, a line feed or a carriage return, these stand as
+`\\\\`, `\\n` and `\\r`, and a backslash begins the line. The files themselves are not opened.
+
+The request is for the root of the hash tree over these digests (RFC 4998 4.2), whatever their
+order. The different ones, in ascending order, are its leaves; each two neighbours of a level have a
+node on the next one, where an odd one at the end stands alone. The root over one digest is that
+digest. The token of the answer is the TOKEN of `evidence make`.
+
+Otherwise one line is printed, and OUT isn't made:
+  sums U1 Line at line N  line N of SUMS, counted from 1, is of another form (status 2)
+  sums U2 Empty           SUMS has no line (status 2)
+  refused U5 Name         a name is empty, begins with `/`, or has an octet 0, or between its
+                          slashes an empty part, a part `.` or a part `..`; or, after U6, it
+                          isn't UTF-8 (status 1)
+  refused U6 NameTwice    two lines have one name (status 1)
+The values are judged before SUMS is opened: `usage OUT`, if OUT is SUMS, `usage policy` or `usage
+nonce` names the first that is wrong (status 3).
+
+Examples:
+  cmsproof evidence request --cert SHA256SUMS request.tsq
+  sha512sum *.pdf | cmsproof evidence request --alg sha512 --policy 2.999.3 --nonce 05 --cert - \
+request.tsq";
+
+/// What `evidence make` writes and prints.
+pub const EVIDENCE_MAKE_LINES: &str = "\
+SUMS and --alg are those of the request, as the help of `evidence request` says. TOKEN is the token
+of the answer to it, a CMS SignedData that holds a TSTInfo (RFC 3161 2.4.2), as `match` writes it.
+
+For each line of SUMS, in their order, FOLDER/NAME.ers is made, with the NAME of that line: the
+evidence record (RFC 4998, DER) of the octets that have this digest. It has the hash values which
+lead from the digest to the root, and TOKEN. FOLDER must be there; the folders in a NAME, as in
+maps/map.tif, are made. Nothing is printed.
+
+Otherwise the first rule that fails is printed, and no record is made:
+  sums U1 Line at line N     line N of SUMS, counted from 1, is of another form (status 2)
+  sums U2 Empty              SUMS has no line (status 2)
+  refused U5 Name            a name is empty, begins with `/`, or has an octet 0, or between its
+                             slashes an empty part, a part `.` or a part `..`; or, after U6, it
+                             isn't UTF-8 (status 1, and the others too)
+  refused U6 NameTwice       two lines have one name
+  refused U7 TokenMalformed  TOKEN isn't a CMS SignedData whose content is a TSTInfo, in DER
+  refused U8 ImprintDiffers  the token isn't for the root: SUMS has other digests than those of the
+                             request, or --alg is another
+  refused U10 TooLong        a length would pass 4,294,967,295
+SUMS and TOKEN are read before either is judged. No record is replaced by another: one that is there
+with the same octets stays as it is, so a run that was cut off can be run again; one with others, as
+a record that was renewed, ends the command. All places are tested before the first record is
+written. Otherwise the line names the first file that can't be put (status 4), its octets beyond
+printable ASCII as `\\x` and two digits:
+  failed replace FOLDER/NAME.ers  it is there, and has other octets
+  failed write FOLDER/NAME.ers    FOLDER isn't a folder, something else than a regular file stands in
+                                  the file's place, or than a folder on the way to it, as a link;
+                                  or the write fails, and then the records before it are there
+No signature is checked: `evidence check` says whether a record is accepted.
+
+Examples:
+  cmsproof match request.tsq response.tsr token.tok
+  cmsproof evidence make --token token.tok --into records SHA256SUMS
+  sha512sum *.pdf | cmsproof evidence make --alg sha512 --token token.tok --into records -";
 
 /// What `attach` writes and prints.
 pub const ATTACH_LINES: &str = "\

@@ -55,6 +55,8 @@ pub fn is_evidence_read_twice(task: &EvidenceTask<'_>) -> bool
             is_twice(&lists_and_record, words.data.as_slice())
         }
         EvidenceTask::Questions(words) => is_twice(&[words.trust], &[words.record]),
+        EvidenceTask::Request(words) => is_twice(&[words.sums], &[]),
+        EvidenceTask::Make(words) => is_twice(&[words.token], &[words.sums]),
     }
 }
 

@@ -19,8 +19,8 @@ use crate::inputs::{STANDARD_INPUT, is_evidence_read_twice, is_read_again, is_re
 use crate::several::{each_of, several_in};
 use crate::words::{
     attach_words, check_words, compare_words, evidence_questions_words, evidence_words, fit_words,
-    match_words, migrate_words, questions_words, request_words, shown, stamp_questions_words,
-    stamp_words, value,
+    make_words, match_words, migrate_words, questions_words, request_words, root_request_words,
+    shown, stamp_questions_words, stamp_words, value,
 };
 use clap::error::ErrorKind;
 use clap::{ArgMatches, Command};
@@ -168,11 +168,27 @@ fn evidence_task_in<'a>(
         × IsEvidenceTaskIn given task) }
 {
     match matches.subcommand() {
-        Some(("check", given)) => Ok(EvidenceTask::Check(evidence_words(alloc, given)?)),
-        Some(("questions", given)) => {
-            Ok(EvidenceTask::Questions(evidence_questions_words(given)?))
-        }
-        // The parser knows no other command, and demands one.
+        Some((command, given)) => evidence_command_in(alloc, command, given),
+        // The parser demands a command.
+        None => Err(Failure::Usage("command")),
+    }
+}
+
+/// The task of this command about evidence records.
+fn evidence_command_in<'a>(
+    alloc: Global,
+    command: &str,
+    given: &ArgMatches<'a>,
+) -> Result<EvidenceTask<'a>, Failure<'a>>
+    ensures command { IfOk result (λ task. command.now ≡ evidence_command_of task) }
+    ensures words { IfOk result (IsEvidenceTaskIn (found_of given.now)) }
+{
+    match command {
+        "check" => Ok(EvidenceTask::Check(evidence_words(alloc, given)?)),
+        "questions" => Ok(EvidenceTask::Questions(evidence_questions_words(given)?)),
+        "request" => Ok(EvidenceTask::Request(root_request_words(given)?)),
+        "make" => Ok(EvidenceTask::Make(make_words(given)?)),
+        // The parser knows no other command.
         _ => Err(Failure::Usage("command")),
     }
 }

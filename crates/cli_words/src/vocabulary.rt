@@ -107,6 +107,56 @@ const FILES: Word = Word {
     help: "The files to read, as signed.p7s (no default)",
 };
 
+/// The algorithm of digests, of `request`, `evidence request` and `evidence make`.
+const ALGORITHM: Word = Word {
+    name: "alg",
+    takes: Takes::Algorithm,
+    required: false,
+    help: "The digest algorithm, as --alg sha512 or --alg sha512-256",
+};
+
+/// What a request asks of the authority, of `request` and `evidence request`: under which policy it stamps.
+const POLICY: Word = Word {
+    name: "policy",
+    takes: Takes::Text("OID"),
+    required: false,
+    help: "The policy under which the authority is asked to stamp, an object identifier, as --policy 2.999.3 (by \
+           default the request names none)",
+};
+
+/// The same: that it repeats a number.
+const NONCE: Word = Word {
+    name: "nonce",
+    takes: Takes::Text("HEX"),
+    required: false,
+    help: "A number that the answer must repeat, the contents of an INTEGER in hexadecimal, as --nonce 05: at least \
+           one octet, the first nine bits neither all 0 nor all 1 (by default the request has none)",
+};
+
+/// The same: that it adds its certificate.
+const CERT: Word = Word {
+    name: "cert",
+    takes: Takes::Nothing,
+    required: false,
+    help: "Asks for the authority's certificate in the answer (by default the request leaves the question out)",
+};
+
+/// Where a request goes.
+const REQUEST_OUT: Word = Word {
+    name: "OUT",
+    takes: Takes::Place,
+    required: true,
+    help: "The file to write, as request.tsq; one that is there is replaced",
+};
+
+/// The digests of many files, of `evidence request` and `evidence make`.
+const SUMS: Word = Word {
+    name: "SUMS",
+    takes: Takes::Place,
+    required: true,
+    help: "The digests to read, as SHA256SUMS (no default): a line for each file, as `sha256sum` and its kin write it",
+};
+
 /// The words of `request`, in the order of its help.
 pub static REQUEST: [Word; 8] = [
     Word {
@@ -128,38 +178,11 @@ pub static REQUEST: [Word; 8] = [
         required: false,
         help: "The number of the signer in the FILE of --of, as --signer 2 (by default 1)",
     },
-    Word {
-        name: "alg",
-        takes: Takes::Algorithm,
-        required: false,
-        help: "The algorithm of the digest, as --alg sha512 or --alg sha512-256",
-    },
-    Word {
-        name: "policy",
-        takes: Takes::Text("OID"),
-        required: false,
-        help: "The policy under which the authority is asked to stamp, an object identifier, as --policy 2.999.3 \
-               (by default the request names none)",
-    },
-    Word {
-        name: "nonce",
-        takes: Takes::Text("HEX"),
-        required: false,
-        help: "A number that the answer must repeat, the contents of an INTEGER in hexadecimal, as --nonce 05: at \
-               least one octet, the first nine bits neither all 0 nor all 1 (by default the request has none)",
-    },
-    Word {
-        name: "cert",
-        takes: Takes::Nothing,
-        required: false,
-        help: "Asks for the authority's certificate in the answer (by default the request leaves the question out)",
-    },
-    Word {
-        name: "OUT",
-        takes: Takes::Place,
-        required: true,
-        help: "The file to write, as request.tsq; one that is there is replaced",
-    },
+    ALGORITHM,
+    POLICY,
+    NONCE,
+    CERT,
+    REQUEST_OUT,
 ];
 
 /// The words of `show`, in the order of its help.
@@ -422,4 +445,26 @@ pub static EVIDENCE_QUESTIONS: [Word; 4] = [
         required: false,
         help: "The evidence records to read, as record.ers (no default)",
     },
+];
+
+/// The words of `evidence request`, in the order of its help.
+pub static EVIDENCE_REQUEST: [Word; 6] = [ALGORITHM, POLICY, NONCE, CERT, SUMS, REQUEST_OUT];
+
+/// The words of `evidence make`, in the order of its help.
+pub static EVIDENCE_MAKE: [Word; 4] = [
+    ALGORITHM,
+    Word {
+        name: "token",
+        takes: Takes::Text("TOKEN"),
+        required: true,
+        help: "The token that stamps the root of the tree over SUMS, as --token token.tok (no default)",
+    },
+    Word {
+        name: "into",
+        takes: Takes::Text("FOLDER"),
+        required: true,
+        help: "The folder to write the records into, as --into records (no default): that of NAME is FOLDER/NAME.ers, \
+               and none that is there is replaced by another",
+    },
+    SUMS,
 ];

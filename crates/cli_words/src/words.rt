@@ -5,14 +5,14 @@ ghost use Rattle.cli_failures.specs.Causes.{Names};
 ghost use Rattle.cli_words.specs.Words.{IsNumberIn, IsSignerIn, IsStampedIn, IsRequestIn, IsFitIn, IsMatchIn};
 ghost use Rattle.cli_words.specs.Words.{IsMigrateIn, IsQuestionsIn, IsBufferIn, IsCheckIn, IsCompareIn, IsAttachIn};
 ghost use Rattle.cli_words.specs.Words.{IsShownIn, IsStampIn, IsStampQuestionsIn};
-ghost use Rattle.cli_words.specs.Records.{IsEvidenceIn, IsEvidenceQuestionsIn, all_values};
+ghost use Rattle.cli_words.specs.Records.{IsEvidenceIn, IsEvidenceQuestionsIn, IsMakeIn, IsRootRequestIn, all_values};
 
 use clap::ArgMatches;
 use cli_failures::Failure;
 use cli_tasks::{
     AttachWords, CheckWords, CompareWords, EvidenceQuestionsWords, EvidenceWords, FitWords,
-    MatchWords, MigrateWords, QuestionsWords, RequestWords, StampQuestionsWords, StampWords,
-    Stamped, TextTask,
+    MakeWords, MatchWords, MigrateWords, QuestionsWords, RequestWords, RootRequestWords,
+    StampQuestionsWords, StampWords, Stamped, TextTask,
 };
 use std::alloc::Global;
 
@@ -251,6 +251,35 @@ pub fn evidence_questions_words<'a>(
     Ok(EvidenceQuestionsWords {
         trust: value(given, "trust")?,
         record: value(given, "RECORD")?,
+    })
+}
+
+/// The digests that the root is made of, the values of the request for its stamp, and the file that this goes into.
+pub fn root_request_words<'a>(given: &ArgMatches<'a>) -> Result<RootRequestWords<'a>, Failure<'a>>
+    ensures { IfOk result (IsRootRequestIn (found_of given.now)) }
+{
+    let (policy, nonce) = (given.get_str("policy"), given.get_str("nonce"));
+    let (sums, out) = (value(given, "SUMS")?, value(given, "OUT")?);
+    Ok(RootRequestWords {
+        alg: value(given, "alg")?,
+        policy,
+        nonce,
+        cert: given.get_flag("cert"),
+        sums,
+        out,
+    })
+}
+
+/// The digests that records are made of, the token that stamps their root, and the folder that the records go into.
+pub fn make_words<'a>(given: &ArgMatches<'a>) -> Result<MakeWords<'a>, Failure<'a>>
+    ensures { IfOk result (IsMakeIn (found_of given.now)) }
+{
+    let (token, sums) = (value(given, "token")?, value(given, "SUMS")?);
+    Ok(MakeWords {
+        alg: value(given, "alg")?,
+        token,
+        into: value(given, "into")?,
+        sums,
     })
 }
 

@@ -19,6 +19,10 @@
 //! algorithms they must be digested, which `digests_from` does; `questions_of_record` lists what a verifier will be
 //! asked. An `End` says until when an algorithm holds.
 //!
+//! Records are made of `Sums`, the digests and names of files as `sha256sum` and its kin write them. A `Tree` over the
+//! digests has the root to be stamped, and the `LeafLists` of each digest; of these and the token of the stamp
+//! `make_record` makes the record of the digest.
+//!
 //! A content and a file come from a `Source`, which `Slice` makes of octets and `FromRead` of a reader; what is written
 //! goes to a `Sink`, which `FromWrite` makes of a writer.
 #![tactic(auto)]
@@ -45,8 +49,11 @@ pub use devices::{
     FromRead, FromWrite, Fused, Limited, Pieces, Sink, SinkFault, Slice, Source, SourceFault,
 };
 pub use digests::{Alg, Algs, Digest, WantedDigests, digest};
+pub use evidence_making::{MakeFault as MakeRecordFault, StampFault, make_record};
 pub use evidence_questions::{RecordQuestionsFault, questions_of_record};
 pub use evidence_stamps::End;
+pub use evidence_sums::{Sum, Sums, SumsFault, SumsRule};
+pub use evidence_trees::{LeafLists, Tree};
 pub use judge_evidence::{check_evidence, wanted_by};
 pub use lines_report::report;
 pub use list_answers::{

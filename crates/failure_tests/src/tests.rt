@@ -1,12 +1,15 @@
 //! What the commands do if an output fails, and of values that the words of a command line can't have.
+mod below;
 mod memory;
 mod records;
 
+use check_fit::{Refused, TokenRule};
 use cli_commands::{print, run};
 use cli_failures::Failure;
 use cli_tasks::{QuestionsWords, RequestWords, Stamped, Task, TextTask};
 use cli_words::{Meaning, meaning_of};
-use cmsproof_api::{CmsFault, Fault, Kind, Refused, TokenRule};
+use cms_types::CmsFault;
+use der_core::{Fault, Kind};
 use std::fs;
 use std::io::{self, ErrorKind, Write};
 use std::test::Fail;

@@ -1,6 +1,6 @@
 -- What follows from what the call says of an evidence record, by an answers list, which never fails.
 use Rattle.std.proofs.Common.{◌≡◌, ◌⊎◌, ℕ, true, List, [], ◌∷◌, Option, Result, Ok, Err, inl, inr, refl, sym, ap, subst}
-use Rattle.std.proofs.Common.{◌∙◌}
+use Rattle.std.proofs.Common.{◌∙◌, ◌≢◌}
 use Rattle.std.specs.List.{AllByRecursion}
 use Rattle.digests.specs.Selection.{set_given}
 use Rattle.digests.specs.Sets.{is_in}
@@ -32,7 +32,8 @@ use Rattle.library_answers.specs.declared.answer.Answer.{Answer}
 use Rattle.library_answers.specs.Failures.{failure_numbers}
 use Rattle.library_answers.specs.Numbers.{accepted_numbers, nothing, record_rule_numbers, stamp_rule_numbers}
 use Rattle.library_calls.specs.Evidence.{IsKnownEvidenceVerdict, IsEvidenceJudged, IsDevice, SaysEvidence}
-use Rattle.library_calls.specs.Evidence.{IsEvidenceChecked, SaysShown, ShowsStated, grounds_under}
+use Rattle.library_calls.specs.Evidence.{IsEvidenceChecked, SaysNoMemory, SaysShown, ShowsStated, grounds_under}
+use Rattle.library_calls.specs.Stamps.{SaysFailure}
 use Rattle.library_calls.specs.Stated.{EvidenceCheck, RefusesStated, data_of}
 use Rattle.library_calls.proofs.InMemory.{never_raised}
 use Rattle.library_calls.proofs.Moments.{one_moment_in, token_is_no}
@@ -138,10 +139,15 @@ names_no_verdict value (failure.Uncompared fault) h = absurd h
 names_no_verdict value (failure.Unattached fault) h = absurd h
 names_no_verdict value (failure.Trust fault) h = refl
 names_no_verdict value (failure.Answers fault) h = refl
+names_no_verdict value (failure.Sums fault) h = refl
+names_no_verdict value (failure.Unstamping why) h = refl
+names_no_verdict value (failure.Unmade why) h = refl
 names_no_verdict value (failure.Open path) h = refl
 names_no_verdict value (failure.Read path) h = refl
 names_no_verdict value (failure.Size path) h = refl
 names_no_verdict value (failure.Write path) h = refl
+names_no_verdict value (failure.Unput path) h = refl
+names_no_verdict value (failure.Taken path) h = refl
 names_no_verdict value failure.Memory h = refl
 
 no_verdict : (said : Answer) (m : ℕ) → said ≡ nothing → said ≡ accepted_numbers m → ⊥
@@ -204,3 +210,20 @@ module _ (said : Answer) (status : ℕ) (before : List ℕ) (size : ℕ) (after 
     pub says_shown : IsEvidenceChecked list asked i said status before size after
         → SaysShown list asked i said status m
     says_shown checked = record { sound = sound checked; complete = complete checked }
+
+-- nothing that a caller states is a lack of memory
+not_memory : (i : EvidenceCheck) → RefusesStated i failure.Memory → ⊥
+not_memory i (inl (some, inl (names, none))) = names
+not_memory i (inl (some, inr (names, none))) = names
+not_memory i (inr (ends, inl (names, some, none))) = names
+not_memory i (inr (ends, inr (at, names))) = names.0
+
+-- what the caller states is not as it must be, or memory was refused
+pub unstated : (list : List EntryValue) (asked : List Asked) (i : EvidenceCheck) (why : Failure)
+    → (why ≡ failure.Memory) ⊎ RefusesStated i why → {said : Answer} {status : ℕ} {before : List ℕ} {size : ℕ}
+    → {after : List ℕ} → (why ≡ failure.Memory → SaysNoMemory said status before size after)
+    → (why ≢ failure.Memory → SaysFailure why said status before size after)
+    → IsEvidenceChecked list asked i said status before size after
+unstated list asked i why (inl is) memory other = inr (inr (memory is))
+unstated list asked i why (inr refuses) memory other =
+    inr (inl (why, refuses, other (λ is. not_memory i (subst (λ (f : Failure). RefusesStated i f) is refuses))))

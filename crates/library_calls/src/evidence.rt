@@ -1,10 +1,12 @@
 //! An evidence record over the data objects that it should cover (RFC 4998 5.3).
-ghost use Rattle.std.specs.Prelude.{◌≡◌, ◌⊎◌, List, IfErr, IfOk, length, sum};
+ghost use Rattle.std.specs.Prelude.{◌≡◌, ◌≢◌, ◌⊎◌, List, IfErr, IfOk, length, sum};
 ghost use Rattle.trust_lists.specs.Asking.{Asked, is_among};
 ghost use Rattle.check_questions.specs.QuestionsText.{questions_text};
 ghost use Rattle.evidence_questions.specs.RecordQuestions.{AreQuestionsOfRecord};
 ghost use Rattle.library_calls.specs.Evidence.{IsEvidenceChecked, IsEvidenceJudged, IsEvidenceQuestioned};
-ghost use Rattle.library_calls.specs.Evidence.{IsRecordUnasked, SaysEvidence, failure_of_questions, grounds_under};
+ghost use Rattle.library_calls.specs.Evidence.{IsRecordUnasked, SaysEvidence, SaysNoMemory, failure_of_questions};
+ghost use Rattle.library_calls.specs.Evidence.{grounds_under};
+ghost use Rattle.library_calls.specs.Stamps.{SaysFailure};
 ghost use Rattle.library_calls.specs.Stated.{RefusesStated, States, data_of};
 
 use crate::data_objects::{digests_of, have_lengths};
@@ -119,6 +121,19 @@ fn tell_evidence_verdict(
     }
 }
 
+/// Why what a caller states is not as it must be, in numbers and as its line; or that memory was refused, without one.
+fn tell_unstated(alloc: Global, why: &Failure, room: &mut [u8]) -> Told
+    ensures memory { why.now ≡ Failure.Memory
+        → SaysNoMemory result.said result.status room.old result.size room.new }
+    ensures other { why.now ≢ Failure.Memory
+        → SaysFailure why.now result.said result.status room.old result.size room.new }
+{
+    match why {
+        Failure::Memory => Told::without_text(NO_MEMORY, Answer::nothing()),
+        other => tell_failure(alloc, other, room),
+    }
+}
+
 /// Says whether an evidence record shows that data objects existed, and by which moment, under these lists.
 pub fn tell_evidence_check(
     alloc: Global,
@@ -139,8 +154,7 @@ pub fn tell_evidence_check(
             let verdict = evidence_verdict(alloc, list, asked, input, &ends, at);
             tell_evidence_verdict(alloc, verdict, room)
         }
-        Err(Failure::Memory) => Told::without_text(NO_MEMORY, Answer::nothing()),
-        Err(why) => tell_failure(alloc, &why, room),
+        Err(why) => tell_unstated(alloc, &why, room),
     }
 }
 

@@ -62,9 +62,12 @@ fn push_octet(alloc: Global, text: &mut String, octet: u8) -> Result<(), AllocEr
     }
 }
 
-/// What is shown of a text with these octets.
+/// What is shown of a text with these octets: a dash if there are none; each as it is, if it is a character of ASCII
+/// from the space to the tilde, except the backslash, or as a backslash, an x and two hexadecimal digits.
+///
+/// Errors: memory is refused.
 #[tactic(auto, using(crate::proofs::Bits::text_of_octets))]
-fn shown_text(alloc: Global, octets: &[u8]) -> Result<String, AllocError>
+pub fn shown_text(alloc: Global, octets: &[u8]) -> Result<String, AllocError>
     ensures { IfOk result (λ text. string_bytes text ≡ shown_text octets.now) }
 {
     if octets.is_empty() {

@@ -74,7 +74,8 @@ fn state_of(rt: &HostRuntime, row: &Row<'_>, wanted: &Given<'_>) -> Result<Strin
     }
 }
 
-/// Removes all that the row made, or let make.
+/// Removes all that the row made, or let make: then the folders that the row has as `leaves=PATH;..`, which a command
+/// made, and those of `folders`, the last first.
 pub fn clear(rt: &HostRuntime, row: &Row<'_>) -> Result<(), Bad> {
     for name in ["files", "texts", "long", "made", "wrote"] {
         for part in row.value(name).unwrap_or("").split(';') {
@@ -83,9 +84,11 @@ pub fn clear(rt: &HostRuntime, row: &Row<'_>) -> Result<(), Bad> {
             }
         }
     }
-    for path in row.value("folders").unwrap_or("").split(';') {
-        if !path.is_empty() {
-            done(fs::remove_dir(rt, path))?;
+    for name in ["leaves", "folders"] {
+        for path in row.value(name).unwrap_or("").rsplit(';') {
+            if !path.is_empty() {
+                done(fs::remove_dir(rt, path))?;
+            }
         }
     }
     Ok(())

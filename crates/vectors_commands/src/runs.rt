@@ -7,7 +7,7 @@ use vectors::{Bad, Row};
 
 /// Says how the words end and what they print, with the row's files there; of each file to be made, if it is as given.
 pub fn said_of_run(rt: &HostRuntime, row: &Row<'_>) -> Result<String, Bad> {
-    row.takes("words files texts long folders made wrote has out")?;
+    row.takes("words files texts long folders leaves made wrote has out")?;
     folder::fill(rt, row)?;
     let said = said_in_folder(rt, row);
     folder::clear(rt, row)?;

@@ -2,21 +2,24 @@
 //! memory: then the call reports it, and the next call gives the whole answer.
 mod files;
 
-use cmsproof_api::{
-    Answers, AnswersRule, FromWrite, Pass, Pieces, Policy, QuestionsFault, StreamQuestionsFault,
-    Trust, TrustRule, check, questions_stream,
-};
+use check_fit::Policy;
+use check_questions::QuestionsFault;
+use check_stream::{StreamQuestionsFault, questions_stream};
+use check_verdict::check;
+use cms_stream::Pass;
 use der_core::Oid;
 use der_oid_text::{OidFault, oid_parse, oid_text};
 use der_time::generalized_text;
-use devices::Slice;
+use devices::{FromWrite, Pieces, Slice};
 use digests::{Alg, digest};
 use files::{ANSWERS, CERTIFICATE, REQUEST, STAMP, STAMPED, TRUST, UNSTAMPED};
 use lines_shown::{
     show_certificate, show_evidence, show_request, show_response, show_signed, show_tst,
 };
+use list_answers::{Answers, AnswersRule};
 use std::alloc::Global;
 use std::test::Fail;
+use trust_lists::{Trust, TrustRule};
 use tsp_types::{MakeFault, Request};
 
 /// What a call gives, if memory may be refused once: then it reports this, and the next call gives all.

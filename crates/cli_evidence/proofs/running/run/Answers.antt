@@ -1,4 +1,5 @@
 use Rattle.cli_commands.proofs.Malformed.{fault_reported, refusal_reported}
+use Rattle.cli_commands.proofs.Undone.{reported}
 use Rattle.cli_evidence.proofs.running.run.Goals as goal
 
 pub returns-in-Err-clause-refused : goal.returns-in-Err-clause-refused
@@ -8,3 +9,7 @@ returns-in-Err-clause-refused g c =
 pub returns-in-Err-clause-malformed : goal.returns-in-Err-clause-malformed
 returns-in-Err-clause-malformed g c =
     fault_reported c.in-Err.failure c.report.result _ _ c.report.ensures.status c.report.ensures.told
+
+pub returns-in-Err-clause-made : goal.returns-in-Err-clause-made
+returns-in-Err-clause-made g c words is done =
+    absurd (reported c.in-Err.failure c.report.result c.report.ensures.status done)

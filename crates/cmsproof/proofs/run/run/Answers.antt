@@ -1,6 +1,6 @@
 use Rattle.std.proofs.Common.{inl}
 use Rattle.cli_commands.proofs.Malformed.{fault_reported, refusal_reported}
-use Rattle.cmsproof.proofs.NeverDone.{reported}
+use Rattle.cli_commands.proofs.Undone.{reported}
 use Rattle.cmsproof.proofs.run.run.Goals as goal
 
 pub returns-in-Ok-clause-done : goal.returns-in-Ok-clause-done

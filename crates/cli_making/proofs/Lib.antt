@@ -1,0 +1,6 @@
+pub mod Stated
+pub mod Texts
+pub mod Walked
+pub mod Records
+pub mod Requested
+pub mod Made

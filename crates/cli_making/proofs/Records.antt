@@ -1,0 +1,89 @@
+-- The record of a leaf: what it shows, and when it is too long or can't be put.
+use Rattle.std.proofs.Common.{◌≡◌, ◌≤◌, ◌^◌, ℕ, List, [], ◌∷◌, Option, Result, Ok, Err, sym, subst, refl, inl, inr}
+use Rattle.std.proofs.Common.{length}
+use Rattle.std.specs.Prelude.{IfErr, IfOk, OnOk}
+use Rattle.digests.specs.declared.algorithm.Alg.{Alg}
+use Rattle.digests.specs.declared.value.Digest.{Digest}
+use Rattle.digests.specs.Digests.{octets_of}
+use Rattle.evidence_types.specs.EvidenceValue.{EncodesEvidence, evidence_parts}
+use Rattle.evidence_trees.specs.HashTrees.{HashTree, AreListsOf}
+use Rattle.evidence_making.specs.Laws.{ShowsLeaf}
+use Rattle.evidence_making.specs.Made.{made}
+use Rattle.evidence_making.specs.declared.fault.MakeFault.{MakeFault}
+use Rattle.evidence_making.specs.declared.fault.MakeFault.TheVariants as make
+use Rattle.evidence_sums.specs.SumLines.{SumValue}
+use Rattle.cli_failures.specs.declared.failure.Failure.{Failure}
+use Rattle.cli_failures.specs.Failures.{failure_of_making}
+use Rattle.cli_making.specs.Placing.{Adds, Placed, Ways, placed}
+use Rattle.cli_making.specs.Making.{IsFileOf, IsRecordOf, ShowsData}
+use Rattle.cli_making.specs.Unmade.{FailsAt, IsTooLong}
+
+shows_data : (tree : HashTree) (token : List ℕ) (digest : Digest) (values : List (List ℕ)) (octets : List ℕ)
+    → AreListsOf tree (octets_of digest) values → ShowsLeaf tree.algorithm values token octets
+    → ShowsData tree token digest octets
+shows_data tree token digest values octets lists shows g data_object m is stands =
+    shows g tree data_object m refl (subst (λ (leaf : List ℕ). AreListsOf tree leaf values) (sym is) lists) stands
+
+record_is : (tree : HashTree) (token : List ℕ) (digest : Digest) (values : List (List ℕ)) (octets : List ℕ)
+    → AreListsOf tree (octets_of digest) values → EncodesEvidence octets (made tree.algorithm values token)
+    → ShowsLeaf tree.algorithm values token octets → IsRecordOf tree token digest octets
+record_is tree token digest values octets lists encoded shows = record {
+  values = values;
+  lists = lists;
+  encoded = encoded;
+  shows = shows_data tree token digest values octets lists shows;
+}
+
+module _ (tree : HashTree) (token : List ℕ) (digest leaf : Digest) (alg : Alg) (values : List (List ℕ))
+    (same : leaf ≡ digest) (by : alg ≡ tree.algorithm) (lists : AreListsOf tree (octets_of leaf) values) where
+  of_digest : AreListsOf tree (octets_of digest) values
+  of_digest = subst (λ (d : Digest). AreListsOf tree (octets_of d) values) same lists
+
+  -- what is made of the lists of the leaf is its record
+  pub record_made : {O E : Type 0} (items : O → List ℕ) (r : Result O E)
+      → IfOk r (λ o. EncodesEvidence (items o) (made alg values token))
+      → IfOk r (λ o. ShowsLeaf alg values token (items o)) → IfOk r (λ o. IsRecordOf tree token digest (items o))
+  record_made items (Err e) encoded shows = tt
+  record_made items (Ok o) encoded shows = record_is tree token digest values (items o) of_digest
+      (subst (λ (a : Alg). EncodesEvidence (items o) (made a values token)) by encoded)
+      (subst (λ (a : Alg). ShowsLeaf a values token (items o)) by shows)
+
+  pub record_too_long : 2 ^ 32 ≤ length (evidence_parts (made alg values token)) → IsTooLong tree token digest
+  record_too_long size = record {
+    values = values;
+    lists = of_digest;
+    size = subst (λ (a : Alg). 2 ^ 32 ≤ length (evidence_parts (made a values token))) by size;
+  }
+
+module _ (ways : Ways) (folder : List ℕ) (tree : HashTree) (token : List ℕ) (s : SumValue) where
+  -- a record isn't made, for this fault
+  pub not_made : {O : Type 0} (r : Result O MakeFault) (fault : MakeFault) → r ≡ Err fault
+      → (r ≡ Err make.TooLong → IsTooLong tree token s.digest)
+      → FailsAt ways folder tree token s (failure_of_making fault)
+  not_made r make.TooLong is long = inr (inl (refl, long is))
+  not_made r make.OutOfMemory is long = inl refl
+
+  module _ (name octets made_octets : List ℕ) (by : name ≡ s.name) (same : octets ≡ made_octets)
+      (is : IsRecordOf tree token s.digest made_octets) where
+    file_of : IsFileOf folder tree token s (placed folder name octets)
+    file_of = record {
+      below = refl;
+      by = by;
+      is = subst (λ (os : List ℕ). IsRecordOf tree token s.digest os) (sym same) is;
+    }
+
+    pub can_put : {T : Type 0} (r : Result T Failure) → OnOk r (ways.can (placed folder name octets))
+        → OnOk r ((p : Placed) × IsFileOf folder tree token s p × ways.can p)
+    can_put (Err f) can = tt
+    can_put (Ok t) can = (placed folder name octets, file_of, can)
+
+    pub fails_at : {T : Type 0} (r : Result T Failure) → IfErr r (ways.fails (placed folder name octets))
+        → IfErr r (FailsAt ways folder tree token s)
+    fails_at (Ok t) fails = tt
+    fails_at (Err f) fails = inr (inr (placed folder name octets, file_of, fails))
+
+    pub was_put : {T : Type 0} (Did : Placed → Type 0) (before after : Option (List Placed)) (r : Result T Failure)
+        → OnOk r (Did (placed folder name octets)) → OnOk r (Adds before after (placed folder name octets ∷ []))
+        → OnOk r ((p : Placed) × IsFileOf folder tree token s p × Did p × Adds before after (p ∷ []))
+    was_put Did before after (Err f) did adds = tt
+    was_put Did before after (Ok t) did adds = (placed folder name octets, file_of, did, adds)

@@ -1,0 +1,6 @@
+pub mod Sums
+pub mod Requesting
+pub mod Placing
+pub mod Making
+pub mod Unmade
+pub mod Leaves

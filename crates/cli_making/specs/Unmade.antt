@@ -1,0 +1,92 @@
+-- Why `evidence make` makes no records, or not all: the first reason of these, in this order. `holds` is what an open
+-- file holds, if that is known.
+use Rattle.std.specs.Prelude.{◌≡◌, ◌≤◌, ◌^◌, ◌⊎◌, ℕ, List, [], ◌∷◌, ◌++◌, length, Option, None}
+use Rattle.std.specs.List.{AllByRecursion}
+use Rattle.digests.specs.declared.algorithm.Alg.{Alg}
+use Rattle.digests.specs.declared.value.Digest.{Digest}
+use Rattle.digests.specs.Algorithms.{name_of}
+use Rattle.digests.specs.Digests.{octets_of}
+use Rattle.evidence_types.specs.EvidenceValue.{evidence_parts}
+use Rattle.evidence_trees.specs.HashTrees.{HashTree, AreListsOf}
+use Rattle.evidence_making.specs.Made.{made}
+use Rattle.evidence_making.specs.Stamping.{IsNoToken, StampsAnother, StampsRoot}
+use Rattle.evidence_making.specs.declared.fault.MakeFault.TheVariants as make
+use Rattle.evidence_making.specs.declared.fault.StampFault.TheVariants as stamp
+use Rattle.evidence_sums.specs.SumLines.{SumValue}
+use Rattle.cli_tasks.specs.declared.task.MakeWords.{MakeWords}
+use Rattle.cli_failures.specs.declared.failure.Failure.{Failure}
+use Rattle.cli_failures.specs.declared.failure.Failure.TheVariants as failure
+use Rattle.cli_failures.specs.Files.{IsFailureToRead, IsHeld}
+use Rattle.cli_commands.specs.Refusals.{RefusesAlg}
+use Rattle.cli_making.specs.Sums.{AreStated, RefusesSums}
+use Rattle.cli_making.specs.Placing.{Placed, Ways, Adds, system_ways}
+use Rattle.cli_making.specs.Making.{AreFiles, EachFile, IsFileOf}
+
+-- U7: the file holds no token; U8: the token stamps something else than the root
+abbrev pub StampsNot : (token : List ℕ) → (root : Digest) → Failure → Type 0
+StampsNot token root f = ((f ≡ failure.Unstamping stamp.TokenMalformed) × IsNoToken token)
+    ⊎ ((f ≡ failure.Unstamping stamp.ImprintDiffers) × StampsAnother token root)
+
+-- the record of a leaf of the tree would be longer than an element can be
+pub record IsTooLong (tree : HashTree) (token : List ℕ) (digest : Digest) : Type 0 where
+  pub values : List (List ℕ)
+  pub lists : AreListsOf tree (octets_of digest) values
+  pub size : 2 ^ 32 ≤ length (evidence_parts (made tree.algorithm values token))
+
+-- why the file of a line can't be put: memory ran out; by U10 the record would be too long; or the file fails
+abbrev pub FailsAt : Ways → (folder : List ℕ) → HashTree → (token : List ℕ) → SumValue → Failure → Type 0
+FailsAt ways folder tree token s f = (f ≡ failure.Memory)
+    ⊎ (((f ≡ failure.Unmade make.TooLong) × IsTooLong tree token s.digest)
+    ⊎ ((p : Placed) × IsFileOf folder tree token s p × ways.fails p f))
+
+-- the files of the lines before one are these, and that of this one can't be put
+pub record StopsAt (ways : Ways) (folder : List ℕ) (tree : HashTree) (token : List ℕ) (sums : List SumValue)
+    (f : Failure) : Type 0 where
+  pub before : List SumValue
+  pub line : SumValue
+  pub after : List SumValue
+  pub all : sums ≡ before ++ line ∷ after
+  pub files : List Placed
+  pub are : AreFiles folder tree token before files
+  pub why : FailsAt ways folder tree token line f
+
+-- a test found of the first of these lines that its file can't be put
+abbrev pub IsUntested : Ways → (folder : List ℕ) → HashTree → (token : List ℕ) → List SumValue → Failure → Type 0
+IsUntested ways folder tree token sums f =
+    (stop : StopsAt ways folder tree token sums f) × AllByRecursion ways.can stop.files
+
+-- why no file is put: the text states no sums; the token doesn't stamp the root of the tree over their digests; or a
+-- test found that the file of a line can't be put
+abbrev pub IsRefused : Ways → (folder : List ℕ) → Alg → (text token : List ℕ) → Failure → Type 0
+IsRefused ways folder alg text token f = RefusesSums alg text f
+    ⊎ ((sums : List SumValue) × (tree : HashTree) × (root : Digest) × AreStated alg text sums tree root
+    × (StampsNot token root f ⊎ ((m : ℕ) × StampsRoot token root m × IsUntested ways folder tree token sums f)))
+
+-- nothing was refused, and a test found that the file of each line can be put; then those of the lines before one were
+-- put, and no others, and that of this one wasn't
+pub record IsStopped (ways : Ways) (before after : Option (List Placed)) (folder : List ℕ) (alg : Alg)
+    (text token : List ℕ) (f : Failure) : Type 0 where
+  pub sums : List SumValue
+  pub tree : HashTree
+  pub root : Digest
+  pub stated : AreStated alg text sums tree root
+  pub moment : ℕ
+  pub stamped : StampsRoot token root moment
+  pub tested : EachFile ways.can folder tree token sums
+  pub stop : StopsAt ways folder tree token sums f
+  pub put : Adds before after stop.files
+
+-- no records are made, and nothing was put; or not all
+abbrev pub IsUnmade : Ways → (before after : Option (List Placed)) → (folder : List ℕ) → Alg
+    → (text token : List ℕ) → Failure → Type 0
+IsUnmade ways before after folder alg text token f = (IsRefused ways folder alg text token f × Adds before after [])
+    ⊎ IsStopped ways before after folder alg text token f
+
+-- the first of these: no algorithm has the name; the file of the sums can't be read; the token's can't; or what they
+-- hold is refused, or a record can't be put
+abbrev pub MakesNoRecords : {F : Type 0} → (holds : F → Option (List ℕ)) → MakeWords → Failure → Type 0
+MakesNoRecords holds words f = RefusesAlg words.alg.now f
+    ⊎ ((alg : Alg) × (words.alg.now ≡ name_of alg) × (IsFailureToRead words.sums f
+    ⊎ ((text : List ℕ) × IsHeld holds text × (IsFailureToRead words.token f
+    ⊎ ((token : List ℕ) × IsHeld holds token
+    × IsUnmade (system_ways holds) None None words.into.now alg text token f)))))

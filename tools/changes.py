@@ -5,8 +5,9 @@
 
 Comments, white space and proofs don't count, nor whether a line goes on in the next one, further in by four, or a list of
 names in a second `use`: of code (.rt) and definitions (.antt) what is left without comments is compared, of an edit the lines
-that are read. Nor does it count that a module, or a definition that its file names no more, went as a whole: what is left is as it
-was, and no proof can cite what is gone. What can't be told apart for sure counts as a change. `soak.py` uses this.
+that are read. Nor does it count that a module, or a definition that its file names no more, went as a whole, or a library that no file
+of the crate names, from its line of crates.txt: what is left is as it was, and no proof can cite what is gone. What can't be told apart
+for sure counts as a change. `soak.py` uses this.
 """
 
 import argparse
@@ -280,6 +281,15 @@ def is_only_less(history, commit, top, path):
     return name in ROOTS and less_code(before, after)
 
 
+def uses_less(top, crate, before, after):
+    """Whether the line of a crate only lost libraries that none of its files names: what isn't proved with more libraries isn't
+    with fewer."""
+    if not before or not after or [it for it in before if it in after] != after:
+        return False
+    gone = re.compile("|".join(rf"\b{re.escape(it)}\b" for it in before if it not in after).encode())
+    return not any(octets is None or gone.search(octets) for octets in files_of(top, crate, MEANT + PROOFS + EDITS).values())
+
+
 def changed_text(history, commit, top, crate):
     """The files of code and definitions of a crate whose meaning changed since a commit, and crates.txt if its line there says
     something else."""
@@ -288,7 +298,8 @@ def changed_text(history, commit, top, crate):
         changed = [path for path in files if is_change(history, commit, top, path)]
         changed = [path for path in changed if not is_only_less(history, commit, top, path)]
         earlier = history.octets(commit, LISTING).decode() if LISTING in history.listed(commit) else ""
-        if lines_of(earlier).get(crate) != lines_of((top / LISTING).read_text()).get(crate):
+        before, after = (lines_of(text).get(crate) for text in (earlier, (top / LISTING).read_text()))
+        if before != after and not uses_less(top, crate, before, after):
             changed.append(LISTING)
         history.changed[commit, crate] = changed
     return history.changed[commit, crate]

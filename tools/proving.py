@@ -1,7 +1,5 @@
 """Proves the program, the library for C, the program of workloads and the crates below them by the library of `rt`, and has the
 toolchain's compiler write their assembly."""
-import importlib.machinery
-import importlib.util
 import os
 import re
 import shlex
@@ -12,6 +10,8 @@ import tempfile
 import time
 from concurrent.futures import FIRST_COMPLETED, ThreadPoolExecutor, wait
 from pathlib import Path
+
+import kept_sums
 
 TOP = Path(__file__).resolve().parent.parent
 # the processors of dist/, each the plainest of its kind, and how rattle names them
@@ -54,10 +54,7 @@ def kit():
     command = shutil.which("rt")
     if not command:
         raise Stopped("no command 'rt' is on the PATH: install the Rattle toolchain")
-    sys.dont_write_bytecode = True
-    loader = importlib.machinery.SourceFileLoader("rt", str(Path(command).resolve()))
-    loaded = importlib.util.module_from_spec(importlib.util.spec_from_loader("rt", loader))
-    loader.exec_module(loaded)
+    loaded = kept_sums.load(command)
     if hasattr(loaded, "share_work"):
         loaded.share_work(True)
     return loaded.rtlib

@@ -24,6 +24,7 @@ import tempfile
 import time
 
 import changes
+import kept_sums
 import together
 from timed_runs import end_all, run
 
@@ -105,7 +106,7 @@ def try_alone(copy, crate, edits, jobs, until):
     for edit in edits_of(copy, crate):
         if edit not in edits:
             edit.rename(aside / edit.name)
-    status, told = run(["rt", "must-fail", crate], copy, jobs, until)
+    status, told = run([*kept_sums.rt(), "must-fail", crate], copy, jobs, until)
     if status is None:
         return None
     lines = re.findall(rf"^.*must-fail {re.escape(crate)}/\S+: refused, as it must be.*$", told, re.M)
@@ -125,7 +126,7 @@ def try_crate(copy, crates, crate, jobs, until):
     """Whether all edits of a crate of a copy are refused: many in one check, as far as that tells, the others alone."""
     edits, begun = edits_of(copy, crate), time.monotonic()
     # a crate that isn't proved as it stands would refuse every edit
-    status, told = run(["rt", "check", "--jobs", str(jobs)], copy / "crates" / crate, jobs, until)
+    status, told = run([*kept_sums.rt(), "check", "--jobs", str(jobs)], copy / "crates" / crate, jobs, until)
     if status:
         print(told.rstrip("\n"), flush=True)
     if status == 0:

@@ -19,6 +19,7 @@ import shutil
 import tempfile
 
 import changes
+import kept_sums
 from timed_runs import run
 
 # How many edits a check has at most: a check that gives no result costs no more than these.
@@ -172,7 +173,7 @@ def check(copy, crates, crate, edits, until):
         for path, old, new in [pair for edit in edits for pair in pairs_of(edit)]:
             place = room / "crates" / crate / path
             place.write_text(place.read_text().replace(old, new))
-        return run(["rt", "check", "--jobs", "1"], room / "crates" / crate, 1, until)
+        return run([*kept_sums.rt(), "check", "--jobs", "1"], room / "crates" / crate, 1, until)
 
 
 def try_batch(copy, crates, crate, batch, until):

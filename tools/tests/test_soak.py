@@ -67,7 +67,7 @@ class Repository(unittest.TestCase):
         (self.folder / "bin" / "rt").chmod(0o755)
         self.put(FILES)
         (self.top / "tools").mkdir()
-        for name in ("soak.py", "changes.py", "together.py", "timed_runs.py"):
+        for name in ("soak.py", "changes.py", "kept_sums.py", "together.py", "timed_runs.py"):
             shutil.copy(TOOLS / name, self.top / "tools")
         self.surroundings = dict(
             {name: value for name, value in os.environ.items() if not name.startswith("GIT_")},
@@ -245,7 +245,11 @@ class Changed(Repository):
             [],
         ),
         ({"crates/beside/src/lib.rt": "fn beside() { low() }\n"}, []),
-        ({"crates.txt": FILES["crates.txt"].replace("low: kit", "low:")}, ["low", "high"]),
+        ({"crates.txt": FILES["crates.txt"].replace("low: kit", "low: kit other")}, ["low", "high"]),
+        ({"crates.txt": FILES["crates.txt"].replace("low: kit", "low: other")}, ["low", "high"]),
+        # a library that nothing names went; one that an edit names
+        ({"crates.txt": FILES["crates.txt"].replace("low: kit", "low:")}, []),
+        ({"crates.txt": FILES["crates.txt"].replace("high: low kit", "high: kit")}, ["high"]),
         ({"README.md": "text"}, []),
     ]
 

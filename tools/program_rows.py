@@ -113,7 +113,7 @@ def state(path, octets):
 
 def run(row, place):
     """How words end, what they print, and the files that they make."""
-    row.takes("words files texts long folders made wrote has out")
+    row.takes("words files texts long folders leaves made wrote has out")
     fill(row, place)
     outcome = place.run(words_of(row.text("words")))
     told = None

@@ -12,7 +12,7 @@ _cmsproof_options() {
     'cmsproof check') echo '--trust --answers --content --sha1 --buffer --files-from --null --help' ;;
     'cmsproof questions') echo '--trust --buffer --files-from --null --help' ;;
     'cmsproof stamp') echo '--trust --answers --sha1 --help --files-from --null' ;;
-    'cmsproof evidence') echo '--trust --answers --end --at --whole --help --files-from --null' ;;
+    'cmsproof evidence') echo '--trust --answers --end --at --whole --help --files-from --null --alg --policy --nonce --cert --token --into' ;;
     'cmsproof attach') echo '--signer --token --help' ;;
     'cmsproof compare') echo '--first --second --help' ;;
     'cmsproof migrate') echo '--help' ;;
@@ -24,6 +24,7 @@ _cmsproof_options() {
     'cmsproof-archive report') echo '--help --version --html --csv --json --known --only' ;;
     'cmsproof-archive evidence') echo '--help --version --trust --content --sha1 --record --end --at --whole --part --without-content --to --verify --list-of-the-bundle' ;;
     'cmsproof-archive due') echo '--help --version --trust --months --by --end --jobs --json --files-from --null --progress' ;;
+    'cmsproof-archive stamp') echo '--help --version --tsa --into --state --trust --end --alg --policy --timeout --jobs --program --progress' ;;
     esac
 }
 
@@ -33,9 +34,9 @@ _cmsproof_firsts() {
     'cmsproof') echo 'request show cert fit match check questions stamp evidence attach compare migrate help' ;;
     'cmsproof show') echo 'evidence request response signed tst' ;;
     'cmsproof stamp') echo 'check questions' ;;
-    'cmsproof evidence') echo 'check questions' ;;
+    'cmsproof evidence') echo 'check questions request make' ;;
     'cmsproof help') echo 'request show cert fit match check questions stamp evidence attach compare migrate help' ;;
-    'cmsproof-archive') echo 'report evidence due' ;;
+    'cmsproof-archive') echo 'report evidence due stamp' ;;
     esac
 }
 
@@ -66,6 +67,11 @@ _cmsproof_values() {
     'cmsproof evidence --end') echo '' ;;
     'cmsproof evidence --at') echo '' ;;
     'cmsproof evidence --files-from') echo files ;;
+    'cmsproof evidence --alg') echo 'sha1 sha224 sha256 sha384 sha512 sha512-224 sha512-256' ;;
+    'cmsproof evidence --policy') echo '' ;;
+    'cmsproof evidence --nonce') echo '' ;;
+    'cmsproof evidence --token') echo files ;;
+    'cmsproof evidence --into') echo files ;;
     'cmsproof attach --signer') echo '' ;;
     'cmsproof attach --token') echo files ;;
     'cmsproof compare --first') echo '' ;;
@@ -132,6 +138,16 @@ _cmsproof_values() {
     'cmsproof-archive due --end') echo '' ;;
     'cmsproof-archive due --jobs') echo '' ;;
     'cmsproof-archive due --files-from') echo files ;;
+    'cmsproof-archive stamp --tsa') echo '' ;;
+    'cmsproof-archive stamp --into') echo files ;;
+    'cmsproof-archive stamp --state') echo files ;;
+    'cmsproof-archive stamp --trust') echo files ;;
+    'cmsproof-archive stamp --end') echo '' ;;
+    'cmsproof-archive stamp --alg') echo 'sha256 sha384 sha512' ;;
+    'cmsproof-archive stamp --policy') echo '' ;;
+    'cmsproof-archive stamp --timeout') echo '' ;;
+    'cmsproof-archive stamp --jobs') echo '' ;;
+    'cmsproof-archive stamp --program') echo files ;;
     *) return 1 ;;
     esac
 }
@@ -162,6 +178,7 @@ _cmsproof() {
     'cmsproof-archive report') place=$tool\ ${COMP_WORDS[1]} ;;
     'cmsproof-archive evidence') place=$tool\ ${COMP_WORDS[1]} ;;
     'cmsproof-archive due') place=$tool\ ${COMP_WORDS[1]} ;;
+    'cmsproof-archive stamp') place=$tool\ ${COMP_WORDS[1]} ;;
     esac
     [ "$place" = "$tool" ] || first=2
     if words=$(_cmsproof_values "$place" "$before"); then

@@ -79,11 +79,11 @@ class Offered:
     def test_options_of_commands_and_tools(self):
         table = [(f"cmsproof {name} --", options_of(name)) for name in commands() - {"help"}]
         helps = [(name, help_of(sys.executable, INSTALLED / name, "--help")) for name in TOOLS]
-        for word in ("report", "evidence", "due"):
+        for word in ("report", "evidence", "due", "stamp"):
             name = f"cmsproof-archive {word}"
             helps.append((name, help_of(sys.executable, INSTALLED / "cmsproof-archive", word, "--help")))
         table += [(f"{name} --", options_in(text)) for name, text in helps]
-        self.assertEqual(len(table), len(commands()) - 1 + 4 + 3)
+        self.assertEqual(len(table), len(commands()) - 1 + 4 + 4)
         self.assertTrue(all("--help" in expected for _, expected in table))
         self.check(table)
 
@@ -94,13 +94,15 @@ class Offered:
         table = [
             ("cmsproof show ", {"evidence", "request", "response", "signed", "tst"}),
             ("cmsproof stamp ", {"check", "questions"}),
-            ("cmsproof evidence ", {"check", "questions"}),
+            ("cmsproof evidence ", {"check", "questions", "request", "make"}),
             ("cmsproof request --alg ", digests),
+            ("cmsproof evidence make --alg ", digests),
             ("cmsproof-archive --only ", verdicts),
             ("cmsproof-archive report --only ", verdicts),
             ("cmsproof-archive rep", {"report"}),
             ("cmsproof-archive evi", {"evidence"}),
             ("cmsproof-archive du", {"due"}),
+            ("cmsproof-archive st", {"stamp"}),
         ]
         self.check(table)
 
@@ -112,6 +114,8 @@ class Offered:
             ("cmsproof check --buffer ", nothing),
             ("cmsproof evidence check --answers l", there),
             ("cmsproof evidence check --end ", nothing),
+            ("cmsproof evidence make --into l", there),
+            ("cmsproof evidence request --nonce ", nothing),
             ("cmsproof show signed l", there),
             ("cmsproof-archive l", there),
             ("cmsproof-archive --files-from l", there),
@@ -121,6 +125,8 @@ class Offered:
             ("cmsproof-archive due l", there),
             ("cmsproof-archive due --trust l", there),
             ("cmsproof-archive due --months ", nothing),
+            ("cmsproof-archive stamp --trust l", there),
+            ("cmsproof-archive stamp --tsa ", nothing),
             ("cmsproof-trust --tsa l", there),
             ("cmsproof-trust --until ", nothing),
             ("cmsproof-extract l", there),

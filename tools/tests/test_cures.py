@@ -50,6 +50,13 @@ OTHERS = {
     "W6": "Weak",
     "W7": "Lapsed",
     "W8": "Others",
+    "U1": "Line",
+    "U2": "Empty",
+    "U5": "Name",
+    "U6": "NameTwice",
+    "U7": "TokenMalformed",
+    "U8": "ImprintDiffers",
+    "U10": "TooLong",
 }
 
 

@@ -250,7 +250,7 @@ class Report(unittest.TestCase):
             self.assertEqual("Not all by the same list" in out.decode(), len(lists) > 1)
 
     def test_a_file_called_report_is_one(self):
-        for name in ("report", "evidence", "due"):
+        for name in ("report", "evidence", "due", "stamp"):
             (self.folder / name).write_bytes((REAL / "rsa_attached_ts.p7s").read_bytes())
             for words in (
                 ["--trust", REAL / "trust.txt", name],

@@ -90,6 +90,8 @@ int openat(int at, const char *path, int flags, ...) { va_list more; va_start(mo
 int openat64(int at, const char *path, int flags, ...) { va_list more; va_start(more, flags); return opens(at, path, flags, more); }
 """
 FAULTS = ["memory", "open", "read", "read interrupted", "write", "write interrupted", "seek", "short read", "short write"]
+# the files that commands make, each of them one
+MADE = ("out", "out.ers")
 MORE = [
     CHECK + ["--content", "content", "detached"],
     ["fit", "--content", "content", "detached"],
@@ -104,6 +106,9 @@ MORE = [
     EVIDENCE_CHECK + ["tree", "missing"],
     EVIDENCE_CHECK + ["tree", "long"],
     EVIDENCE_CHECK + ["--end", "x", "tree", "content"],
+    ["evidence", "request", "--policy", "2.999.3", "--nonce", "05", "--cert", "sums", "out"],
+    ["evidence", "make", "--token", "token", "--into", ".", "sums"],
+    ["evidence", "make", "--token", "token", "--into", "missing", "sums"],
 ]
 # the second one is that of `evidence check` while it judges
 NO_MEMORY = b"failed memory\n", b"failed X4 OutOfMemory\n"
@@ -139,7 +144,7 @@ class Failing:
 
     def run(self, words, fault, call):
         """Whether the fault was met, the exit status, both streams and the output file."""
-        for name in ("met", "out"):
+        for name in ("met", *MADE):
             if os.path.exists(os.path.join(self.folder, name)):
                 os.unlink(os.path.join(self.folder, name))
         done = subprocess.run(
@@ -150,8 +155,8 @@ class Failing:
             timeout=60,
             env={**self.environment, "FAULT": fault, "CALL": str(call)},
         )
-        met, out = octets_in(self.folder, "met"), octets_in(self.folder, "out")
-        return met is not None, done.returncode, done.stdout, done.stderr, out
+        met, *made = (octets_in(self.folder, name) for name in ("met", *MADE))
+        return met is not None, done.returncode, done.stdout, done.stderr, next((one for one in made if one is not None), None)
 
     def sweep(self, words, fault, fault_of):
         """How many calls met the fault, how many of those runs ended with each status, and what is wrong with them."""

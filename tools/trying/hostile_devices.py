@@ -48,6 +48,7 @@ MAKING = [
     (["request", "--of", "file", "out"], request_of(sha(b"abc"))),
     (["attach", "--signer", "1", "--token", "token", "unstamped", "out"], FILE),
     (["migrate", "trust", "out"], migrated(TRUST)[2]),
+    (["evidence", "request", "sums", "out"], request_of(sha(b"abc"))),
     (["match", "request", "response", "out"], expected.matched(REQUEST, RESPONSE)[2]),
 ]
 # words with a place for an input file, and how a failure to read it is told
@@ -83,6 +84,9 @@ READING = [
     (["compare", "file", "?"], "read"),
     (["request", "--of", "?", "out"], "read"),
     (["migrate", "?", "out"], "read"),
+    (["evidence", "request", "?", "out"], "read"),
+    (["evidence", "make", "--token", "?", "--into", "folder", "sums"], "read"),
+    (["evidence", "make", "--token", "token", "--into", "folder", "?"], "read"),
     (["cert", "?"], "read"),
     (["show", "signed", "?"], "read"),
     (["show", "request", "?"], "read"),

@@ -12,7 +12,7 @@ import sys
 from pathlib import Path
 
 sys.path.insert(0, str(Path(__file__).resolve().parent.parent))
-from oracle import der, expected, forms, lists, records, rules  # noqa: E402
+from oracle import der, expected, forms, lists, records, rules, sums  # noqa: E402
 from oracle.der import element, number, octets, oid, sequence  # noqa: E402
 from samples import building, signed_files as made  # noqa: E402
 from samples.building import request_of, sha  # noqa: E402
@@ -44,6 +44,8 @@ TERMS_ALL = rules.Terms(lists.entries_of(TRUST_ALL), LINES_ALL)
 
 REQUEST = request_of(sha(b"abc"), cert=True)
 RESPONSE = sequence(sequence(number(0)), made.WITH_TSA.octets)
+# digests of two files, one in a folder, one with an escaped name
+SUMS = f"{sha(b'abc').hex()}  a/b\n\\{sha(b'').hex().upper()} *c\\\\\\n\n".encode()
 STAMP = forms.read_signed_data(TOKEN).content
 # an evidence record (RFC 4998) with each part; the second archive time-stamp has the token alone, the third one none
 BY_SHA_512 = element(0xA0, oid("2.16.840.1.101.3.4.2.3"))
@@ -88,6 +90,14 @@ def migrated(text):
     """What `migrate` says of a trust list, and the one that it makes."""
     entries, fault = lists.trust(text)
     return (fault, 2, None) if fault else ("", 0, lists.written(entries))
+
+
+def root_request(text):
+    """What `evidence request` says of a list of digests, and the request that it makes."""
+    try:
+        return "", 0, request_of(sums.tree([one.digest for one in sums.read(text)])[0])
+    except sums.Refused as refused:
+        return *refused.said, None
 
 
 def stamp_with_lists(trust, answers):
@@ -151,6 +161,7 @@ COMMANDS = [
     ("compare, first", UNSTAMPED, ["compare", "in", "file"], lambda o: expected.compared(o, FILE)),
     ("compare, second", UNSTAMPED, ["compare", "file", "in"], lambda o: expected.compared(FILE, o)),
     ("request --of", UNSTAMPED, ["request", "--of", "in", "out"], signature_request),
+    ("evidence request", SUMS, ["evidence", "request", "in", "out"], root_request),
     ("migrate", TRUST, ["migrate", "in", "out"], migrated),
     ("migrate, version 2", TRUST_2, ["migrate", "in", "out"], migrated),
     (
@@ -214,6 +225,7 @@ BESIDE = {
     "stamp": STAMP,
     "record": RECORD,
     "empty": b"",
+    "sums": f"{sha(b'abc').hex()}  out\n".encode(),
     **record_inputs.BESIDE,
 }
 

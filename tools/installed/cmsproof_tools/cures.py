@@ -517,7 +517,7 @@ ROWS = (
         "11",
         "F16 NoRecord",
         "`--records`, and no regular file is in the place of this file's evidence record",
-        "put it there, or have one made; paths count from the folder of `--under`",
+        "put it there, or make one by `evidence make`; paths count from the folder of `--under`",
     ),
     Row(
         "11",
@@ -586,6 +586,35 @@ ROWS = (
         "`--whole`, and its first list has hash values of other documents too, as of a group (RFC 4998 4.2)",
         "name all of the group, as `evidence check` takes them, or leave `--whole` out",
     ),
+    # evidence records that are made
+    Row(
+        "13",
+        "U1 Line",
+        "this line, from 1, is not of the form (`LINES.md`): mostly the digests are by another algorithm, or were written with `--tag`",
+        "name the algorithm, as `--alg sha512`; leave `--tag` out",
+    ),
+    Row("13", "U2 Empty", "there is no line", "look what `sha256sum` said: it found no file"),
+    Row(
+        "13",
+        "U5 Name",
+        "a name is empty, begins with `/`, has a part that is empty, `.` or `..`, or an octet 0, and so may lead out of the folder of the "
+        "records; or it is not UTF-8",
+        "list the files from within their folder, without `./` (`GUIDE.md`, section 11); rename the file",
+    ),
+    Row("13", "U6 NameTwice", "two lines have one name", "leave one out, and ask for a stamp of the others"),
+    Row(
+        "13",
+        "U7 TokenMalformed",
+        "TOKEN has no SignedData whose content is a TSTInfo (RFC 3161 2.4.2): mostly it is the whole response",
+        "take the token out, by `cmsproof match` or `openssl ts -reply -in RESPONSE -token_out -out TOKEN`",
+    ),
+    Row(
+        "13",
+        "U8 ImprintDiffers",
+        "its imprint is not the root over these digests, by this algorithm: SUMS was changed since the request, or the token is another's",
+        "name the SUMS of the request, and the same `--alg`; or ask for a stamp of these, by `evidence request`",
+    ),
+    Row("13", "U10 TooLong", "a length would pass 4,294,967,295", "none: this form has no such record"),
 )
 
 

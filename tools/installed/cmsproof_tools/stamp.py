@@ -1,0 +1,101 @@
+"""`cmsproof-archive stamp`: one time-stamp for all files of an archive that have no evidence record, and their records."""
+from __future__ import annotations
+
+import argparse
+import os
+from typing import Any
+
+from cmsproof_tools.archive_words import add_ends, jobs_of
+from cmsproof_tools.running import Words, module
+
+ABOUT = """Has an authority stamp all files under a folder that have no evidence record (RFC 4998), by one time-stamp, and makes their records.
+
+    cmsproof-archive stamp letters --tsa http://tsa.example/stamp --trust trust.txt --into records --state letters.stamp
+
+The digest of each file is computed, the program asked for a request of the root of the tree over them (`cmsproof evidence request`), the
+authority for a time-stamp of that (RFC 3161 3.4), and once its answer is judged the program makes the records (`cmsproof evidence make`):
+that of FOLDER/NAME is RECORDS/NAME.ers. Nobody but you gets a digest of a file.
+
+The answer must be to the very request, and by --trust the token must count under an authority of the list now. Without --trust its signature
+must hold, nobody looks whose it is, and a line says so.
+
+The folder STATE has all that was done, so that a run that was stopped is gone on with by the same words: the digests are not computed again,
+and a request that may have been sent is sent again. A file that was changed since its digest was computed is named: its record is of what
+it was. A link, a pipe or a device has no record, and a line says so. A file that can have no record is named before anything is sent.
+
+Exit status: 0 all files have records; 1 a file can have none, was changed, or the answer is refused; 2 the answer is malformed, or the trust
+list is; 3 wrong words; 4 a file, the authority, the program or the library failed.
+"""
+
+
+# the digest algorithms (docs/FORMAT.md, section 5) that a tree is made by: those that hold for long
+ALGORITHMS = ("sha256", "sha384", "sha512")
+
+
+def seconds_of(text: str) -> float:
+    """How many seconds an answer may take."""
+    if not text.isdecimal() or not 1 <= int(text) <= 3600:
+        raise argparse.ArgumentTypeError(f"{text} is no number of seconds from 1 to 3600")
+    return float(text)
+
+
+def parser_of(tool: str) -> Words:
+    """The parser of the words."""
+    parser = Words(tool, description=ABOUT)
+    parser.add_argument("--tsa", required=True, metavar="URL", help="the address of the authority, http or https")
+    into = "the folder of the records, which is made if it is not there"
+    parser.add_argument("--into", required=True, metavar="DIR", help=into)
+    state = "a folder with what was done so far, which is made if it is not there"
+    parser.add_argument("--state", required=True, metavar="DIR", help=state)
+    parser.add_argument("--trust", metavar="LIST", help="the trust list that has the authority")
+    add_ends(parser, ", with --trust")
+    digest = "the digest algorithm, sha256 by default"
+    parser.add_argument("--alg", choices=ALGORITHMS, default="sha256", metavar="NAME", help=digest)
+    parser.add_argument("--policy", metavar="OID", help="the policy under which the authority is asked to stamp")
+    took = "how many seconds the authority may take, 60 by default"
+    parser.add_argument("--timeout", type=seconds_of, default=60.0, metavar="N", help=took)
+    jobs = "files that are read at a time; as many as there are processors by default"
+    parser.add_argument("--jobs", type=jobs_of, default=len(os.sched_getaffinity(0)), metavar="N", help=jobs)
+    program = "the program cmsproof, by default the one beside this tool or on PATH"
+    parser.add_argument("--program", metavar="FILE", help=program)
+    progress = "say how far the work is, also where standard error is not a terminal"
+    parser.add_argument("--progress", action="store_true", help=progress)
+    parser.add_argument("folder", metavar="FOLDER", help="the folder of the archive")
+    return parser
+
+
+def is_within(path: str, folder: str) -> bool:
+    """Whether a path leads into a folder, or is it."""
+    inner, outer = os.path.realpath(path), os.path.realpath(folder)
+    return inner == outer or inner.startswith(outer.rstrip("/") + "/")
+
+
+def check_folders(parser: Words, given: Any) -> None:
+    """Ends the tool where the folders do not go together: what it makes would be files of the archive."""
+    if "-" in (given.into, given.state):
+        parser.error("- is no name for --into and --state: write ./-")
+    if not os.path.isdir(given.folder):
+        parser.error("FOLDER is no folder")
+    for word, path in (("--into", given.into), ("--state", given.state)):
+        if is_within(path, given.folder):
+            parser.error(f"{word} is in FOLDER, and would be stamped with the files")
+        if is_within(given.folder, path):
+            parser.error(f"FOLDER is in that of {word}: they must stand apart")
+    if is_within(given.state, given.into) or is_within(given.into, given.state):
+        parser.error("--state is in --into, or it in that: they must stand apart")
+    try:
+        os.fsencode(given.into).decode("utf-8")
+    except UnicodeDecodeError:
+        parser.error("--into is not UTF-8, which the program takes alone")
+    if given.end and given.trust is None:
+        parser.error("--end goes with --trust")
+
+
+def main(tool: str, words: list[str]) -> int:
+    """Runs the tool with these words and answers its exit status."""
+    parser = parser_of(tool)
+    given = parser.parse_args(words)
+    check_folders(parser, given)
+    address = module("authority").address_of(given.tsa)
+    batches = module("batches")
+    return int(batches.run(tool, given, address))

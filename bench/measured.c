@@ -16,8 +16,8 @@ struct part { uint32_t kind, rights; unsigned long offset, at, physical, in_file
 struct action { void *handler; unsigned long flags; void *restorer; unsigned long mask; };
 
 enum { PAGE = 4096, PAINTED = 4 << 20, CLASSES = 40 };
-enum { READ, WRITE, OPEN, CLOSE, LSEEK = 8, MMAP, SIGACTION = 13, FLOCK = 73, FSYNC, FDATASYNC, FTRUNCATE = 77, RENAME = 82 };
-enum { UNLINK = 87, READLINK = 89, FCHMOD = 91, GETRUSAGE = 98, PRCTL = 157, EXIT_GROUP = 231, STATX = 332 };
+enum { READ, WRITE, OPEN, CLOSE, LSEEK = 8, MMAP, SIGACTION = 13, FLOCK = 73, FSYNC, FDATASYNC, FTRUNCATE = 77, RENAME = 82, MKDIR };
+enum { LINK = 86, UNLINK, READLINK = 89, FCHMOD = 91, GETRUSAGE = 98, PRCTL = 157, EXIT_GROUP = 231, STATX = 332 };
 static const size_t ARENA = (size_t)1 << 32;
 
 extern struct ended measured_main(long octets, long count, char **words);
@@ -57,6 +57,8 @@ int fsync(int file) { return (int)asked(FSYNC, file, 0, 0, 0, 0); }
 int fdatasync(int file) { return (int)asked(FDATASYNC, file, 0, 0, 0, 0); }
 int ftruncate(int file, long length) { return (int)asked(FTRUNCATE, file, length, 0, 0, 0); }
 int rename(const char *from, const char *to) { return (int)asked(RENAME, (long)from, (long)to, 0, 0, 0); }
+int link(const char *from, const char *to) { return (int)asked(LINK, (long)from, (long)to, 0, 0, 0); }
+int mkdir(const char *path, unsigned mode) { return (int)asked(MKDIR, (long)path, mode, 0, 0, 0); }
 int unlink(const char *path) { return (int)asked(UNLINK, (long)path, 0, 0, 0, 0); }
 int fchmod(int file, unsigned mode) { return (int)asked(FCHMOD, file, mode, 0, 0, 0); }
 int statx(int folder, const char *path, int how, unsigned what, void *into) {

@@ -1,26 +1,24 @@
 -- That a record is renewed by a token in one way, which is found step by step.
-use Rattle.std.proofs.Common.{◌≡◌, ◌≢◌, ◌⊎◌, ◌↔◌, ℕ, ◌<◌, ◌≤◌, Bool, List, [], ◌∷◌, ◌++◌, Option, Some, None, refl, sym}
+use Rattle.std.proofs.Common.{◌≡◌, ◌≢◌, ◌↔◌, ℕ, ◌<◌, Bool, List, [], ◌∷◌, ◌++◌, Option, Some, None, refl, sym}
 use Rattle.std.proofs.Common.{ap, ◌∙◌, ◌+◌, subst, append_assoc, length, length-append, arith, IsTrue, MatchOption}
 use Rattle.std.proofs.Common.{true, false}
-use Rattle.std.proofs.Common.{Result, Ok, Err, All, IfSome}
+use Rattle.std.proofs.Common.{Result, Ok, Err, IfSome}
 use Rattle.std.specs.List.{AllByRecursion, last_or}
 use Rattle.digests.specs.Algorithms.{Names}
 use Rattle.digests.specs.Digests.{alg_of, octets_of}
 use Rattle.digests.specs.Messages.{digest_of}
 use Rattle.digests.specs.declared.algorithm.Alg.{Alg}
 use Rattle.digests.specs.declared.value.Digest.{Digest}
-use Rattle.digests.proofs.Named.{alg_itself, alg_says, contents_distinct}
+use Rattle.digests.proofs.Named.{alg_itself, alg_says}
 use Rattle.digests.specs.Named.{is_alg}
 use Rattle.der_core.specs.Element.{el}
-use Rattle.der_core.specs.Values.{AlgorithmValue, HasLength}
-use Rattle.der_time.specs.Moments.{generalized_moment}
-use Rattle.tsp_types.specs.TstValue.{TstValue}
+use Rattle.der_core.specs.Values.{HasLength}
 use Rattle.evidence_types.specs.StampValue.{StampValue}
 use Rattle.evidence_types.specs.EvidenceValue.{EvidenceValue, EncodesEvidence, GoodChain, chain_element}
 use Rattle.evidence_types.specs.EvidenceValue.{chains_parts}
 use Rattle.evidence_types.proofs.EvidenceReaders.{evidence_unique}
 use Rattle.std.specs.Prelude.{IfNone, IfOk, IsSome}
-use Rattle.check_evidence.specs.Places.{Place, IsIn, chain_of, first_of, first_beside}
+use Rattle.check_evidence.specs.Places.{Place, IsIn, first_of}
 use Rattle.check_evidence.specs.StampStates.{HasTime, HasAlg}
 use Rattle.check_evidence.specs.Roots.{IsRoot, IsCovered}
 use Rattle.check_evidence.specs.Standing.{HasLengths}
@@ -33,7 +31,7 @@ use Rattle.evidence_making.specs.Done.{AreRehashed, AreRenewed, FitsOver, IsRoot
 use Rattle.evidence_making.specs.DoneSteps.{AreLastTwo, AreTwo, EndsAlone}
 use Rattle.evidence_making.specs.declared.fault.LeafFault.{LeafFault}
 use Rattle.evidence_making.specs.declared.fault.LeafFault.TheVariants.{Malformed, NoStamp}
-use Rattle.evidence_making.specs.Leaves.{IsLastOf, OfOpen}
+use Rattle.evidence_making.specs.Leaves.{OfOpen}
 use Rattle.evidence_making.specs.LeafSteps.{IsOpened}
 use Rattle.evidence_making.specs.Renewed.{with_stamp}
 use Rattle.evidence_making.specs.Stamping.{StampsRoot}

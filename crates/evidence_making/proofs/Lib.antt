@@ -12,3 +12,4 @@ pub mod Standing
 pub mod RootStamps
 pub mod StandsOn
 pub mod Already
+pub mod RenewalRows

@@ -1,10 +1,10 @@
 -- What records that are made show.
-use Rattle.std.proofs.Common.{◌≡◌, ℕ, List, [], ◌∷◌, ◌++◌, Option, Some, None, refl, sym, subst}
+use Rattle.std.proofs.Common.{◌≡◌, ℕ, List, [], ◌∷◌, ◌++◌, Option, Some, None, refl, sym, ap, ◌∙◌, subst}
 use Rattle.std.specs.Prelude.{unwrap_or}
 use Rattle.digests.specs.Messages.{digest_of}
 use Rattle.digests.specs.declared.algorithm.Alg.{Alg}
 use Rattle.evidence_types.specs.StampValue.{StampValue}
-use Rattle.evidence_types.specs.EvidenceValue.{EncodesEvidence}
+use Rattle.evidence_types.specs.EvidenceValue.{encoding, EncodesEvidence}
 use Rattle.check_verdict.specs.Passing.{Terms, Due, PassesFor}
 use Rattle.check_evidence.specs.Grounds.{Grounds}
 use Rattle.check_evidence.specs.Roots.{IsRoot, IsCovered, HasNoOthers}
@@ -13,8 +13,10 @@ use Rattle.check_evidence.specs.StampStates.{HasTime, HasAlg, IsUntilBy}
 use Rattle.check_evidence.specs.Covering.{covered_at}
 use Rattle.check_evidence.specs.Standing.{IsAlgOf, HasLengths, IsLater, Stands}
 use Rattle.evidence_trees.specs.HashTrees.{HashTree, AreListsOf, each_alone}
+use Rattle.evidence_trees.proofs.Ways.{one_way}
 use Rattle.evidence_making.specs.Made.{lists_of, stamp_of, made}
 use Rattle.evidence_making.specs.Laws.{TokenStands, alone, MadeStampsStand, MadeRecordsShow, ShowsLeaf}
+use Rattle.evidence_making.specs.Laws.{LeavesHaveOneRecord, IsOfLeaf}
 
 -- ---- one archive time-stamp
 
@@ -175,3 +177,18 @@ shows_leaf alg values token octets encodes g tree data_object m same are stands 
     made_records_show g tree data_object values token octets m lists
     (subst (λ (a : Alg). EncodesEvidence octets (made a values token)) (sym same) encodes)
     (made_stamps_stand g tree data_object values token m lists on_root) (time_of _ s _ m on_root.passes)
+
+-- ---- the record of a leaf
+
+pub of_leaf : (alg : Alg) (values : List (List ℕ)) (token octets : List ℕ)
+    → EncodesEvidence octets (made alg values token) → IsOfLeaf alg values token octets
+of_leaf alg values token octets encodes tree leaf same way = record {
+  way = values;
+  is_way = way;
+  encoded = subst (λ (a : Alg). EncodesEvidence octets (made a values token)) (sym same) encodes;
+}
+
+pub one_record : LeavesHaveOneRecord
+one_record alg digests tree leaf token octets others is a b =
+    let same = one_way tree leaf b.way a.way is.leaves.rising b.is_way a.is_way in
+    a.encoded.0 ∙ (ap (λ (w : List (List ℕ)). encoding (made tree.algorithm w token)) same ∙ sym b.encoded.0)

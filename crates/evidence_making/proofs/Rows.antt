@@ -9,7 +9,9 @@ use Rattle.cms_types.specs.AttributeValue.{GoodAttribute}
 use Rattle.evidence_types.specs.StampValue.{IsSequence, GoodStamp}
 use Rattle.evidence_types.specs.EvidenceValue.{GoodChain}
 use Rattle.evidence_types.specs.EvidenceRows.{bare, empty, five}
-use Rattle.evidence_making.specs.Rows.{MadeRows, RenewedRows, two_chains, with_others}
+use Rattle.evidence_trees.specs.Rows.{d000, d001, d002, d004, node}
+use Rattle.evidence_trees.proofs.Rows.{way_rows}
+use Rattle.evidence_making.specs.Rows.{MadeRows, LeafRecordRows, RenewedRows, two_chains, with_others}
 use Rattle.evidence_making.proofs.Placed.{GoodPlaced, encodes, nothing_before, nothing_good}
 use Rattle.evidence_making.proofs.Renewed.{placed}
 
@@ -28,6 +30,28 @@ made_rows = record {
       (lit< tt);
   empty_value = encodes Sha256 nothing_before ([] ∷ []) (hex "3000") _ nothing_good is_empty refl (lit< tt);
   no_lists = encodes Sha512 nothing_before [] (hex "3000") _ nothing_good is_empty refl (lit< tt);
+}
+
+pub leaf_rows : LeafRecordRows
+unfolding len
+leaf_rows = record {
+  of_one = record {
+    way = d000 ∷ [];
+    is_way = way_rows.of_one;
+    encoded = encodes Sha256 nothing_before (d000 ∷ []) (hex "3000") _ nothing_good is_empty refl (lit< tt);
+  };
+  odd_of_three = record {
+    way = d001 ∷ node ∷ [];
+    is_way = way_rows.odd_of_three;
+    encoded = encodes Sha256 nothing_before (d001 ∷ node ∷ []) (hex "3000") _ nothing_good is_empty refl (lit< tt);
+  };
+  first_of_five = record {
+    way = d004 ∷ d002 ∷ hex "66d184d913d284eb9a530819dbeafd813544228c223b27a5841afe3ea8ce0dd9" ∷ d001 ∷ [];
+    is_way = way_rows.first_of_five;
+    encoded = encodes Sha256 nothing_before
+        (d004 ∷ d002 ∷ hex "66d184d913d284eb9a530819dbeafd813544228c223b27a5841afe3ea8ce0dd9" ∷ d001 ∷ [])
+        (hex "3000") _ nothing_good is_empty refl (lit< tt);
+  };
 }
 
 -- ---- what is renewed

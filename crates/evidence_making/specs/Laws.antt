@@ -10,8 +10,8 @@ use Rattle.check_evidence.specs.Places.{Place}
 use Rattle.check_evidence.specs.StampStates.{HasTime}
 use Rattle.check_evidence.specs.Standing.{IsInTime, AlgsHold, Lasts, Stands}
 use Rattle.check_evidence.specs.Showing.{Shows}
-use Rattle.evidence_trees.specs.HashTrees.{HashTree, AreListsOf}
-use Rattle.evidence_making.specs.Made.{stamp_of, made}
+use Rattle.evidence_trees.specs.HashTrees.{HashTree, IsTreeOf, AreListsOf, IsWayFrom}
+use Rattle.evidence_making.specs.Made.{stamp_of, made, IsLeafRecord}
 
 -- The token stands on a root by this algorithm, with this moment: it passes, where the root is due as its imprint; its
 -- moment isn't later than the one that the user names; and its algorithms and a trusted entry hold until the end of its
@@ -49,3 +49,14 @@ abbrev pub ShowsLeaf : Alg → (values : List (List ℕ)) → (token octets : Li
 ShowsLeaf alg values token octets = (g : Grounds) (tree : HashTree) (data_object : List ℕ) (m : ℕ)
     → tree.algorithm ≡ alg → AreListsOf tree (digest_of alg data_object) values
     → TokenStands g alg tree.root token m → Shows g octets (data_object ∷ []) m
+
+-- A leaf of a tree has one record with a token at most.
+abbrev pub LeavesHaveOneRecord : Type 0
+LeavesHaveOneRecord = (alg : Alg) (digests : List (List ℕ)) (tree : HashTree) (leaf token octets others : List ℕ)
+    → IsTreeOf alg digests tree → IsLeafRecord tree leaf token octets → IsLeafRecord tree leaf token others
+    → octets ≡ others
+
+-- The octets are the record of a leaf, if these are the values on the way up from it in a tree by this algorithm.
+abbrev pub IsOfLeaf : Alg → (values : List (List ℕ)) → (token octets : List ℕ) → Type 0
+IsOfLeaf alg values token octets = (tree : HashTree) (leaf : List ℕ) → tree.algorithm ≡ alg
+    → IsWayFrom tree leaf values → IsLeafRecord tree leaf token octets

@@ -12,3 +12,4 @@ pub mod LeafSteps
 pub mod Done
 pub mod DoneSteps
 pub mod Rows
+pub mod RenewalRows

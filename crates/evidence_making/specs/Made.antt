@@ -4,8 +4,8 @@ use Rattle.der_core.specs.Values.{AlgorithmValue}
 use Rattle.digests.specs.Algorithms.{contents_of}
 use Rattle.digests.specs.declared.algorithm.Alg.{Alg}
 use Rattle.evidence_types.specs.StampValue.{StampValue}
-use Rattle.evidence_types.specs.EvidenceValue.{EvidenceValue}
-use Rattle.evidence_trees.specs.HashTrees.{each_alone}
+use Rattle.evidence_types.specs.EvidenceValue.{EvidenceValue, EncodesEvidence}
+use Rattle.evidence_trees.specs.HashTrees.{HashTree, IsWayFrom, each_alone}
 
 -- the identifier of an algorithm, without parameters (RFC 5754, 2)
 abbrev pub plain : Alg → AlgorithmValue
@@ -33,3 +33,9 @@ made alg values token = record {
   encryption = None;
   chains = (stamp_of alg values token ∷ []) ∷ [];
 }
+
+-- the record of a leaf of a tree, with a token: its lists are the leaf and the neighbours on its way up, each alone
+pub record IsLeafRecord (tree : HashTree) (leaf token octets : List ℕ) : Type 0 where
+  pub way : List (List ℕ)
+  pub is_way : IsWayFrom tree leaf way
+  pub encoded : EncodesEvidence octets (made tree.algorithm way token)

@@ -6,7 +6,9 @@ use Rattle.digests.specs.Spelled.{with_null, sha256}
 use Rattle.digests.specs.declared.algorithm.Alg.TheVariants.{Sha256, Sha512}
 use Rattle.evidence_types.specs.EvidenceValue.{EvidenceValue, EncodesEvidence}
 use Rattle.evidence_types.specs.EvidenceRows.{bare, empty, chained, five, encrypted_by}
-use Rattle.evidence_making.specs.Made.{made}
+use Rattle.evidence_trees.specs.Rows as trees
+use Rattle.evidence_trees.specs.Rows.{d000, d001, d002, d004, node}
+use Rattle.evidence_making.specs.Made.{made, IsLeafRecord}
 use Rattle.evidence_making.specs.Renewed.{renewed, rehashed}
 
 pub record MadeRows : Type 0 where
@@ -24,6 +26,23 @@ pub record MadeRows : Type 0 where
   pub no_lists : EncodesEvidence
       (hex "3027 0201 01 300d 300b 0609 608648016503040203 3013 3011 300f a00b 0609 608648016503040203 3000")
       (made Sha512 [] (hex "3000"))
+
+-- the records of leaves of trees
+pub record LeafRecordRows : Type 0 where
+  -- of the only leaf
+  pub of_one : IsLeafRecord trees.one d000 (hex "3000")
+      (hex "304d 0201 01 300d 300b 0609 608648016503040201 3039 3037 3035 a00b 0609 608648016503040201"
+      ++ hex "a224 3022 0420" ++ d000 ++ hex "3000")
+  -- of the odd one of three
+  pub odd_of_three : IsLeafRecord trees.three d001 (hex "3000")
+      (hex "3071 0201 01 300d 300b 0609 608648016503040201 305d 305b 3059 a00b 0609 608648016503040201"
+      ++ hex "a248 3022 0420" ++ d001 ++ hex "3022 0420" ++ node ++ hex "3000")
+  -- of the first of five
+  pub first_of_five : IsLeafRecord trees.five d004 (hex "3000")
+      (hex "3081bd 0201 01 300d 300b 0609 608648016503040201 3081a8 3081a5 3081a2 a00b 0609 608648016503040201"
+      ++ hex "a28190 3022 0420" ++ d004 ++ hex "3022 0420" ++ d002 ++ hex "3022 0420"
+      ++ hex "66d184d913d284eb9a530819dbeafd813544228c223b27a5841afe3ea8ce0dd9" ++ hex "3022 0420" ++ d001
+      ++ hex "3000")
 
 -- a record of two chains of one time-stamp each, which names SHA-256 with NULL parameters
 abbrev pub two_chains : EvidenceValue

@@ -1,8 +1,9 @@
 //! What holds of the definitions of records that are made and renewed: there is no code to run.
-ghost use Rattle.evidence_making.specs.Laws.{MadeStampsStand, MadeRecordsShow};
+ghost use Rattle.evidence_making.specs.Laws.{MadeStampsStand, MadeRecordsShow, LeavesHaveOneRecord};
 ghost use Rattle.evidence_making.specs.RenewalLaws.{NamesAreFound, ChainsShowAfter, RenewedRecordsShow};
 ghost use Rattle.evidence_making.specs.RenewalLaws.{RehashedRecordsShow, RenewedStampsStand, RehashedStampsStand};
-ghost use Rattle.evidence_making.specs.Rows.{MadeRows, RenewedRows};
+ghost use Rattle.evidence_making.specs.Rows.{MadeRows, LeafRecordRows, RenewedRows};
+ghost use Rattle.evidence_making.specs.RenewalRows.{StampingRows, RootRows, LastRows, DoneRows};
 ghost use Rattle.evidence_making.specs.Stamping.{StampsAreOneCase, StandingStamps, StampsHaveTime};
 
 /// A record that is made of a token over the root of a tree and the lists of a leaf shows the moment of the token for
@@ -13,14 +14,30 @@ pub fn made_records_show()
     // Where the archive time-stamp stands, the record shows its moment, and has no hash value of other data objects
     // beside that of the leaf.
     ensures shows { MadeRecordsShow }
+    // A leaf of a tree has one such record at most.
+    ensures one { LeavesHaveOneRecord }
 {}
 
 /// The worked rows of records that are made and renewed.
 pub fn making_rows_hold()
     // Octets of records that are made.
     ensures made { MadeRows }
+    // The records of leaves of trees.
+    ensures leaves { LeafRecordRows }
     // Octets of records that are renewed.
     ensures renewed { RenewedRows }
+{}
+
+/// The worked rows of what tokens stamp, what renewals stand on, and records that are renewed already.
+pub fn renewal_rows_hold()
+    // What tokens stamp.
+    ensures stamping { StampingRows }
+    // Roots over leaves.
+    ensures roots { RootRows }
+    // What renewals stand on.
+    ensures last { LastRows }
+    // Chains that are renewed by a token.
+    ensures done { DoneRows }
 {}
 
 /// A record that is renewed, by a time-stamp or by a hash tree, still shows what it showed at the moment of the new

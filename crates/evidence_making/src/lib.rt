@@ -15,17 +15,13 @@ mod making;
 mod naming;
 mod opening;
 mod putting;
-#[cfg(test)]
-mod records;
 mod renewing;
 mod stamping;
-#[cfg(test)]
-mod tests;
 
 pub use done::{rehashed_by, renewed_by};
 pub use fault::{LeafFault, MakeFault, RenewFault, StampFault};
 pub use laws::{
-    made_records_show, making_rows_hold, new_stamps_stand, renewed_records_show,
+    made_records_show, making_rows_hold, new_stamps_stand, renewal_rows_hold, renewed_records_show,
     stamps_are_of_roots,
 };
 pub use leaves::{LastStamp, last_stamp, rehash_leaf};

@@ -2,7 +2,7 @@ ghost use Rattle.std.specs.Prelude.{◌≡◌, ◌^◌, ◌≤◌, ◌↔◌, le
 ghost use Rattle.evidence_types.specs.StampValue.{IsSequence};
 ghost use Rattle.evidence_types.specs.EvidenceValue.{EncodesEvidence, evidence_parts};
 ghost use Rattle.evidence_making.specs.Made.{made};
-ghost use Rattle.evidence_making.specs.Laws.{ShowsLeaf};
+ghost use Rattle.evidence_making.specs.Laws.{ShowsLeaf, IsOfLeaf};
 
 use crate::fault::MakeFault;
 use crate::frame::Frame;
@@ -40,11 +40,13 @@ pub fn make_record(
 ) -> Result<Vec<u8>, MakeFault>
     // The token is one SEQUENCE.
     requires { IsSequence token.now }
-    // What is made encodes exactly the record of these lists and this token.
+    // It encodes exactly the record of these lists and this token.
     ensures made { IfOk result (λ octets. EncodesEvidence octets.items (made alg values.now token.now)) }
-    // So it shows the moment of the token for the data object of the leaf, if the token stands on the root.
+    // With a leaf's way up it is that leaf's record.
+    ensures leaf { IfOk result (λ octets. IsOfLeaf alg values.now token.now octets.items) }
+    // It shows the token's moment for the leaf's data object, if the token stands on the root.
     ensures shows { IfOk result (λ octets. ShowsLeaf alg values.now token.now octets.items) }
-    // `TooLong` is returned exactly if the contents of the record have 2^32 octets or more.
+    // `TooLong` exactly if its contents have 2^32 octets or more.
     ensures too_long { (result ≡ Err MakeFault.TooLong)
         ↔ (2 ^ 32 ≤ length (evidence_parts (made alg values.now token.now))) }
 {

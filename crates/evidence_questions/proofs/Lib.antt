@@ -5,3 +5,4 @@ pub mod Returned
 pub mod Alike
 pub mod Verdicts
 pub mod Checks
+pub mod Rows

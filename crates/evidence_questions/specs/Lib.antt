@@ -1,3 +1,4 @@
 pub mod RecordQuestions
 pub mod RecordWritten
 pub mod Laws
+pub mod Rows

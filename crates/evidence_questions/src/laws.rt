@@ -4,6 +4,7 @@ ghost use Rattle.evidence_questions.specs.Laws.{RecordsListTheQuestions, Records
 ghost use Rattle.evidence_questions.specs.Laws.{StampsAskTheListed, ChecksAskTheListed};
 ghost use Rattle.evidence_questions.specs.Laws.{StampsPassAlike, StampsFailAlike, StampsLastAlike};
 ghost use Rattle.evidence_questions.specs.Laws.{RecordsShowAlike, RecordsRefusedAlike};
+ghost use Rattle.evidence_questions.specs.Rows.{QuestionRows};
 
 /// Each open evidence record of octets has exactly one list of questions, and its members are those questions on whose
 /// answers it may depend what its time-stamps show.
@@ -32,4 +33,9 @@ pub fn record_answers_suffice()
     ensures showing { RecordsShowAlike }
     // It is refused exactly if it is under those answers, for the same reason.
     ensures refusing { RecordsRefusedAlike }
+{}
+
+/// The worked rows of the questions of records.
+pub fn record_question_rows_hold()
+    ensures { QuestionRows }
 {}

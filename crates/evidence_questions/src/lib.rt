@@ -9,5 +9,7 @@ mod record_questions;
 mod written;
 
 pub use fault::RecordQuestionsFault;
-pub use laws::{record_answers_suffice, record_questions_are_those_asked};
+pub use laws::{
+    record_answers_suffice, record_question_rows_hold, record_questions_are_those_asked,
+};
 pub use record_questions::questions_of_record;

@@ -9,8 +9,6 @@ mod repeats;
 mod sum_lines;
 mod sums;
 mod sums_fault;
-#[cfg(test)]
-mod tests;
 
 pub use laws::{reading_fits_writing, rows_hold};
 pub use sums::{Sum, Sums};

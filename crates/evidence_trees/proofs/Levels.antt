@@ -14,8 +14,8 @@ use Rattle.digests.specs.Algorithms.{length_of}
 use Rattle.digests.specs.declared.algorithm.Alg.{Alg}
 use Rattle.digests.proofs.Lengths.{digest_length}
 use Rattle.check_evidence.specs.Roots.{IsGroupOf}
-use Rattle.evidence_trees.specs.HashTrees.{node_of, level_above, level_at}
-use Rattle.evidence_trees.specs.Climbing.{levels, beside}
+use Rattle.evidence_trees.specs.HashTrees.{node_of, level_above, level_at, beside}
+use Rattle.evidence_trees.specs.Climbing.{levels}
 use Rattle.evidence_trees.proofs.Orders.{less_is_not}
 
 abbrev Values : Type 0
@@ -171,11 +171,16 @@ above_long alg (v ∷ []) all = all
 above_long alg (v ∷ w ∷ values) all =
     (digest_length alg (if is_less w v then w ++ v else v ++ w), above_long alg values all.1.1)
 
+pub level_long : (alg : Alg) (values : Values) → All (λ v. length v ≡ length_of alg) values
+    → All (λ v. length v ≡ length_of alg) (level_above alg values)
+level_long alg values all =
+    let P : List ℕ → Type 0 = λ v. length v ≡ length_of alg in
+    All-from_recursion P (level_above alg values) (above_long alg values (recursion_from_All P values all))
+
 pub levels_long : (alg : Alg) (height : ℕ) (leaves : Values) → All (λ v. length v ≡ length_of alg) leaves
     → All (λ v. length v ≡ length_of alg) (levels alg height leaves)
 levels_long alg zero leaves all = all
 levels_long alg (suc height) leaves all =
     let P : List ℕ → Type 0 = λ v. length v ≡ length_of alg in
     All-append P leaves (levels alg height (level_above alg leaves)) all
-    (levels_long alg height (level_above alg leaves)
-    (All-from_recursion P (level_above alg leaves) (above_long alg leaves (recursion_from_All P leaves all))))
+    (levels_long alg height (level_above alg leaves) (level_long alg leaves all))

@@ -4,6 +4,7 @@ mod Rising
 mod Once
 mod Levels
 mod Climbs
+pub mod Ways
 mod Trees
 mod Uniqueness
-mod Rows
+pub mod Rows

@@ -1,16 +1,18 @@
 -- Trees of levels, and the lists of their leaves.
-use Rattle.std.proofs.Common.{◌≡◌, ℕ, ◌-◌, ◌<◌, List, [], ◌∷◌, length, map, take, get_or, refl, sym, ap, ◌∙◌, arith}
-use Rattle.std.proofs.Common.{subst, All, length-take}
+use Rattle.std.proofs.Common.{◌≡◌, ℕ, ◌-◌, ◌<◌, List, [], ◌∷◌, length, take, get_or, refl, sym, ap, ◌∙◌, arith}
+use Rattle.std.proofs.Common.{subst, All, Some, length-take}
 use Rattle.std.proofs.lemmas.List.{get_or-take, length-take-le}
-use Rattle.std.proofs.lemmas.List.Elements.{All-contains_itself, All-map, All-cons}
+use Rattle.std.proofs.lemmas.List.Elements.{All-take}
+use Rattle.std.proofs.lemmas.Option.{slice_get-get_or}
 use Rattle.digests.specs.Algorithms.{length_of}
 use Rattle.digests.specs.declared.algorithm.Alg.{Alg}
-use Rattle.check_evidence.specs.Roots.{IsRootAfter}
 use Rattle.evidence_trees.specs.Pieces.{Sized}
-use Rattle.evidence_trees.specs.HashTrees.{IsRising, AreLeavesOf, level_at, HashTree, IsTreeOf, AreListsOf}
+use Rattle.evidence_trees.specs.HashTrees.{IsRising, AreLeavesOf, level_at, way_up, HashTree, IsTreeOf, IsWayFrom}
+use Rattle.evidence_trees.specs.HashTrees.{AreListsOf}
 use Rattle.evidence_trees.specs.Climbing.{levels, AreLevels, neighbours, HasLevels}
 use Rattle.evidence_trees.proofs.Levels.{levels_front, root_is_last, levels_some, levels_long}
-use Rattle.evidence_trees.proofs.Climbs.{alone, neighbours_lead, has_levels, neighbours_are_nodes}
+use Rattle.evidence_trees.proofs.Climbs.{neighbours_are, has_levels}
+use Rattle.evidence_trees.proofs.Ways.{ways_show}
 
 abbrev Values : Type 0
 Values = List (List ℕ)
@@ -69,38 +71,32 @@ levels_of_leaf alg nodes count height place h below =
     (subst (λ (vs : Values). HasLevels height place (length leaves) (length vs)) (sym h.levels)
     (has_levels alg height leaves place (omega (arith, below, long))))
 
--- the lists of a leaf
+-- the lists of a leaf: those on its way up
+pub is_way : (alg : Alg) (nodes : Sized) (count height place : ℕ) (leaf : List ℕ) → AreLevels alg nodes count height
+    → place < count → get_or (take count nodes.values) place [] ≡ leaf
+    → IsWayFrom (tree_of alg nodes count) leaf
+    (get_or nodes.values place [] ∷ neighbours height place count nodes.values)
+is_way alg nodes count height place leaf h below is =
+    let leaves = take count nodes.values in
+    let long : length leaves ≡ count = length-take-le count nodes.values h.fits in
+    let here : get_or nodes.values place [] ≡ leaf = sym (get_or-take count nodes.values place [] below) ∙ is in
+    let beyond : neighbours height place count nodes.values ≡ way_up alg height place leaves =
+    ap (λ (n : ℕ). neighbours height place n nodes.values) (sym long)
+    ∙ (ap (λ (vs : Values). neighbours height place (length leaves) vs) h.levels
+    ∙ neighbours_are alg height leaves place) in
+    record {
+      root = record { height = height; only = root_of alg nodes count height h };
+      place = place;
+      at_place = slice_get-get_or leaves place [] (omega (arith, below, long)) ∙ ap (λ (v : List ℕ). Some v) is;
+      are = ap (λ (v : List ℕ). v ∷ neighbours height place count nodes.values) here
+          ∙ ap (λ (vs : Values). leaf ∷ vs) beyond;
+    }
+
 pub are_lists : (alg : Alg) (nodes : Sized) (count height place : ℕ) (leaf : List ℕ) → AreLevels alg nodes count height
     → place < count → get_or (take count nodes.values) place [] ≡ leaf
     → AreListsOf (tree_of alg nodes count) leaf
     (get_or nodes.values place [] ∷ neighbours height place count nodes.values)
 are_lists alg nodes count height place leaf h below is =
-    let leaves = take count nodes.values in
-    let long : length leaves ≡ count = length-take-le count nodes.values h.fits in
-    let here : get_or nodes.values place [] ≡ leaf = sym (get_or-take count nodes.values place [] below) ∙ is in
-    let lead = neighbours_lead alg height leaves place (get_or nodes.values (length nodes.values - 1) [])
-    (omega (arith, below, long)) (root_of alg nodes count height h) in
-    let root : IsRootAfter alg leaf (map alone (neighbours height place count nodes.values))
-    (get_or nodes.values (length nodes.values - 1) []) =
-    subst (λ (vs : Values). IsRootAfter alg leaf (map alone (neighbours height place count vs))
-    (get_or nodes.values (length nodes.values - 1) [])) (sym h.levels)
-    (subst (λ (n : ℕ). IsRootAfter alg leaf (map alone (neighbours height place n (levels alg height leaves)))
-    (get_or nodes.values (length nodes.values - 1) [])) long
-    (subst (λ (v : List ℕ). IsRootAfter alg v
-    (map alone (neighbours height place (length leaves) (levels alg height leaves)))
-    (get_or nodes.values (length nodes.values - 1) [])) is lead)) in
-    let P : List ℕ → Type 0 = λ v. length v ≡ length_of alg in
-    let beside : Values = neighbours height place count nodes.values in
-    let itself : P leaf = subst P here (h.lengths place [] (omega (arith, below, h.fits))) in
-    let all : All P (leaf ∷ beside) =
-    All-cons P leaf beside itself (neighbours_are_nodes P height place count nodes.values h.lengths) in
-    let each : (v : List ℕ) → P v
-    → All P (v ∷ []) = λ v long. All-cons P v [] long (λ k d lt. absurd (omega (arith, lt))) in
-    subst (λ (v : List ℕ). AreListsOf (tree_of alg nodes count) leaf
-    (v ∷ neighbours height place count nodes.values)) (sym here)
-    (record {
-      root = (leaf, refl, root);
-      covered = All-contains_itself (leaf ∷ []);
-      no_others = All-contains_itself (leaf ∷ []);
-      lengths = All-map (All P) alone (leaf ∷ beside) (λ k d lt. each (get_or (leaf ∷ beside) k d) (all k d lt));
-    })
+    ways_show (tree_of alg nodes count) leaf (get_or nodes.values place [] ∷ neighbours height place count nodes.values)
+    (All-take (λ v. length v ≡ length_of alg) count nodes.values h.lengths)
+    (is_way alg nodes count height place leaf h below is)

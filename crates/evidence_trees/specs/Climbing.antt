@@ -1,12 +1,12 @@
 -- The levels of a tree, one after another, and the way from a leaf to the root.
-use Rattle.std.specs.Prelude.{◌≡◌, ⊤, ℕ, ◌<◌, ◌≤◌, ◌+◌, ◌-◌, ◌/◌, ◌%◌, ◌==◌, zero, suc, if◌then◌else◌, List, []}
+use Rattle.std.specs.Prelude.{◌≡◌, ⊤, ℕ, ◌<◌, ◌≤◌, ◌-◌, ◌/◌, zero, suc, List, []}
 use Rattle.std.specs.Prelude.{◌++◌, length, take, drop, All}
 use Rattle.std.specs.List.{slice_get}
 use Rattle.std.specs.Option.{option_to_list}
 use Rattle.digests.specs.Algorithms.{length_of}
 use Rattle.digests.specs.declared.algorithm.Alg.{Alg}
 use Rattle.evidence_trees.specs.Pieces.{Sized}
-use Rattle.evidence_trees.specs.HashTrees.{IsRising, level_above, level_at}
+use Rattle.evidence_trees.specs.HashTrees.{IsRising, level_above, level_at, beside}
 
 -- the leaves, and then so many levels above them
 abbrev pub levels : Alg → (height : ℕ) → (leaves : List (List ℕ)) → List (List ℕ)
@@ -21,10 +21,6 @@ pub record AreLevels (alg : Alg) (nodes : Sized) (leaves height : ℕ) : Type 0 
   pub fits : leaves ≤ length nodes.values
   pub levels : nodes.values ≡ levels alg height (take leaves nodes.values)
   pub one : length (level_at alg height (take leaves nodes.values)) ≡ 1
-
--- the place of the neighbour with which a node makes a pair
-abbrev pub beside : ℕ → ℕ
-beside place = if place % 2 == 0 then place + 1 else place - 1
 
 -- the neighbours on the way up: of the node at this place on a level with so many nodes, at which these begin, and then
 -- of the node above it

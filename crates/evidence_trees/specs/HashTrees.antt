@@ -1,6 +1,8 @@
 -- Hash trees over digests (RFC 4998, 4.2), and the lists that show a leaf.
-use Rattle.std.specs.Prelude.{◌≡◌, ⊤, ℕ, zero, suc, true, if◌then◌else◌, List, [], ◌∷◌, ◌++◌, map, Option, Some, All}
-use Rattle.std.specs.Prelude.{Contains}
+use Rattle.std.specs.Prelude.{◌≡◌, ⊤, ℕ, ◌+◌, ◌-◌, ◌/◌, ◌%◌, ◌==◌, zero, suc, true, if◌then◌else◌, List, [], ◌∷◌}
+use Rattle.std.specs.Prelude.{◌++◌, map, Option, Some, All, Contains}
+use Rattle.std.specs.List.{slice_get}
+use Rattle.std.specs.Option.{option_to_list}
 use Rattle.der_core.specs.Lists.{is_less}
 use Rattle.digests.specs.Messages.{digest_of}
 use Rattle.digests.specs.declared.algorithm.Alg.{Alg}
@@ -52,7 +54,28 @@ pub record IsTreeOf (alg : Alg) (values : List (List ℕ)) (tree : HashTree) : T
   pub leaves : AreLeavesOf values tree.leaves
   pub root : IsTreeRoot alg tree.leaves tree.root
 
--- lists of one value each (a reducedHashtree, 4.2)
+-- ---- the lists of a leaf (a reducedHashtree, 4.2)
+
+-- the place of the neighbour with which a node makes a pair on its level, where there is one
+abbrev pub beside : ℕ → ℕ
+beside place = if place % 2 == 0 then place + 1 else place - 1
+
+-- the neighbours on the way up, over so many levels, from the node at this place of a level: the one with which it
+-- makes a pair, where there is one, and then those of the node of both, which has half the place on the level above. An
+-- odd one at the end has no neighbour, and is its own node there. Nodes on the way are computed, and stand in no list.
+abbrev pub way_up : Alg → (height place : ℕ) → (level : List (List ℕ)) → List (List ℕ)
+way_up alg zero place level = []
+way_up alg (suc height) place level =
+    option_to_list (slice_get level (beside place)) ++ way_up alg height (place / 2) (level_above alg level)
+
+-- these are the leaf alone, and then its neighbours on the way up to the root
+pub record IsWayFrom (tree : HashTree) (leaf : List ℕ) (values : List (List ℕ)) : Type 0 where
+  pub root : IsTreeRoot tree.algorithm tree.leaves tree.root
+  pub place : ℕ
+  pub at_place : slice_get tree.leaves place ≡ Some leaf
+  pub are : values ≡ leaf ∷ way_up tree.algorithm root.height place tree.leaves
+
+-- lists of one value each
 abbrev pub each_alone : List (List ℕ) → Option (List (List (List ℕ)))
 each_alone values = Some (map (λ v. v ∷ []) values)
 

@@ -1,7 +1,8 @@
 ghost use Rattle.std.specs.Prelude.{◌≡◌, ◌≤◌, ◌<◌, ◌+◌, ◌-◌, ◌∷◌, [], length, take, drop, slice_index_or};
 ghost use Rattle.std.specs.Prelude.{option_map, MatchOption, IfSome};
 ghost use Rattle.std.specs.List.{slice_get};
-ghost use Rattle.evidence_trees.specs.Climbing.{beside, neighbours, neighbours_from, HasLevels};
+ghost use Rattle.evidence_trees.specs.HashTrees.{beside};
+ghost use Rattle.evidence_trees.specs.Climbing.{neighbours, neighbours_from, HasLevels};
 
 use crate::values::HashValues;
 use std::marker::Model;

@@ -7,11 +7,9 @@ mod laws;
 mod leaf_lists;
 mod leaves;
 mod nodes;
-#[cfg(test)]
-mod tests;
 mod tree;
 mod values;
 
-pub use laws::{tree_rows_hold, trees_are_unique};
+pub use laws::{leaves_have_one_way, tree_rows_hold, trees_are_unique};
 pub use leaf_lists::LeafLists;
 pub use tree::Tree;

@@ -1,6 +1,6 @@
 ghost use Rattle.std.specs.Prelude.{◌≡◌, ◌<◌, ◌↔◌, length, map, IfOk, IfSome, IsSome, All, Contains};
 ghost use Rattle.digests.specs.Digests.{alg_of, octets_of};
-ghost use Rattle.evidence_trees.specs.HashTrees.{IsTreeOf, AreListsOf};
+ghost use Rattle.evidence_trees.specs.HashTrees.{IsTreeOf, IsWayFrom, AreListsOf};
 
 use crate::finding::place_of;
 use crate::leaf_lists::LeafLists;
@@ -89,12 +89,15 @@ impl Tree {
         }
     }
 
-    /// The lists of hash values that lead from a leaf to the root (a reducedHashtree, RFC 4998 4.2), each of one value,
-    /// or `None` if the digest is no leaf. It allocates nothing.
+    /// The lists of hash values that lead from a leaf to the root (a reducedHashtree, RFC 4998 4.2), each of one value:
+    /// the leaf, and then on each level the neighbour with which its node makes a pair, where there is one. `None` if
+    /// the digest is no leaf. It allocates nothing.
     pub fn lists_of(&self, leaf: &Digest) -> Option<LeafLists<'_>>
         // Returns lists exactly if the digest is by the algorithm of the tree, and a leaf.
         ensures some { IsSome result
             ↔ (alg_of leaf.now ≡ self.now.algorithm) × Contains self.now.leaves (octets_of leaf.now) }
+        // Their values are the leaf and its neighbours on the way up, and no others.
+        ensures way { IfSome result (IsWayFrom self.now (octets_of leaf.now)) }
         // Their root is that of the tree, they cover this leaf and nothing else, and each value is as long as a digest.
         ensures lists { IfSome result (AreListsOf self.now (octets_of leaf.now)) }
     {

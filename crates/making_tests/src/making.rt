@@ -3,33 +3,20 @@ ghost use Rattle.std.specs.Prelude.{◌≡◌, ◌<◌, length, IfOk, All};
 ghost use Rattle.digests.specs.Digests.{alg_of};
 ghost use Rattle.evidence_types.specs.StampValue.{IsSequence};
 
+use crate::documents::documents;
 use crate::records::{
     GEN_TIME, NEW_CHAIN, NEW_STAMP, RECORDS, REHASH_LEAF, REHASHED, REHASHED_LEAF, RENEWED, ROOT,
     SINGLE, STAMP_LEAF, TOKEN,
 };
-use crate::{
+use der_time::generalized_text;
+use digests::{Alg, Digest, digest};
+use evidence_making::{
     LeafFault, StampFault, is_sequence, last_stamp, make_record, rehash_leaf, rehash_record,
     renew_record, stamp_of_root,
 };
-use der_time::generalized_text;
-use digests::{Alg, Digest, digest};
 use evidence_trees::Tree;
 use std::alloc::{AllocError, Global};
 use std::test::Fail;
-
-/// The digests of the documents with these numbers: the text of each is `document`, a space, its number, and a line
-/// feed.
-fn documents(alloc: Global, alg: Alg, first: usize, end: usize) -> Result<Vec<Digest>, AllocError>
-    ensures { IfOk result (λ v. All (λ d. alg_of d ≡ alg) v.items) }
-{
-    let mut documents = Vec::new(alloc);
-    for number in first..end {
-        let text = format!(in alloc; "document {number}\n")?;
-        let document = digest(alg, text.as_str().as_bytes());
-        documents.push(document)?;
-    }
-    Ok(documents)
-}
 
 /// The digests and one more.
 fn with(alg: Alg, digests: Vec<Digest>, other: Digest) -> Result<Vec<Digest>, AllocError>

@@ -1,10 +1,9 @@
 //! Trees over documents (RFC 4998 4.2): the roots and lists that another program gave them. Bouncy Castle 1.72 gives
 //! the same roots, and accepts records with these lists.
-ghost use Rattle.std.specs.Prelude.{◌≡◌, IfOk, All};
-ghost use Rattle.digests.specs.Digests.{alg_of};
 
-use crate::{LeafLists, Tree};
-use digests::{Alg, Digest, digest};
+use crate::documents::documents;
+use digests::{Alg, Digest};
+use evidence_trees::{LeafLists, Tree};
 use std::alloc::{AllocError, Global};
 use std::test::Fail;
 
@@ -112,18 +111,49 @@ const LISTS: [(Alg, usize, &str); 10] = [
     ),
 ];
 
-/// The digests of the first documents: the text of each is `document`, a space, its number from 0, and a line feed.
-fn documents(alloc: Global, alg: Alg, count: usize) -> Result<Vec<Digest>, AllocError>
-    ensures { IfOk result (λ v. All (λ d. alg_of d ≡ alg) v.items) }
-{
-    let mut documents = Vec::new(alloc);
-    for number in 0..count {
-        let text = format!(in alloc; "document {number}\n")?;
-        let document = digest(alg, text.as_str().as_bytes());
-        documents.push(document)?;
-    }
-    Ok(documents)
-}
+/// The lists of some of a thousand documents, by the number of the document.
+const LISTS_OF_SOME: [(Alg, usize, &str); 8] = [
+    (
+        Alg::Sha256,
+        695,
+        "d695 d694 1f4d754c f4cf0716 60d9fc10 7c8d2ff6 df57e6ba 83c21be3 8b5c5322 2147d501 bd5a00fc",
+    ),
+    (
+        Alg::Sha256,
+        914,
+        "d914 d674 72b9c628 ae1f89f5 ce39b26d 9f0b993e 7119620e 24ed89b2 0f2742a2 32b3bf99 bd5a00fc",
+    ),
+    (
+        Alg::Sha256,
+        806,
+        "d806 d531 3f2b7c1a 3fa8c582 d9ca4d61 ed32d149 99493b2d 4c3f1cf4 e5a06b4f",
+    ),
+    (
+        Alg::Sha256,
+        531,
+        "d531 d806 3f2b7c1a 3fa8c582 d9ca4d61 ed32d149 99493b2d 4c3f1cf4 e5a06b4f",
+    ),
+    (
+        Alg::Sha512,
+        613,
+        "d613 d301 019b0d0d f146bab0 e0c4dd06 036fdb2e fbc32594 df8c5376 5f21a68b 903c8e7d 2b13a95c",
+    ),
+    (
+        Alg::Sha512,
+        853,
+        "d853 d525 46989999 72ce89e5 76d18c1a c8053d34 99c56d8e 29f68aa1 8c3d8dd3 691a9875 2b13a95c",
+    ),
+    (
+        Alg::Sha512,
+        691,
+        "d691 d829 03ad18bf a89a06a1 8a16fcc2 e7f07b1a 1dc947f5 ba54d3df 06884a15",
+    ),
+    (
+        Alg::Sha512,
+        829,
+        "d829 d691 03ad18bf a89a06a1 8a16fcc2 e7f07b1a 1dc947f5 ba54d3df 06884a15",
+    ),
+];
 
 /// The name of a value.
 fn name(alloc: Global, documents: &[Digest], value: &[u8]) -> Result<String, AllocError> {
@@ -169,7 +199,7 @@ fn all_names(alloc: Global, tree: &Tree, documents: &[Digest]) -> Result<String,
 #[test]
 fn roots_are_those_of_another_program(rt: HostRuntime) -> Result<(), Fail> {
     for (alg, count, root) in ROOTS {
-        let documents = documents(rt.alloc(), alg, count)?;
+        let documents = documents(rt.alloc(), alg, 0, count)?;
         assert!(rt; !documents.is_empty());
         let tree = Tree::of(rt.alloc(), alg, &documents)?;
         let digits = hex::encode(rt.alloc(), tree.root().bytes())?;
@@ -181,11 +211,29 @@ fn roots_are_those_of_another_program(rt: HostRuntime) -> Result<(), Fail> {
 #[test]
 fn lists_are_those_of_another_program(rt: HostRuntime) -> Result<(), Fail> {
     for (alg, count, lists) in LISTS {
-        let documents = documents(rt.alloc(), alg, count)?;
+        let documents = documents(rt.alloc(), alg, 0, count)?;
         assert!(rt; !documents.is_empty());
         let tree = Tree::of(rt.alloc(), alg, &documents)?;
         let text = all_names(rt.alloc(), &tree, &documents)?;
         assert_eq!(rt; text.as_str(), lists, "{count} documents");
+    }
+    Ok(())
+}
+
+#[test]
+fn lists_in_a_tree_of_a_thousand_are_those_of_another_program(rt: HostRuntime) -> Result<(), Fail> {
+    for (alg, number, lists) in LISTS_OF_SOME {
+        let documents = documents(rt.alloc(), alg, 0, 1000)?;
+        assert!(rt; !documents.is_empty());
+        let tree = Tree::of(rt.alloc(), alg, &documents)?;
+        let Some(leaf) = documents.get(number) else {
+            return Err(Fail::new("no such document"));
+        };
+        let Some(of_leaf) = tree.lists_of(leaf) else {
+            return Err(Fail::new("no leaf"));
+        };
+        let text = names(rt.alloc(), &documents, of_leaf)?;
+        assert_eq!(rt; text.as_str(), lists, "document {number}");
     }
     Ok(())
 }

@@ -2,7 +2,7 @@ use Rattle.std.proofs.Common.{◌≡◌, List, All, sym, subst}
 use Rattle.std.proofs.lemmas.List.Elements.{All-push}
 use Rattle.digests.specs.Digests.{alg_of}
 use Rattle.digests.specs.declared.value.Digest.{Digest}
-use Rattle.evidence_making.proofs.tests.documents.Goals as goal
+use Rattle.making_tests.proofs.documents.documents.Goals as goal
 
 pub loop-number-preserved : goal.loop-number-preserved
 loop-number-preserved c =

@@ -2,7 +2,7 @@ use Rattle.std.proofs.Common.{◌≡◌, List, All, sym, subst}
 use Rattle.std.proofs.lemmas.List.Elements.{All-push}
 use Rattle.digests.specs.Digests.{alg_of}
 use Rattle.digests.specs.declared.value.Digest.{Digest}
-use Rattle.evidence_making.proofs.tests.with.Goals as goal
+use Rattle.making_tests.proofs.making.with.Goals as goal
 
 pub returns : goal.returns
 returns c =

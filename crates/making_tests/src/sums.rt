@@ -1,8 +1,8 @@
 //! Texts that sha256sum and its kin (GNU coreutils 9.1) wrote, and texts of theirs that were changed: what is said of
 //! them. The files a, x\y and the like hold `abc`, d/empty nothing, and the one named by the octet 255 that octet.
 
-use crate::{Sum, Sums};
 use digests::Alg;
+use evidence_sums::{Sum, Sums};
 use std::alloc::{AllocError, Global};
 use std::test::Fail;
 

@@ -1,6 +1,0 @@
-use Rattle.std.proofs.Common.{◌≡◌, All}
-use Rattle.digests.specs.Digests.{alg_of}
-use Rattle.evidence_making.proofs.tests.documents.Given as goal
-
-abbrev pub invariant-loop-number : goal.invariant-loop-number
-invariant-loop-number l = All (λ d. alg_of d ≡ l.alg) l.documents.items

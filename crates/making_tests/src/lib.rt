@@ -1,0 +1,28 @@
+//! Tests of what makes and renews evidence records (RFC 4998): hash trees, lists of digests, records, and the commands,
+//! beside what other programs made of the same. There is no code but the tests.
+#![tactic(auto)]
+
+#[cfg(test)]
+mod below;
+#[cfg(test)]
+mod commands;
+#[cfg(test)]
+mod documents;
+#[cfg(test)]
+mod double;
+#[cfg(test)]
+mod making;
+#[cfg(test)]
+mod records;
+#[cfg(test)]
+mod rehashed;
+#[cfg(test)]
+mod rehashing;
+#[cfg(test)]
+mod renewed;
+#[cfg(test)]
+mod renewing;
+#[cfg(test)]
+mod sums;
+#[cfg(test)]
+mod trees;

@@ -1,9 +1,6 @@
 -- The verdict by what a pass over a file gave, which may be no verdict: steps of the proofs.
-use Rattle.std.specs.Prelude.{◌≡◌, ⊤, ℕ, Bool, true, false, Option, Some, None, Result, Ok, Err, IfSome}
-use Rattle.devices.specs.declared.source.Source.{Ghosts as Sources}
-use Rattle.digests.specs.declared.algorithm.Alg.{Alg}
+use Rattle.std.specs.Prelude.{◌≡◌, ⊤, ℕ, Bool, true, Option, Some, None, Result, Ok, Err, IfSome}
 use Rattle.digests.specs.declared.set.Algs.{Algs}
-use Rattle.digests.specs.Sets.{is_in}
 use Rattle.check_fit.specs.declared.policy.Policy.{Policy}
 use Rattle.check_fit.specs.declared.rules.FileRule.TheVariants as rule
 use Rattle.check_fit.specs.declared.rules.DeviceFault.TheVariants as device
@@ -16,7 +13,7 @@ use Rattle.cms_stream.specs.Opening.{OpenedValue}
 use Rattle.cms_stream.specs.declared.stream_fault.StreamFault.{StreamFault}
 use Rattle.cms_stream.specs.declared.stream_fault.StreamFault.TheVariants as stream
 use Rattle.check_stream.specs.Hashing.{Lacks}
-use Rattle.check_stream.specs.StreamVerdicts.{IsUnjudged, IsEarly, LacksDigest}
+use Rattle.check_stream.specs.StreamVerdicts.{IsUnjudged, IsEarly}
 
 -- nothing was judged: the content is in the SignedData, and a signer needs an algorithm that is none of these
 abbrev pub IsLeft : {S : Type 0} → Policy → Option OpenedValue → Algs → (before after : Option S) → Type 0
@@ -68,11 +65,3 @@ pub record AsksVerifier {V : Type 0} (verifier : Verifiers V) (before after : V)
   pub unasked : IsUnjudgedIn result → (test : Asked → Bool) → verifier.asked_only test before after
   pub same : verifier.vouches after ≡ verifier.vouches before
   pub count : CountsAsksIn result (verifier.failures before) (verifier.failures after)
-
--- No verdict: a signer needs a digest by an algorithm that is none of these, of the content that is in the file; so not
--- all algorithms are among them; and the content is not read, nothing is asked, and no device failed.
-pub record IsLacking {F S V : Type 0} (source : Sources F) (file file' : F) (content content' : Option S)
-    (verifier verifier' : V) (policy : Policy) (algorithms : Algs) : Type 0 where
-  pub none : source.tells file → LacksDigest policy (source.rest file) algorithms
-  pub lacking : (alg : Alg) × (is_in alg algorithms ≡ false)
-  pub untouched : (content' ≡ content) × (verifier' ≡ verifier) × (source.failures file' ≡ source.failures file)

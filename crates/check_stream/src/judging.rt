@@ -3,7 +3,7 @@ ghost use Rattle.digests.specs.Selection.{FedWanted, set_of};
 ghost use Rattle.check_verdict.specs.Checkers.{terms_for};
 ghost use Rattle.cms_stream.specs.Opening.{OpenedValue, OpensStream};
 ghost use Rattle.check_stream.specs.StreamVerdicts.{ChecksStreamAsking, facts};
-ghost use Rattle.check_stream.specs.KeptRules.{kept_place, kept_rules};
+ghost use Rattle.check_stream.specs.KeptRules.{kept_rules};
 ghost use Rattle.check_stream.specs.JudgedKept.{stopped_by, IsLeft, OfPass, Stopped, AsksVerifier};
 ghost use Rattle.check_stream.specs.DeviceVerdicts.{OfRead};
 
@@ -26,17 +26,6 @@ fn stopped_by(fault: StreamFault) -> Refused
     }
 }
 
-// C4 and C5: the content was in the file or is handed in, and not both.
-fn placed<'b>(opened: Opened<'b>, handed: bool) -> Result<Opened<'b>, Refused>
-    ensures { result ≡ kept_place opened.entry opened.entry.attached handed }
-{
-    match (opened.is_attached(), handed) {
-        (false, false) => Err(Refused::File(FileRule::NoContent)),
-        (true, true) => Err(Refused::File(FileRule::ContentTwice)),
-        _ => Ok(opened),
-    }
-}
-
 // What was kept of a SignedData, if its content was in the file or is handed in, and not both.
 //
 // Errors: the first of C2 to C5 that fails.
@@ -49,7 +38,11 @@ fn kept<'b>(opened: Option<Opened<'b>>, handed: bool) -> Result<Opened<'b>, Refu
     if opened.signers().is_empty() {
         return Err(Refused::File(FileRule::NoSigner));
     }
-    placed(opened, handed)
+    match (opened.is_attached(), handed) {
+        (false, false) => Err(Refused::File(FileRule::NoContent)),
+        (true, true) => Err(Refused::File(FileRule::ContentTwice)),
+        _ => Ok(opened),
+    }
 }
 
 // The verdict, by what a pass kept of the octets and the hashers that it fed. `None` if a signer needs an algorithm

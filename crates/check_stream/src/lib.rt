@@ -6,7 +6,6 @@
 
 mod content;
 mod fault;
-mod hashers;
 mod judging;
 mod stream;
 mod stream_questions;

@@ -12,10 +12,10 @@ ghost use Rattle.check_stream.specs.StreamVerdicts.{StreamChecks, StreamChecksAs
 ghost use Rattle.check_stream.specs.StreamVerdicts.{StreamVerdictOrDevice, IsUnjudged, IsEarly, LacksDigest};
 ghost use Rattle.check_stream.specs.StreamVerdicts.{StreamSuffices, judge};
 ghost use Rattle.check_stream.specs.Promises.{Promised};
-ghost use Rattle.check_stream.specs.JudgedKept.{IsEarlyIn, CountsAsksIn, AsksVerifier, IsLacking};
+ghost use Rattle.check_stream.specs.JudgedKept.{IsEarlyIn, CountsAsksIn};
 ghost use Rattle.check_stream.specs.DeviceVerdicts.{OfDevices};
 
-use crate::hashers::{Chosen, Hashers};
+use crate::content::{Chosen, Hashers};
 use crate::judging::judge_pass;
 use check_fit::{Policy, Refused};
 use check_verdict::{Accepted, Checker};
@@ -43,31 +43,6 @@ fn pass_over<'b, C: Chosen, F: Source>(
     let mut hashers: Hashers<C> = Hashers::new(algorithms);
     let pass = passing.open_stream(file, buffer, &mut hashers);
     (pass, hashers.wanted())
-}
-
-// The verdict, if each digest that a signer needs was computed.
-fn verdict_by<F: Source, S: Source, V: Verifier>(
-    passing: &mut Pass,
-    checker: &mut Checker,
-    file: &mut F,
-    content: &mut Option<S>,
-    buffer: &mut [u8],
-    verifier: &mut V,
-    algorithms: Algs,
-) -> Option<Result<Accepted, Refused>>
-    ensures asked { IfSome result (StreamChecksAsking
-        (judge V.Verifier checker.old.policy checker.old.trust verifier.old verifier.new)
-        (given F.Source file.old file.new buffer.old) S.Source content.old content.new) }
-    ensures devices { IfSome result (OfDevices (facts S.Source)
-        (F.failures file.old) (F.failures file.new) content.old content.new) }
-    ensures end { F.tells file.old → IsEarlyIn result ⊎ (F.rest file.new ≡ []) }
-    ensures lacks { result ≡ None → IsLacking F.Source file.old file.new content.old content.new
-        verifier.old verifier.new checker.old.policy algorithms }
-    ensures asks { AsksVerifier V.Verifier verifier.old verifier.new result }
-    ensures stays { checker.new ≡ checker.old }
-{
-    let (pass, hashers) = pass_over::<Brand, F>(passing, file, buffer, algorithms);
-    judge_pass(pass, hashers, content, checker, verifier)
 }
 
 /// The verdict of `check_stream`, with what serves for one file after another: the window, and what a check goes by.
@@ -109,9 +84,8 @@ pub fn check_stream_by<F: Source, S: Source, V: Verifier>(
     // What the check goes by stays the same.
     ensures stays { checker.new ≡ checker.old }
 {
-    verdict_by(
-        passing, checker, file, content, buffer, verifier, algorithms,
-    )
+    let (pass, hashers) = pass_over::<Brand, F>(passing, file, buffer, algorithms);
+    judge_pass(pass, hashers, content, checker, verifier)
 }
 
 // All algorithms.

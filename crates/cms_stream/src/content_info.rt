@@ -27,10 +27,10 @@ impl Reader {
         let id = SIGNED_DATA;
         let mut test = TypeTest::new(&id);
         self.pour(source, end, &mut test)?;
-        if !test.is_oid() {
+        if !test.oid.is_whole() {
             return Err(StreamFault::Malformed(Fault::new(Kind::Oid, at)));
         }
-        Ok(test.is_signed_data())
+        Ok(test.signed_data.is_whole())
     }
 
     /// Passes a contentType and returns whether it is id-signedData.

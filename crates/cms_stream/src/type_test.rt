@@ -1,5 +1,4 @@
 ghost use Rattle.std.specs.Prelude.{◌≡◌, ◌&&◌, ℕ, List, [], ◌∷◌};
-ghost use Rattle.der_core.specs.Contents.{is_oid};
 ghost use Rattle.der_core.specs.Lists.{is_same};
 ghost use Rattle.der_grammar.specs.Table.{id_signed_data};
 ghost use Rattle.cms_stream.specs.Oids.{Tested};
@@ -62,8 +61,8 @@ impl<'a> Taker for SignedDataTest<'a> {
 /// id-signedData.
 #[derive(Debug, Drop)]
 pub(crate) struct TypeTest<'a> {
-    oid: OidTest,
-    signed_data: SignedDataTest<'a>,
+    pub(crate) oid: OidTest,
+    pub(crate) signed_data: SignedDataTest<'a>,
 }
 
 impl<'a> TypeTest<'a> {
@@ -77,20 +76,6 @@ impl<'a> TypeTest<'a> {
             oid: OidTest::new(),
             signed_data: SignedDataTest::new(id),
         }
-    }
-
-    /// Whether the octets that passed are the contents of an OBJECT IDENTIFIER.
-    pub(crate) fn is_oid(&self) -> bool
-        ensures { (m : List ℕ) → Tested self.now.oid m → is_oid m ≡ result }
-    {
-        self.oid.is_whole()
-    }
-
-    /// Whether they are those of id-signedData.
-    pub(crate) fn is_signed_data(&self) -> bool
-        ensures { (m : List ℕ) → Compared self.now.signed_data m → is_same id_signed_data m ≡ result }
-    {
-        self.signed_data.is_whole()
     }
 }
 

@@ -2,7 +2,6 @@
 #![tactic(auto)]
 
 mod laws;
-mod line;
 mod verdict;
 
 pub use laws::{answers_have_one_line, rows_hold};

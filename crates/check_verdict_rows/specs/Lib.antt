@@ -3,3 +3,4 @@ pub mod SeveralSigners
 pub mod NamedSigners
 pub mod Fractions
 pub mod OtherEntries
+pub mod LongSources

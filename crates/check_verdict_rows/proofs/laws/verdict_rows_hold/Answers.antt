@@ -3,6 +3,7 @@ use Rattle.check_verdict_rows.proofs.SeveralSigners.{several_signers_rows}
 use Rattle.check_verdict_rows.proofs.NamedSigners.{named_signer_rows}
 use Rattle.check_verdict_rows.proofs.Fractions.{fraction_rows}
 use Rattle.check_verdict_rows.proofs.OtherEntries.{other_entry_rows}
+use Rattle.check_verdict_rows.proofs.LongSources.{long_source_rows}
 use Rattle.check_verdict_rows.proofs.laws.verdict_rows_hold.Goals as goal
 
 pub returns-clause-refusals : goal.returns-clause-refusals
@@ -19,3 +20,6 @@ returns-clause-fractions c = fraction_rows
 
 pub returns-clause-entries : goal.returns-clause-entries
 returns-clause-entries c = other_entry_rows
+
+pub returns-clause-sources : goal.returns-clause-sources
+returns-clause-sources c = long_source_rows

@@ -17,7 +17,7 @@ from typing import Any, Iterator, NamedTuple, NoReturn
 
 TOP = Path(__file__).resolve().parent.parent
 sys.path[:0] = [str(TOP / "tools" / "installed")]
-from cmsproof_tools import archive_words, due, evidence, extract, report, running, stamp, trust, verify  # noqa: E402
+from cmsproof_tools import archive_words, due, evidence, extract, renew, report, running, stamp, trust, verify  # noqa: E402
 
 FOLDER = TOP / "packaging" / "completion"
 MADE = "made by tools/completion.py of the parsers of the tools and the help of the program"
@@ -26,7 +26,7 @@ FILES = set("A ANSWERS B CONTENT DIR FILE FOLDER LIST NEW OLD OUT QUESTIONS RECO
 WORDS = set("ADDRESS ALG=TIME HEX KIND N NAME OID PART SHA256 SUFFIX=ENDING TIME URL VERDICT".split())
 # the tools, and the first words of one that stand for other parsers
 TOOLS = {"archive": archive_words, "extract": extract, "trust": trust, "verify": verify}
-SUBTOOLS = {"report": report, "evidence": evidence, "due": due, "stamp": stamp}
+SUBTOOLS = {"report": report, "evidence": evidence, "due": due, "stamp": stamp, "renew": renew}
 
 
 class Option(NamedTuple):

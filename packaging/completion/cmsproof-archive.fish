@@ -6,7 +6,7 @@ function __cmsproof_archive_at
     set -l place -
     set -l words (commandline -opc)
     set -e words[1]
-    if set -q words[1]; and contains -- $words[1] report evidence due stamp
+    if set -q words[1]; and contains -- $words[1] report evidence due stamp renew
         set place $words[1]
         set -e words[1]
     end
@@ -21,6 +21,7 @@ complete -c cmsproof-archive -n '__cmsproof_archive_at 1 -' -a report -d 'Shows 
 complete -c cmsproof-archive -n '__cmsproof_archive_at 1 -' -a evidence -d 'Makes a bundle, a zip file, of all that shows the verdict of one file again'
 complete -c cmsproof-archive -n '__cmsproof_archive_at 1 -' -a due -d 'Lists the evidence records'
 complete -c cmsproof-archive -n '__cmsproof_archive_at 1 -' -a stamp -d 'Has an authority stamp all files under a folder that have no evidence record'
+complete -c cmsproof-archive -n '__cmsproof_archive_at 1 -' -a renew -d 'Renews the evidence records under a folder that are due by a moment, by one time-stamp for very many'
 complete -c cmsproof-archive -n '__cmsproof_archive_at -' -l help -d 'Show this help message and exit'
 complete -c cmsproof-archive -n '__cmsproof_archive_at -' -l version -d 'Show program’s version number and exit'
 complete -c cmsproof-archive -n '__cmsproof_archive_at -' -l trust -r -F -d 'The trust list, which is read once'
@@ -92,14 +93,28 @@ complete -c cmsproof-archive -n '__cmsproof_archive_at due' -l null -d 'Names in
 complete -c cmsproof-archive -n '__cmsproof_archive_at due' -l progress -d 'Say how far the work is, also where standard error is not a terminal'
 complete -c cmsproof-archive -n '__cmsproof_archive_at stamp' -l help -d 'Show this help message and exit'
 complete -c cmsproof-archive -n '__cmsproof_archive_at stamp' -l version -d 'Show program’s version number and exit'
-complete -c cmsproof-archive -n '__cmsproof_archive_at stamp' -l tsa -x -d 'The address of the authority, http or https'
 complete -c cmsproof-archive -n '__cmsproof_archive_at stamp' -l into -r -F -d 'The folder of the records, which is made if it is not there'
+complete -c cmsproof-archive -n '__cmsproof_archive_at stamp' -l tsa -x -d 'The address of the authority, http or https'
 complete -c cmsproof-archive -n '__cmsproof_archive_at stamp' -l state -r -F -d 'A folder with what was done so far, which is made if it is not there'
+complete -c cmsproof-archive -n '__cmsproof_archive_at stamp' -l policy -x -d 'The policy under which the authority is asked to stamp'
+complete -c cmsproof-archive -n '__cmsproof_archive_at stamp' -l timeout -x -d 'How many seconds the authority may take, 60 by default'
+complete -c cmsproof-archive -n '__cmsproof_archive_at stamp' -l program -r -F -d 'The program cmsproof, by default the one beside this tool or on PATH'
+complete -c cmsproof-archive -n '__cmsproof_archive_at stamp' -l progress -d 'Say how far the work is, also where standard error is not a terminal'
 complete -c cmsproof-archive -n '__cmsproof_archive_at stamp' -l trust -r -F -d 'The trust list that has the authority'
 complete -c cmsproof-archive -n '__cmsproof_archive_at stamp' -l end -x -d 'The last moment at which a digest algorithm holds, with --trust'
 complete -c cmsproof-archive -n '__cmsproof_archive_at stamp' -l alg -x -a 'sha256 sha384 sha512' -d 'The digest algorithm, sha256 by default'
-complete -c cmsproof-archive -n '__cmsproof_archive_at stamp' -l policy -x -d 'The policy under which the authority is asked to stamp'
-complete -c cmsproof-archive -n '__cmsproof_archive_at stamp' -l timeout -x -d 'How many seconds the authority may take, 60 by default'
 complete -c cmsproof-archive -n '__cmsproof_archive_at stamp' -l jobs -x -d 'Files that are read at a time'
-complete -c cmsproof-archive -n '__cmsproof_archive_at stamp' -l program -r -F -d 'The program cmsproof, by default the one beside this tool or on PATH'
-complete -c cmsproof-archive -n '__cmsproof_archive_at stamp' -l progress -d 'Say how far the work is, also where standard error is not a terminal'
+complete -c cmsproof-archive -n '__cmsproof_archive_at renew' -l help -d 'Show this help message and exit'
+complete -c cmsproof-archive -n '__cmsproof_archive_at renew' -l version -d 'Show program’s version number and exit'
+complete -c cmsproof-archive -n '__cmsproof_archive_at renew' -l records -r -F -d 'The folder of the records, which end in .ers'
+complete -c cmsproof-archive -n '__cmsproof_archive_at renew' -l trust -r -F -d 'The trust list, which is read once'
+complete -c cmsproof-archive -n '__cmsproof_archive_at renew' -l months -x -d 'Those that are due within so many months from now'
+complete -c cmsproof-archive -n '__cmsproof_archive_at renew' -l by -x -d 'Those that are due by this moment'
+complete -c cmsproof-archive -n '__cmsproof_archive_at renew' -l end -x -d 'The last moment at which a digest algorithm holds'
+complete -c cmsproof-archive -n '__cmsproof_archive_at renew' -l tsa -x -d 'The address of the authority, http or https'
+complete -c cmsproof-archive -n '__cmsproof_archive_at renew' -l state -r -F -d 'A folder with what was done so far, which is made if it is not there'
+complete -c cmsproof-archive -n '__cmsproof_archive_at renew' -l policy -x -d 'The policy under which the authority is asked to stamp'
+complete -c cmsproof-archive -n '__cmsproof_archive_at renew' -l timeout -x -d 'How many seconds the authority may take, 60 by default'
+complete -c cmsproof-archive -n '__cmsproof_archive_at renew' -l program -r -F -d 'The program cmsproof, by default the one beside this tool or on PATH'
+complete -c cmsproof-archive -n '__cmsproof_archive_at renew' -l progress -d 'Say how far the work is, also where standard error is not a terminal'
+complete -c cmsproof-archive -n '__cmsproof_archive_at renew' -l jobs -x -d 'Records that are judged at a time'

@@ -12,7 +12,7 @@ _cmsproof_options() {
     'cmsproof check') echo '--trust --answers --content --sha1 --buffer --files-from --null --help' ;;
     'cmsproof questions') echo '--trust --buffer --files-from --null --help' ;;
     'cmsproof stamp') echo '--trust --answers --sha1 --help --files-from --null' ;;
-    'cmsproof evidence') echo '--trust --answers --end --at --whole --help --files-from --null --alg --policy --nonce --cert --token --into' ;;
+    'cmsproof evidence') echo '--trust --answers --end --at --whole --help --files-from --null --alg --policy --nonce --cert --token --into --request' ;;
     'cmsproof attach') echo '--signer --token --help' ;;
     'cmsproof compare') echo '--first --second --help' ;;
     'cmsproof migrate') echo '--help' ;;
@@ -34,7 +34,7 @@ _cmsproof_firsts() {
     'cmsproof') echo 'request show cert fit match check questions stamp evidence attach compare migrate help' ;;
     'cmsproof show') echo 'evidence request response signed tst' ;;
     'cmsproof stamp') echo 'check questions' ;;
-    'cmsproof evidence') echo 'check questions request make' ;;
+    'cmsproof evidence') echo 'check questions request make renew rehash' ;;
     'cmsproof help') echo 'request show cert fit match check questions stamp evidence attach compare migrate help' ;;
     'cmsproof-archive') echo 'report evidence due stamp' ;;
     esac
@@ -72,6 +72,7 @@ _cmsproof_values() {
     'cmsproof evidence --nonce') echo '' ;;
     'cmsproof evidence --token') echo files ;;
     'cmsproof evidence --into') echo files ;;
+    'cmsproof evidence --request') echo files ;;
     'cmsproof attach --signer') echo '' ;;
     'cmsproof attach --token') echo files ;;
     'cmsproof compare --first') echo '' ;;

@@ -54,7 +54,7 @@ def read(text: bytes) -> list[Sum]:
     return sums
 
 
-def tree(leaves: list[bytes]) -> tuple[bytes, dict[bytes, list[bytes]]]:
+def tree(leaves: list[bytes], name: str = "sha256") -> tuple[bytes, dict[bytes, list[bytes]]]:
     """The root over these digests, and for each of them the hash values that lead to it."""
     level = sorted(set(leaves))
     groups, paths = [{leaf} for leaf in level], {leaf: [leaf] for leaf in level}
@@ -64,14 +64,23 @@ def tree(leaves: list[bytes]) -> tuple[bytes, dict[bytes, list[bytes]]]:
             for mine, other in ((at, at + 1), (at + 1, at)):
                 for leaf in groups[mine]:
                     paths[leaf].append(level[other])
-            nodes.append(hashlib.sha256(b"".join(sorted(level[at : at + 2]))).digest())
+            nodes.append(hashlib.new(name, b"".join(sorted(level[at : at + 2]))).digest())
             sets.append(groups[at] | groups[at + 1])
         level, groups = nodes + level[len(nodes) * 2 :], sets + groups[len(nodes) * 2 :]
     return level[0], paths
 
 
-def record(path: list[bytes], token: bytes) -> bytes:
-    """The record of a leaf, by the values that lead to the root and the token over that."""
+def chain(path: list[bytes], token: bytes, alg: str = SHA256) -> bytes:
+    """The chain of one time-stamp of a leaf, by the values that lead to the root and the token over that."""
     lists = element(0xA2, *(sequence(octets(value)) for value in path))
-    stamp = sequence(element(0xA0, oid(SHA256)), lists, token)
-    return sequence(number(1), sequence(sequence(oid(SHA256))), sequence(sequence(stamp)))
+    return sequence(sequence(element(0xA0, oid(alg)), lists, token))
+
+
+def record(path: list[bytes], token: bytes) -> bytes:
+    """The record of a leaf with that chain."""
+    return chained([SHA256], [chain(path, token)])
+
+
+def chained(algs: list[str], chains: list[bytes]) -> bytes:
+    """The record that names these algorithms and has these chains."""
+    return sequence(number(1), sequence(*(sequence(oid(alg)) for alg in algs)), sequence(*chains))

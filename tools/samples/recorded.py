@@ -33,8 +33,7 @@ class Growing:
         self.alg = alg
         covered = [sha(one, alg) for one in self.data]
         if self.chains:
-            earlier = sha(sequence(*(sequence(*stamps) for stamps in self.chains)), alg)
-            covered = [sha(one + earlier, alg) for one in covered]
+            covered = [sha(one + sha(self.archive_sequence(), alg), alg) for one in covered]
         self.chains.append([])
         return self.stamp(at, covered, **rest)
 
@@ -50,6 +49,10 @@ class Growing:
         self.tokens.append(token)
         self.chains[-1].append(archive_stamp(token.octets, lists, self.alg if named else None, attributes))
         return self
+
+    def archive_sequence(self):
+        """The ArchiveTimeStampSequence (5.1)."""
+        return sequence(*(sequence(*stamps) for stamps in self.chains))
 
     def whole(self, more=b""):
         """The record."""

@@ -79,11 +79,11 @@ class Offered:
     def test_options_of_commands_and_tools(self):
         table = [(f"cmsproof {name} --", options_of(name)) for name in commands() - {"help"}]
         helps = [(name, help_of(sys.executable, INSTALLED / name, "--help")) for name in TOOLS]
-        for word in ("report", "evidence", "due", "stamp"):
+        for word in ("report", "evidence", "due", "stamp", "renew"):
             name = f"cmsproof-archive {word}"
             helps.append((name, help_of(sys.executable, INSTALLED / "cmsproof-archive", word, "--help")))
         table += [(f"{name} --", options_in(text)) for name, text in helps]
-        self.assertEqual(len(table), len(commands()) - 1 + 4 + 4)
+        self.assertEqual(len(table), len(commands()) - 1 + 4 + 5)
         self.assertTrue(all("--help" in expected for _, expected in table))
         self.check(table)
 
@@ -94,7 +94,7 @@ class Offered:
         table = [
             ("cmsproof show ", {"evidence", "request", "response", "signed", "tst"}),
             ("cmsproof stamp ", {"check", "questions"}),
-            ("cmsproof evidence ", {"check", "questions", "request", "make"}),
+            ("cmsproof evidence ", {"check", "questions", "request", "make", "renew", "rehash"}),
             ("cmsproof request --alg ", digests),
             ("cmsproof evidence make --alg ", digests),
             ("cmsproof-archive --only ", verdicts),
@@ -103,6 +103,7 @@ class Offered:
             ("cmsproof-archive evi", {"evidence"}),
             ("cmsproof-archive du", {"due"}),
             ("cmsproof-archive st", {"stamp"}),
+            ("cmsproof-archive ren", {"renew"}),
         ]
         self.check(table)
 
@@ -126,6 +127,8 @@ class Offered:
             ("cmsproof-archive due --trust l", there),
             ("cmsproof-archive due --months ", nothing),
             ("cmsproof-archive stamp --trust l", there),
+            ("cmsproof-archive renew --records l", there),
+            ("cmsproof-archive renew --tsa ", nothing),
             ("cmsproof-archive stamp --tsa ", nothing),
             ("cmsproof-trust --tsa l", there),
             ("cmsproof-trust --until ", nothing),

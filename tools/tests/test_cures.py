@@ -52,10 +52,13 @@ OTHERS = {
     "W8": "Others",
     "U1": "Line",
     "U2": "Empty",
+    "U3": "NoStamp",
+    "U4": "Mixed",
     "U5": "Name",
     "U6": "NameTwice",
     "U7": "TokenMalformed",
     "U8": "ImprintDiffers",
+    "U9": "Order",
     "U10": "TooLong",
 }
 

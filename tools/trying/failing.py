@@ -109,6 +109,10 @@ MORE = [
     ["evidence", "request", "--policy", "2.999.3", "--nonce", "05", "--cert", "sums", "out"],
     ["evidence", "make", "--token", "token", "--into", ".", "sums"],
     ["evidence", "make", "--token", "token", "--into", "missing", "sums"],
+    ["evidence", "renew", "--request", "out", "tree", "of-group"],
+    ["evidence", "renew", "--token", "token", "tree"],
+    hostile_devices.REHASH + ["--token", "token", "sums-tree"],
+    hostile_devices.REHASH + ["--request", "out", "sums"],
 ]
 # the second one is that of `evidence check` while it judges
 NO_MEMORY = b"failed memory\n", b"failed X4 OutOfMemory\n"

@@ -10,7 +10,7 @@ import subprocess
 from oracle import evidence, expected, lists, rules
 from samples.building import request_of, sha
 from trying.hostile_inputs import CHECK, FILE, REQUEST, RESPONSE, SIGNER, STAMP_CHECK, STAMP_QUESTIONS, TERMS, TRUST, migrated
-from trying.record_inputs import BEGUN, EVIDENCE_CHECK, EVIDENCE_QUESTIONS, OF_OLD, SAID
+from trying.record_inputs import BEGUN, DATA, EVIDENCE_CHECK, EVIDENCE_QUESTIONS, OF_OLD, SAID, SMALL
 
 ACCEPTED = "accepted 20240115100000Z\n"
 DIGEST = sha(b"abc").hex()
@@ -42,6 +42,7 @@ PRINTING = [
     (["--help"], None),
     (["--version"], None),
 ]
+REHASH = ["evidence", "rehash", "--alg", "sha256", "--into", "."]
 # words that make the file `out`, with its octets
 MAKING = [
     (["request", "--digest", DIGEST, "out"], request_of(sha(b"abc"))),
@@ -49,6 +50,8 @@ MAKING = [
     (["attach", "--signer", "1", "--token", "token", "unstamped", "out"], FILE),
     (["migrate", "trust", "out"], migrated(TRUST)[2]),
     (["evidence", "request", "sums", "out"], request_of(sha(b"abc"))),
+    (["evidence", "renew", "tree", "--request", "out"], request_of(sha(SMALL.tokens[-1].octets))),
+    (REHASH + ["sums-tree", "--request", "out"], request_of(sha(sha(DATA) + sha(SMALL.archive_sequence())))),
     (["match", "request", "response", "out"], expected.matched(REQUEST, RESPONSE)[2]),
 ]
 # words with a place for an input file, and how a failure to read it is told
@@ -87,6 +90,11 @@ READING = [
     (["evidence", "request", "?", "out"], "read"),
     (["evidence", "make", "--token", "?", "--into", "folder", "sums"], "read"),
     (["evidence", "make", "--token", "token", "--into", "folder", "?"], "read"),
+    (["evidence", "renew", "--request", "out", "?"], "read"),
+    (["evidence", "renew", "--token", "?", "tree"], "read"),
+    (REHASH + ["--request", "out", "?"], "read"),
+    (REHASH + ["--token", "?", "sums-tree"], "read"),
+    (REHASH + ["--token", "token", "?"], "read"),
     (["cert", "?"], "read"),
     (["show", "signed", "?"], "read"),
     (["show", "request", "?"], "read"),

@@ -91,6 +91,8 @@ BESIDE = {
     "answers-tsa": ANSWERS,
     "other": OTHER,
     "tree": TREE,
+    "tree.ers": TREE,
+    "sums-tree": f"{sha(DATA).hex()}  tree\n".encode(),
     "of-group": OF_GROUP,
     "of-old": OF_OLD,
     "encrypted": ENCRYPTED,

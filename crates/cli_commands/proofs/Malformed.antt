@@ -27,6 +27,8 @@ fault_told (failure.Uncompared why) before after ends told = inr (inr (inr (inl 
 fault_told (failure.Sums fault) before after ends told = inr (inr (inr (inr (fault, ends, told))))
 fault_told (failure.Unstamping why) before after ends told = absurd (let no : ⊥ = cc in no)
 fault_told (failure.Unmade why) before after ends told = absurd (let no : ⊥ = cc in no)
+fault_told (failure.Unrenewable why) before after ends told = absurd (let no : ⊥ = cc in no)
+fault_told failure.Mixed before after ends told = absurd (let no : ⊥ = cc in no)
 fault_told failure.Different before after ends told = absurd (let no : ⊥ = cc in no)
 fault_told failure.Collision before after ends told = absurd (let no : ⊥ = cc in no)
 fault_told (failure.Unattached why) before after ends told = absurd (let no : ⊥ = cc in no)
@@ -60,6 +62,9 @@ fault_told (failure.Open path) before after ends told = absurd (let no : ⊥ = c
 fault_told (failure.Read path) before after ends told = absurd (let no : ⊥ = cc in no)
 fault_told (failure.Size path) before after ends told = absurd (let no : ⊥ = cc in no)
 fault_told (failure.Write path) before after ends told = absurd (let no : ⊥ = cc in no)
+fault_told (failure.Unopened path) before after ends told = absurd (let no : ⊥ = cc in no)
+fault_told (failure.Unread path) before after ends told = absurd (let no : ⊥ = cc in no)
+fault_told (failure.Oversized path) before after ends told = absurd (let no : ⊥ = cc in no)
 fault_told (failure.Unput path) before after ends told = absurd (let no : ⊥ = cc in no)
 fault_told (failure.Taken path) before after ends told = absurd (let no : ⊥ = cc in no)
 fault_told failure.Memory before after ends told = absurd (let no : ⊥ = cc in no)
@@ -84,7 +89,11 @@ refusal_told (failure.Sums fault) before after ends told =
 refusal_told (failure.Unstamping why) before after ends told =
     inr (inr (inr (inr (inr (inr (inr (inr (inl (inr (inl (why, told)))))))))))
 refusal_told (failure.Unmade why) before after ends told =
-    inr (inr (inr (inr (inr (inr (inr (inr (inl (inr (inr (why, told)))))))))))
+    inr (inr (inr (inr (inr (inr (inr (inr (inl (inr (inr (inl (why, told))))))))))))
+refusal_told (failure.Unrenewable why) before after ends told =
+    inr (inr (inr (inr (inr (inr (inr (inr (inl (inr (inr (inr (inl (why, told)))))))))))))
+refusal_told failure.Mixed before after ends told =
+    inr (inr (inr (inr (inr (inr (inr (inr (inl (inr (inr (inr (inr told))))))))))))
 refusal_told (failure.Unasked questions.NotSignedData) before after ends told = inr (inr (inl told))
 refusal_told (failure.Unasked (questions.Malformed fault)) before after ends told = absurd (let no : ⊥ = cc in no)
 refusal_told (failure.Unasked questions.WriteFailed) before after ends told = absurd (let no : ⊥ = cc in no)
@@ -97,6 +106,9 @@ refusal_told (failure.Open path) before after ends told = absurd (let no : ⊥ =
 refusal_told (failure.Read path) before after ends told = absurd (let no : ⊥ = cc in no)
 refusal_told (failure.Size path) before after ends told = absurd (let no : ⊥ = cc in no)
 refusal_told (failure.Write path) before after ends told = absurd (let no : ⊥ = cc in no)
+refusal_told (failure.Unopened path) before after ends told = absurd (let no : ⊥ = cc in no)
+refusal_told (failure.Unread path) before after ends told = absurd (let no : ⊥ = cc in no)
+refusal_told (failure.Oversized path) before after ends told = absurd (let no : ⊥ = cc in no)
 refusal_told (failure.Unput path) before after ends told = absurd (let no : ⊥ = cc in no)
 refusal_told (failure.Taken path) before after ends told = absurd (let no : ⊥ = cc in no)
 refusal_told failure.Memory before after ends told = absurd (let no : ⊥ = cc in no)

@@ -22,7 +22,8 @@ use Rattle.evidence_sums.specs.declared.sums_fault.SumsFault.{SumsFault}
 use Rattle.evidence_sums.specs.FaultTexts.{sums_fault_text}
 use Rattle.evidence_making.specs.declared.fault.MakeFault.{MakeFault}
 use Rattle.evidence_making.specs.declared.fault.StampFault.{StampFault}
-use Rattle.evidence_making.specs.FaultTexts.{make_fault_text, stamp_fault_text}
+use Rattle.evidence_making.specs.declared.fault.LeafFault.{LeafFault}
+use Rattle.evidence_making.specs.FaultTexts.{leaf_fault_text, make_fault_text, stamp_fault_text}
 use Rattle.cli_failures.specs.declared.status.Status.{Status}
 use Rattle.cli_failures.specs.declared.status.Status.TheVariants as status
 use Rattle.cli_failures.specs.Failures.{said, malformed_line, refused_status, sums_status, uncompared_status}
@@ -104,10 +105,20 @@ TellsUnstamping before after = (why : StampFault) × Appends before after
 abbrev pub TellsUnmade : (before after : Option (List ℕ)) → Type 0
 TellsUnmade before after = (why : MakeFault) × Appends before after (said (codes "refused") (make_fault_text why))
 
--- a writer took the line of a rule by which evidence records are not made, if what it takes is known
+-- a writer took the line of a rule by which an evidence record can't be renewed, if what it takes is known
+abbrev pub TellsUnrenewable : (before after : Option (List ℕ)) → Type 0
+TellsUnrenewable before after = (why : LeafFault) × Appends before after
+    (said (codes "refused") (leaf_fault_text why))
+
+-- a writer took the line that evidence records are by different algorithms, if what it takes is known
+abbrev pub TellsMixed : (before after : Option (List ℕ)) → Type 0
+TellsMixed before after = Appends before after (said (codes "refused") (codes "U4 Mixed"))
+
+-- a writer took the line of a rule by which evidence records are not made or renewed, if what it takes is known
 abbrev pub TellsMaking : (before after : Option (List ℕ)) → Type 0
 TellsMaking before after = TellsSums status.Refused before after
-    ⊎ (TellsUnstamping before after ⊎ TellsUnmade before after)
+    ⊎ (TellsUnstamping before after ⊎ (TellsUnmade before after
+    ⊎ (TellsUnrenewable before after ⊎ TellsMixed before after)))
 
 -- a writer took the line of a rule that refuses a file, if what it takes is known
 abbrev pub TellsRefusal : (before after : Option (List ℕ)) → Type 0

@@ -25,30 +25,6 @@ pub fn limit_of(said: Option<u64>, again: bool) -> u64
     }
 }
 
-/// How much room the first pass over a file has: if it can be read again, what it says that it is long, from 4 KiB to
-/// 1 MiB; otherwise all that may be kept.
-pub fn first_room(stated: Option<u64>, limit: u64) -> u64
-    ensures within { result ≤ limit }
-    // What can be read only once has all the room at once.
-    ensures once { stated ≡ None → result ≡ limit }
-{
-    match stated {
-        Some(length) => length.max(LEAST).min(FIRST).min(limit),
-        None => limit,
-    }
-}
-
-/// How much room the pass after one with this room has: eight times as much, and at least 8 MiB, if it may.
-pub fn next_room(room: u64, limit: u64) -> u64
-    requires { room < limit }
-    ensures more { room < result }
-    ensures within { result ≤ limit }
-    // So there are few passes, however long the file is.
-    ensures eight { (result ≡ limit) ⊎ (8 * room ≤ result) }
-{
-    room.max(FIRST).saturating_mul(8).min(limit)
-}
-
 /// How much room a pass over a file has.
 #[derive(Clone, Copy)]
 pub struct Rooms {
@@ -59,23 +35,28 @@ pub struct Rooms {
 }
 
 impl Rooms {
-    /// Those of the first pass.
+    /// Those of the first pass over a file: if it can be read again, what it says that it is long, from 4 KiB to 1 MiB;
+    /// otherwise all that may be kept.
     pub fn first(stated: Option<u64>, limit: u64) -> Rooms
         ensures step { result.now ≡ result.step }
         ensures within { result.step ≤ limit }
         // What can be read only once has all the room at once.
         ensures once { stated ≡ None → result.now ≡ limit }
     {
-        let room = first_room(stated, limit);
+        let room = match stated {
+            Some(length) => length.max(LEAST).min(FIRST).min(limit),
+            None => limit,
+        };
         Rooms {
             now: room,
             step: room,
         }
     }
 
-    /// Those of the pass after this one: it has the room of the next step, or as much as the file says that it is long,
-    /// if that is less, since no more octets can be kept than there are. If even that is too little, the file is
-    /// shorter than its elements state, or it grew after it was asked: then the pass after it has the whole step.
+    /// Those of the pass after this one: it has the room of the next step, which is eight times this room, and at least
+    /// 8 MiB, if it may; or as much as the file says that it is long, if that is less, since no more octets can be kept
+    /// than there are. If even that is too little, the file is shorter than its elements state, or it grew after it was
+    /// asked: then the pass after it has the whole step.
     pub fn next(self, stated: Option<u64>, limit: u64) -> Rooms
         requires now { self.now < limit }
         requires step { self.step ≤ limit }
@@ -98,7 +79,7 @@ impl Rooms {
                 step: self.step,
             };
         }
-        let step = next_room(self.now, limit);
+        let step = self.now.max(FIRST).saturating_mul(8).min(limit);
         match stated {
             Some(length) if self.now < length => Rooms {
                 now: length.min(step),

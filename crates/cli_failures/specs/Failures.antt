@@ -33,7 +33,9 @@ use Rattle.evidence_sums.specs.declared.sums_fault.SumsRule.TheVariants as sums
 use Rattle.evidence_sums.specs.FaultTexts.{sums_fault_text}
 use Rattle.evidence_making.specs.declared.fault.MakeFault.{MakeFault}
 use Rattle.evidence_making.specs.declared.fault.MakeFault.TheVariants as making
-use Rattle.evidence_making.specs.FaultTexts.{make_fault_text, stamp_fault_text}
+use Rattle.evidence_making.specs.declared.fault.LeafFault.{LeafFault}
+use Rattle.evidence_making.specs.declared.fault.LeafFault.TheVariants as leaf
+use Rattle.evidence_making.specs.FaultTexts.{leaf_fault_text, make_fault_text, stamp_fault_text}
 use Rattle.tsp_requester.specs.AttachFaultTexts.{attach_fault_text}
 use Rattle.cms_compare.specs.declared.fault.CompareRule.{CompareRule}
 use Rattle.cms_compare.specs.declared.fault.CompareRule.TheVariants as compare
@@ -81,10 +83,15 @@ failure_text (failure.Trust fault) = said (codes "trust") (trust_fault_text faul
 failure_text (failure.Sums fault) = sums_fault_text fault ++ (10 ∷ [])
 failure_text (failure.Unstamping why) = said (codes "refused") (stamp_fault_text why)
 failure_text (failure.Unmade why) = said (codes "refused") (make_fault_text why)
+failure_text (failure.Unrenewable why) = said (codes "refused") (leaf_fault_text why)
+failure_text failure.Mixed = said (codes "refused") (codes "U4 Mixed")
 failure_text (failure.Open path) = said (codes "failed open") path.now
 failure_text (failure.Read path) = said (codes "failed read") path.now
 failure_text (failure.Size path) = said (codes "failed size") path.now
 failure_text (failure.Write path) = said (codes "failed write") path.now
+failure_text (failure.Unopened path) = said (codes "failed open") (string_bytes path)
+failure_text (failure.Unread path) = said (codes "failed read") (string_bytes path)
+failure_text (failure.Oversized path) = said (codes "failed size") (string_bytes path)
 failure_text (failure.Unput path) = said (codes "failed write") (string_bytes path)
 failure_text (failure.Taken path) = said (codes "failed replace") (string_bytes path)
 failure_text failure.Memory = said (codes "failed") (codes "memory")
@@ -140,10 +147,15 @@ status_of (failure.Answers fault) = status.Malformed
 status_of (failure.Sums fault) = sums_status fault.rule
 status_of (failure.Unstamping why) = status.Refused
 status_of (failure.Unmade why) = status.Refused
+status_of (failure.Unrenewable why) = status.Refused
+status_of failure.Mixed = status.Refused
 status_of (failure.Open path) = status.Failed
 status_of (failure.Read path) = status.Failed
 status_of (failure.Size path) = status.Failed
 status_of (failure.Write path) = status.Failed
+status_of (failure.Unopened path) = status.Failed
+status_of (failure.Unread path) = status.Failed
+status_of (failure.Oversized path) = status.Failed
 status_of (failure.Unput path) = status.Failed
 status_of (failure.Taken path) = status.Failed
 status_of failure.Memory = status.Failed
@@ -200,3 +212,8 @@ failure_of_sums fault = failure_by_sums fault.rule fault
 abbrev pub failure_of_making : MakeFault → Failure
 failure_of_making making.TooLong = failure.Unmade making.TooLong
 failure_of_making making.OutOfMemory = failure.Memory
+
+-- the failure of a command for which a record can't be renewed: a record that isn't one is malformed
+abbrev pub failure_of_leaf : LeafFault → Failure
+failure_of_leaf (leaf.Malformed fault) = failure.Malformed fault
+failure_of_leaf leaf.NoStamp = failure.Unrenewable leaf.NoStamp

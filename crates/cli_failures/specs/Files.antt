@@ -50,6 +50,25 @@ IsFoundIn held octets found.Nothing = ⊥
 IsFoundIn held octets found.Same = IfSome held (λ h. octets ≡ h)
 IsFoundIn held octets found.Other = IfSome held (λ h. octets ≢ h)
 
+-- the failure names this path, as it is shown, of a file that can't be opened
+abbrev pub IsUnopened : (path : List ℕ) → Failure → Type 0
+IsUnopened path (failure.Unopened named) = string_bytes named ≡ shown_text path
+IsUnopened path _ = ⊥
+
+-- the failure names this path, as it is shown, of a file that can't be read
+abbrev pub IsUnread : (path : List ℕ) → Failure → Type 0
+IsUnread path (failure.Unread named) = string_bytes named ≡ shown_text path
+IsUnread path _ = ⊥
+
+-- the failure names this path, as it is shown, of a file that is too long to be read whole
+abbrev pub IsOversized : (path : List ℕ) → Failure → Type 0
+IsOversized path (failure.Oversized named) = string_bytes named ≡ shown_text path
+IsOversized path _ = ⊥
+
+-- the failure if the file of this path can't be read whole, which names it as it is shown; or memory ran out
+abbrev pub IsFailureToReadShown : (path : List ℕ) → Failure → Type 0
+IsFailureToReadShown path f = (f ≡ Memory) ⊎ (IsUnopened path f ⊎ (IsUnread path f ⊎ IsOversized path f))
+
 -- the failure names this path, as it is shown, where octets can't be written
 abbrev pub IsUnput : (path : List ℕ) → Failure → Type 0
 IsUnput path (failure.Unput named) = string_bytes named ≡ shown_text path
@@ -59,6 +78,10 @@ IsUnput path _ = ⊥
 abbrev pub IsTaken : (path : List ℕ) → Failure → Type 0
 IsTaken path (failure.Taken named) = string_bytes named ≡ shown_text path
 IsTaken path _ = ⊥
+
+-- the failure if the file of this path can't be replaced, which names it as it is shown; or memory ran out
+abbrev pub IsFailureToReplaceShown : (path : List ℕ) → Failure → Type 0
+IsFailureToReplaceShown path f = (f ≡ Memory) ⊎ IsUnput path f
 
 -- the failure if octets can't be put below a folder, which names the file: it can't be written, or it is there and
 -- holds others; or memory ran out

@@ -11,7 +11,7 @@ use check_questions::QuestionsFault;
 use cms_compare::{CompareFault, CompareRule};
 use cms_types::CmsFault;
 use der_core::{Fault, ReadFault};
-use evidence_making::{MakeFault as MakeRecordFault, StampFault};
+use evidence_making::{LeafFault, MakeFault as MakeRecordFault, StampFault};
 use evidence_sums::{SumsFault, SumsRule};
 use list_answers::{AnswersFault, AnswersRule};
 use std::alloc::{AllocError, AllocFailed};
@@ -95,6 +95,10 @@ pub enum Failure<'a> {
     Unstamping(StampFault),
     /// No evidence record was made.
     Unmade(MakeRecordFault),
+    /// There is nothing on which the renewal of an evidence record stands.
+    Unrenewable(LeafFault),
+    /// U4: the last chains of evidence records are by different algorithms.
+    Mixed,
     /// The file of this path can't be opened.
     Open(&'a str),
     /// The file of this path can't be read.
@@ -103,6 +107,12 @@ pub enum Failure<'a> {
     Size(&'a str),
     /// The file of this path can't be created or written.
     Write(&'a str),
+    /// The file of this path, as it is shown, below a folder, can't be opened.
+    Unopened(String),
+    /// The file of this path, as it is shown, below a folder, can't be read.
+    Unread(String),
+    /// The file of this path, as it is shown, below a folder, is too long to be read whole.
+    Oversized(String),
     /// The file of this path, as it is shown, can't be written below a folder.
     Unput(String),
     /// The file of this path, as it is shown, is there, holds something else than would be written, and is not
@@ -140,10 +150,15 @@ impl fmt::Display for Failure<'_> {
             Failure::Sums(fault) => write!(f, "{fault}\n"),
             Failure::Unstamping(fault) => write!(f, "refused {fault}\n"),
             Failure::Unmade(fault) => write!(f, "refused {fault}\n"),
+            Failure::Unrenewable(fault) => write!(f, "refused {fault}\n"),
+            Failure::Mixed => f.write_str("refused U4 Mixed\n"),
             Failure::Open(path) => write!(f, "failed open {path}\n"),
             Failure::Read(path) => write!(f, "failed read {path}\n"),
             Failure::Size(path) => write!(f, "failed size {path}\n"),
             Failure::Write(path) => write!(f, "failed write {path}\n"),
+            Failure::Unopened(path) => write!(f, "failed open {path}\n"),
+            Failure::Unread(path) => write!(f, "failed read {path}\n"),
+            Failure::Oversized(path) => write!(f, "failed size {path}\n"),
             Failure::Unput(path) => write!(f, "failed write {path}\n"),
             Failure::Taken(path) => write!(f, "failed replace {path}\n"),
             Failure::Memory => f.write_str("failed memory\n"),
@@ -276,6 +291,21 @@ impl From<MakeRecordFault> for Failure<'_> {
     }
 }
 
+impl From<LeafFault> for Failure<'_> {
+    ghost use Rattle.std.specs.Prelude.{◌≡◌};
+    ghost use Rattle.cli_failures.specs.Failures.{failure_of_leaf};
+
+    // Each fault becomes the failure that the definition gives.
+    ghost from_gives = { λ fault f. f ≡ failure_of_leaf fault };
+
+    fn from(fault: LeafFault) -> Self {
+        match fault {
+            LeafFault::Malformed(fault) => Failure::Malformed(fault),
+            LeafFault::NoStamp => Failure::Unrenewable(fault),
+        }
+    }
+}
+
 /// How a command ends that refuses a file of sums by this rule.
 fn sums_status(rule: SumsRule) -> Status
     ensures { result ≡ sums_status rule }
@@ -360,6 +390,7 @@ impl<'a> Failure<'a> {
             Failure::Different | Failure::Collision | Failure::Unattached(_) => Status::Refused,
             Failure::Unstamped(_) => Status::Refused,
             Failure::Unstamping(_) | Failure::Unmade(_) => Status::Refused,
+            Failure::Unrenewable(_) | Failure::Mixed => Status::Refused,
             Failure::Sums(fault) => sums_status(fault.rule),
             Failure::Uncompared(fault) => uncompared_status(*fault),
             Failure::Malformed(_) | Failure::MalformedMessage(_, _) => Status::Malformed,

@@ -2,11 +2,13 @@ ghost use Rattle.std.specs.Prelude.{◌≡◌, ◌≢◌, ◌≤◌, ◌⊎◌, 
 ghost use Rattle.std.specs.IoError.{error_kind};
 ghost use Rattle.std.specs.Io.KnownBytes.{Appends};
 ghost use Rattle.cli_failures.specs.Files.{IsFailureBelow, IsFailureToOpen, IsFailureToRead, IsHeld, IsPut, IsTaken};
-ghost use Rattle.cli_failures.specs.Files.{IsUnput};
+ghost use Rattle.cli_failures.specs.Files.{IsFailureToReadShown, IsFailureToReplaceShown, IsOversized, IsUnopened};
+ghost use Rattle.cli_failures.specs.Files.{IsUnput, IsUnread, path_below};
 
 use crate::failure::Failure;
-use crate::folder::{Found, found_below, path_of, put_below};
-use crate::replacing::{are_same, write};
+pub use crate::folder::path_of;
+use crate::folder::{self, Found, found_below, put_below};
+use crate::replacing::{are_same, can_replace, replace_there, write};
 use devices::FromRead;
 use lines_shown::show_response::shown_text;
 use std::alloc::Global;
@@ -76,20 +78,46 @@ fn octets_in<'p, F: Read + OpenFile + Drop>(
     ensures failure { IfErr result (IsFailureToRead path.entry) }
     ensures whole { IfOk result (λ octets. IfSome (F.remaining file) (λ held. octets.items ≡ held)) }
 {
-    if stated_size(&file) > MOST {
-        return Err(Failure::Size(path));
-    }
-    let mut octets = Vec::new(alloc);
-    match file.take(MOST + 1).read_to_end(&mut octets) {
-        Ok(read) if read as u64 > MOST => Err(Failure::Size(path)),
-        Ok(_) => Ok(octets),
+    match whole_of(alloc, file) {
+        Ok(Some(octets)) => Ok(octets),
+        Ok(None) => Err(Failure::Size(path)),
         Err(error) => Err(device_failure(&error, Failure::Read(path))),
     }
 }
 
-/// How many octets an open file states that it has.
-fn stated_size<F: OpenFile>(file: &F) -> u64 {
-    file.metadata().map_or(0, |about| about.len())
+/// What an open file holds, unless it has more octets than may be read whole.
+fn whole_of<F: Read + OpenFile + Drop>(alloc: Global, file: F) -> io::Result<Option<Vec<u8>>>
+    ensures size { IfOk result (λ read. IfSome read (λ octets. length octets.items ≤ MOST)) }
+    ensures whole { IfOk result (λ read. IfSome read (λ octets.
+        IfSome (F.remaining file) (λ held. octets.items ≡ held))) }
+{
+    let stated = file.metadata().map_or(0, |about| about.len());
+    if stated > MOST {
+        return Ok(None);
+    }
+    let mut octets = Vec::new(alloc);
+    let read = file.take(MOST + 1).read_to_end(&mut octets)?;
+    if read as u64 > MOST {
+        return Ok(None);
+    }
+    Ok(Some(octets))
+}
+
+/// What an open file of this path holds. A failure names the path as it is shown.
+fn shown_octets_in<'p, F: Read + OpenFile + Drop>(
+    alloc: Global,
+    file: F,
+    path: &str,
+) -> Result<Vec<u8>, Failure<'p>>
+    ensures size { IfOk result (λ octets. length octets.items ≤ MOST) }
+    ensures failure { IfErr result (IsFailureToReadShown path.now) }
+    ensures whole { IfOk result (λ octets. IfSome (F.remaining file) (λ held. octets.items ≡ held)) }
+{
+    match whole_of(alloc, file) {
+        Ok(Some(octets)) => Ok(octets),
+        Ok(None) => Err(oversized(alloc, path)),
+        Err(error) => Err(unread(alloc, &error, path)),
+    }
 }
 
 /// Writes these octets as the file of this path. A regular file that is there, or none, is replaced once the octets are
@@ -105,7 +133,10 @@ pub fn write_whole<'p, R: Files + AllocGlobal>(
     ensures whole { OnOk result ((before : R.File) × (after : R.File) × Appends (R.File.contents before)
         (R.File.contents after) octets.now) }
 {
-    write(rt, path, octets).map_err(|error| device_failure(&error, Failure::Write(path)))
+    match write(rt, path, octets) {
+        Ok(()) => Ok(()),
+        Err(error) => Err(device_failure(&error, Failure::Write(path))),
+    }
 }
 
 // The failure that a file of this path can't be written, after such an error. The path is shown as a text with any
@@ -125,6 +156,46 @@ fn taken<'p>(alloc: Global, path: &str) -> Failure<'p>
 {
     match shown_text(alloc, path.as_bytes()) {
         Ok(shown) => Failure::Taken(shown),
+        Err(_) => Failure::Memory,
+    }
+}
+
+// The failure that a file of this path is none that can be replaced.
+fn unreplaced<'p>(alloc: Global, path: &str) -> Failure<'p>
+    ensures { (result ≡ Failure.Memory) ⊎ IsUnput path.now result }
+{
+    match shown_text(alloc, path.as_bytes()) {
+        Ok(shown) => Failure::Unput(shown),
+        Err(_) => Failure::Memory,
+    }
+}
+
+// The failure that a file of this path can't be opened, after such an error.
+fn unopened<'p>(alloc: Global, error: &io::Error, path: &str) -> Failure<'p>
+    ensures { (result ≡ Failure.Memory) ⊎ IsUnopened path.now result }
+{
+    match shown_text(alloc, path.as_bytes()) {
+        Ok(shown) => device_failure(error, Failure::Unopened(shown)),
+        Err(_) => Failure::Memory,
+    }
+}
+
+// The failure that a file of this path can't be read, after such an error.
+fn unread<'p>(alloc: Global, error: &io::Error, path: &str) -> Failure<'p>
+    ensures { (result ≡ Failure.Memory) ⊎ IsUnread path.now result }
+{
+    match shown_text(alloc, path.as_bytes()) {
+        Ok(shown) => device_failure(error, Failure::Unread(shown)),
+        Err(_) => Failure::Memory,
+    }
+}
+
+// The failure that a file of this path is too long to be read whole.
+fn oversized<'p>(alloc: Global, path: &str) -> Failure<'p>
+    ensures { (result ≡ Failure.Memory) ⊎ IsOversized path.now result }
+{
+    match shown_text(alloc, path.as_bytes()) {
+        Ok(shown) => Failure::Oversized(shown),
         Err(_) => Failure::Memory,
     }
 }
@@ -175,6 +246,65 @@ pub fn write_below<'p, R: Files + AllocGlobal>(
     }
 }
 
+/// The octets of the file `FOLDER/NAME.ers`. The folder must be there; on the way from it there must be folders, and no
+/// link; at the path of the file there must be a regular file. One that has more octets than may be read whole fails.
+pub fn read_below<'p, R: Files + AllocGlobal>(
+    rt: &R,
+    folder: &str,
+    name: &str,
+) -> Result<Vec<u8>, Failure<'p>>
+    // Returns at most as many octets as may be read whole.
+    ensures size { IfOk result (λ octets. length octets.items ≤ MOST) }
+    // A failure is a lack of memory, or names the file.
+    ensures failure { IfErr result (IsFailureToReadShown (path_below folder.now name.now)) }
+    // They are all the octets of a file that was opened, if it is known what such a file holds.
+    ensures whole { IfOk result (λ octets. IsHeld R.File.remaining octets.items) }
+{
+    let path = path_of(rt.alloc(), folder, name)?;
+    match folder::open_below(rt, folder, name, path.as_str()) {
+        Ok(file) => shown_octets_in(rt.alloc(), file, path.as_str()),
+        Err(error) => Err(unopened(rt.alloc(), &error, path.as_str())),
+    }
+}
+
+/// Tests whether the file `FOLDER/NAME.ers` can be replaced, as `replace_below` replaces it.
+pub fn test_replace_below<'p, R: Files + AllocGlobal>(
+    rt: &R,
+    folder: &str,
+    name: &str,
+) -> Result<(), Failure<'p>>
+    // A failure is a lack of memory, or names the file.
+    ensures { IfErr result (IsFailureToReplaceShown (path_below folder.now name.now)) }
+{
+    let path = path_of(rt.alloc(), folder, name)?;
+    match folder::can_replace_below(rt, folder, name, path.as_str()) {
+        Ok(true) => Ok(()),
+        Ok(false) => Err(unreplaced(rt.alloc(), path.as_str())),
+        Err(error) => Err(unput(rt.alloc(), &error, path.as_str())),
+    }
+}
+
+/// Replaces the file `FOLDER/NAME.ers`, a regular file that is there, once the octets are written whole beside it. It
+/// keeps its permissions, and holds what it held or these octets, at any moment. No link below the folder is followed.
+pub fn replace_below<'p, R: Files + AllocGlobal>(
+    rt: &R,
+    folder: &str,
+    name: &str,
+    octets: &[u8],
+) -> Result<(), Failure<'p>>
+    // A failure is a lack of memory, or names the file.
+    ensures failure { IfErr result (IsFailureToReplaceShown (path_below folder.now name.now)) }
+    // They come after what a file that was opened held, if it is known what such a file holds.
+    ensures whole { OnOk result ((before : R.File) × (after : R.File) × Appends (R.File.contents before)
+        (R.File.contents after) octets.now) }
+{
+    let path = path_of(rt.alloc(), folder, name)?;
+    match folder::replace_below(rt, folder, name, path.as_str(), octets) {
+        Ok(()) => Ok(()),
+        Err(error) => Err(unput(rt.alloc(), &error, path.as_str())),
+    }
+}
+
 /// Refuses the path of a file that is to be written, the value of the option of this name, if it names a file that is
 /// to be read: by the same text, or as one regular file, links followed.
 pub fn apart<'p, R: Files + AllocGlobal>(
@@ -207,5 +337,64 @@ fn device_failure<'p>(error: &io::Error, otherwise: Failure<'p>) -> Failure<'p>
         Failure::Memory
     } else {
         otherwise
+    }
+}
+
+/// The octets of a file, as `read_whole` reads them. A failure names the path as texts with any octets are shown: where
+/// many files are named at once, their names are mostly from elsewhere.
+pub fn read_shown<'p, R: Files + AllocGlobal>(rt: &R, path: &str) -> Result<Vec<u8>, Failure<'p>>
+    // Returns at most as many octets as may be read whole.
+    ensures size { IfOk result (λ octets. length octets.items ≤ MOST) }
+    // A failure is a lack of memory, or names this path.
+    ensures failure { IfErr result (IsFailureToReadShown path.now) }
+    // They are all the octets of a file that was opened, if it is known what such a file holds.
+    ensures whole { IfOk result (λ octets. IsHeld R.File.remaining octets.items) }
+{
+    match fs::open(rt, opened_path(path)) {
+        Ok(file) => shown_octets_in(rt.alloc(), file, path),
+        Err(error) => Err(unopened(rt.alloc(), &error, path)),
+    }
+}
+
+/// The failure of a file of this path that does not hold any more what it held: it can't be read.
+pub fn changed<'p>(alloc: Global, path: &str) -> Failure<'p>
+    // It names this path as it is shown, or memory ran out.
+    ensures { (result ≡ Failure.Memory) ⊎ IsUnread path.now result }
+{
+    match shown_text(alloc, path.as_bytes()) {
+        Ok(shown) => Failure::Unread(shown),
+        Err(_) => Failure::Memory,
+    }
+}
+
+/// Tests whether the regular file of this path can be replaced, as `replace_whole` replaces it.
+pub fn test_whole<'p, R: Files + AllocGlobal>(rt: &R, path: &str) -> Result<(), Failure<'p>>
+    // A failure is a lack of memory, or names this path.
+    ensures { IfErr result (IsFailureToReplaceShown path.now) }
+{
+    match can_replace(rt, path) {
+        Ok(true) => Ok(()),
+        Ok(false) => Err(unreplaced(rt.alloc(), path)),
+        Err(error) => Err(unput(rt.alloc(), &error, path)),
+    }
+}
+
+/// Replaces the regular file of this path, once the octets are written whole beside it. It keeps its permissions. A
+/// link, a device, a pipe, or the path of no file is refused, so that a file holds what it held or these octets, at any
+/// moment.
+pub fn replace_whole<'p, R: Files + AllocGlobal>(
+    rt: &R,
+    path: &str,
+    octets: &[u8],
+) -> Result<(), Failure<'p>>
+    // A failure is a lack of memory, or names this path.
+    ensures failure { IfErr result (IsFailureToReplaceShown path.now) }
+    // They come after what a file that was opened held, if it is known what such a file holds.
+    ensures whole { OnOk result ((before : R.File) × (after : R.File) × Appends (R.File.contents before)
+        (R.File.contents after) octets.now) }
+{
+    match replace_there(rt, path, octets) {
+        Ok(()) => Ok(()),
+        Err(error) => Err(unput(rt.alloc(), &error, path)),
     }
 }

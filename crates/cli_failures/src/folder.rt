@@ -1,11 +1,12 @@
-//! Files that are put below a folder, by names from elsewhere. None may lead out of the folder, so no link below it is
-//! followed. The folder itself may be one, since the user named it. What is there is never replaced.
+//! Files that are put, read and replaced below a folder, by names from elsewhere. None may lead out of the folder, so
+//! no link below it is followed. The folder itself may be one, since the user named it. What is there is replaced only
+//! by `replace_below`.
 ghost use Rattle.std.specs.Prelude.{◌≡◌, ◌++◌, IfOk, OnOk};
 ghost use Rattle.std.specs.Io.KnownBytes.{Appends};
 ghost use Rattle.std.specs.String.{string_bytes};
 ghost use Rattle.cli_failures.specs.Files.{IsFound, IsFoundIn, path_below};
 
-use crate::replacing::put_new;
+use crate::replacing::{can_replace, put_new, replace_there};
 use std::alloc::{AllocError, Global};
 use std::fs;
 use std::io::{self, ErrorKind, Read};
@@ -58,6 +59,23 @@ pub fn found_below<R: Files + AllocGlobal>(
 ) -> io::Result<Found>
     ensures { IfOk result (IsFound R.File.remaining octets.now) }
 {
+    match standing_below(rt, folder, name, path)? {
+        Standing::Nothing => Ok(Found::Nothing),
+        Standing::File => found_in(rt.alloc(), fs::open(rt, path)?, octets),
+        Standing::Folder | Standing::Other => Err(io::Error::from(ErrorKind::AlreadyExists)),
+    }
+}
+
+/// What stands at the path of the file of this name below a folder. The folder must be there; on the way from it there
+/// must be folders or nothing, and no link.
+///
+/// Errors: that isn't so, or the system doesn't say what is there; no memory.
+fn standing_below<R: Files + AllocGlobal>(
+    rt: &R,
+    folder: &str,
+    name: &str,
+    path: &str,
+) -> io::Result<Standing> {
     if !stays_below(name) || !fs::metadata(rt, folder)?.is_dir() {
         return Err(io::Error::from(ErrorKind::NotADirectory));
     }
@@ -66,10 +84,55 @@ pub fn found_below<R: Files + AllocGlobal>(
     {
         return Err(io::Error::from(ErrorKind::NotADirectory));
     }
-    match standing_at(rt, path)? {
-        Standing::Nothing => Ok(Found::Nothing),
-        Standing::File => found_in(rt.alloc(), fs::open(rt, path)?, octets),
-        Standing::Folder | Standing::Other => Err(io::Error::from(ErrorKind::AlreadyExists)),
+    standing_at(rt, path)
+}
+
+/// The open file of this name below a folder, where a regular file must stand.
+///
+/// Errors: another thing stands there, or nothing; it can't be opened; those of `standing_below`.
+pub fn open_below<R: Files + AllocGlobal>(
+    rt: &R,
+    folder: &str,
+    name: &str,
+    path: &str,
+) -> io::Result<R::File> {
+    match standing_below(rt, folder, name, path)? {
+        Standing::File => fs::open(rt, path),
+        _ => Err(io::Error::from(ErrorKind::NotFound)),
+    }
+}
+
+/// Whether a regular file of this name is below a folder, and may be replaced.
+///
+/// Errors: it may not be written; those of `standing_below`.
+pub fn can_replace_below<R: Files + AllocGlobal>(
+    rt: &R,
+    folder: &str,
+    name: &str,
+    path: &str,
+) -> io::Result<bool> {
+    match standing_below(rt, folder, name, path)? {
+        Standing::File => can_replace(rt, path),
+        _ => Ok(false),
+    }
+}
+
+/// Replaces the regular file of this name below a folder: beside it and then in its place.
+///
+/// Errors: no regular file is there, or it can't be replaced; it is then as it was. Those of `standing_below`.
+pub fn replace_below<R: Files + AllocGlobal>(
+    rt: &R,
+    folder: &str,
+    name: &str,
+    path: &str,
+    octets: &[u8],
+) -> io::Result<()>
+    ensures { OnOk result ((before : R.File) × (after : R.File) × Appends (R.File.contents before)
+        (R.File.contents after) octets.now) }
+{
+    match standing_below(rt, folder, name, path)? {
+        Standing::File => replace_there(rt, path, octets),
+        _ => Err(io::Error::from(ErrorKind::NotFound)),
     }
 }
 

@@ -225,3 +225,35 @@ fn real<R: Files + AllocGlobal>(rt: &R, path: &str) -> io::Result<Option<String>
         Err(_) => Ok(None),
     }
 }
+
+/// Whether a regular file is at a path, and no link, that may be replaced.
+///
+/// Errors: it may not be written; nothing is there, or the system doesn't say what; no memory.
+pub fn can_replace<R: Files + AllocGlobal>(rt: &R, path: &str) -> io::Result<bool> {
+    Ok(permissions_at(rt, path)?.is_some())
+}
+
+/// Replaces the regular file at a path: beside it and then in its place.
+///
+/// Errors: a link or another thing is there, or nothing; it can't be replaced. It is then as it was. No memory.
+pub fn replace_there<R: Files + AllocGlobal>(rt: &R, path: &str, octets: &[u8]) -> io::Result<()>
+    ensures { OnOk result ((before : R.File) × (after : R.File) × Appends (R.File.contents before)
+        (R.File.contents after) octets.now) }
+{
+    match permissions_at(rt, path)? {
+        Some(permissions) => replace(rt, path, Some(permissions), octets),
+        None => Err(io::Error::from(ErrorKind::InvalidInput)),
+    }
+}
+
+/// The permissions that a file gets which replaces the regular file at a path, or `None` if a link, a device or another
+/// thing is there.
+fn permissions_at<R: Files>(rt: &R, path: &str) -> io::Result<Option<Permissions>> {
+    let about = fs::symlink_metadata(rt, path)?;
+    if is_descriptor(path) || !about.is_file() {
+        return Ok(None);
+    }
+    // Who may not write a file may not replace it either.
+    let _writable = OpenOptions::new().write(true).open(rt, path)?;
+    Ok(Some(access(&about.permissions())))
+}

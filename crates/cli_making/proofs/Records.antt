@@ -6,7 +6,7 @@ use Rattle.digests.specs.declared.algorithm.Alg.{Alg}
 use Rattle.digests.specs.declared.value.Digest.{Digest}
 use Rattle.digests.specs.Digests.{octets_of}
 use Rattle.evidence_types.specs.EvidenceValue.{EncodesEvidence, evidence_parts}
-use Rattle.evidence_trees.specs.HashTrees.{HashTree, AreListsOf}
+use Rattle.evidence_trees.specs.HashTrees.{HashTree, IsWayFrom, AreListsOf}
 use Rattle.evidence_making.specs.Laws.{ShowsLeaf}
 use Rattle.evidence_making.specs.Made.{made}
 use Rattle.evidence_making.specs.declared.fault.MakeFault.{MakeFault}
@@ -25,17 +25,23 @@ shows_data tree token digest values octets lists shows g data_object m is stands
     shows g tree data_object m refl (subst (λ (leaf : List ℕ). AreListsOf tree leaf values) (sym is) lists) stands
 
 record_is : (tree : HashTree) (token : List ℕ) (digest : Digest) (values : List (List ℕ)) (octets : List ℕ)
-    → AreListsOf tree (octets_of digest) values → EncodesEvidence octets (made tree.algorithm values token)
+    → IsWayFrom tree (octets_of digest) values → AreListsOf tree (octets_of digest) values
+    → EncodesEvidence octets (made tree.algorithm values token)
     → ShowsLeaf tree.algorithm values token octets → IsRecordOf tree token digest octets
-record_is tree token digest values octets lists encoded shows = record {
+record_is tree token digest values octets way lists encoded shows = record {
   values = values;
+  way = way;
   lists = lists;
   encoded = encoded;
   shows = shows_data tree token digest values octets lists shows;
 }
 
 module _ (tree : HashTree) (token : List ℕ) (digest leaf : Digest) (alg : Alg) (values : List (List ℕ))
-    (same : leaf ≡ digest) (by : alg ≡ tree.algorithm) (lists : AreListsOf tree (octets_of leaf) values) where
+    (same : leaf ≡ digest) (by : alg ≡ tree.algorithm) (way : IsWayFrom tree (octets_of leaf) values)
+    (lists : AreListsOf tree (octets_of leaf) values) where
+  way_of_digest : IsWayFrom tree (octets_of digest) values
+  way_of_digest = subst (λ (d : Digest). IsWayFrom tree (octets_of d) values) same way
+
   of_digest : AreListsOf tree (octets_of digest) values
   of_digest = subst (λ (d : Digest). AreListsOf tree (octets_of d) values) same lists
 
@@ -44,13 +50,14 @@ module _ (tree : HashTree) (token : List ℕ) (digest leaf : Digest) (alg : Alg)
       → IfOk r (λ o. EncodesEvidence (items o) (made alg values token))
       → IfOk r (λ o. ShowsLeaf alg values token (items o)) → IfOk r (λ o. IsRecordOf tree token digest (items o))
   record_made items (Err e) encoded shows = tt
-  record_made items (Ok o) encoded shows = record_is tree token digest values (items o) of_digest
+  record_made items (Ok o) encoded shows = record_is tree token digest values (items o) way_of_digest of_digest
       (subst (λ (a : Alg). EncodesEvidence (items o) (made a values token)) by encoded)
       (subst (λ (a : Alg). ShowsLeaf a values token (items o)) by shows)
 
   pub record_too_long : 2 ^ 32 ≤ length (evidence_parts (made alg values token)) → IsTooLong tree token digest
   record_too_long size = record {
     values = values;
+    way = way_of_digest;
     lists = of_digest;
     size = subst (λ (a : Alg). 2 ^ 32 ≤ length (evidence_parts (made a values token))) by size;
   }

@@ -11,7 +11,7 @@ use Rattle.digests.specs.Messages.{digest_of}
 use Rattle.evidence_types.specs.EvidenceValue.{EncodesEvidence}
 use Rattle.check_evidence.specs.Grounds.{Grounds}
 use Rattle.check_evidence.specs.Showing.{Shows}
-use Rattle.evidence_trees.specs.HashTrees.{HashTree, AreListsOf}
+use Rattle.evidence_trees.specs.HashTrees.{HashTree, IsWayFrom, AreListsOf}
 use Rattle.evidence_making.specs.Made.{made}
 use Rattle.evidence_making.specs.Laws.{TokenStands}
 use Rattle.evidence_making.specs.Stamping.{StampsRoot}
@@ -30,9 +30,11 @@ ShowsData tree token digest octets = (g : Grounds) (data_object : List ℕ) (m :
     → digest_of tree.algorithm data_object ≡ octets_of digest → TokenStands g tree.algorithm tree.root token m
     → Shows g octets (data_object ∷ []) m
 
--- these octets encode the record of a leaf of the tree: with lists of the leaf, each of one value, and with the token
+-- these octets encode the record of a leaf of the tree: with the leaf and the neighbours on its way up, each in a list
+-- of its own, and with the token
 pub record IsRecordOf (tree : HashTree) (token : List ℕ) (digest : Digest) (octets : List ℕ) : Type 0 where
   pub values : List (List ℕ)
+  pub way : IsWayFrom tree (octets_of digest) values
   pub lists : AreListsOf tree (octets_of digest) values
   pub encoded : EncodesEvidence octets (made tree.algorithm values token)
   pub shows : ShowsData tree token digest octets

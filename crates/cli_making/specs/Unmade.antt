@@ -7,7 +7,7 @@ use Rattle.digests.specs.declared.value.Digest.{Digest}
 use Rattle.digests.specs.Algorithms.{name_of}
 use Rattle.digests.specs.Digests.{octets_of}
 use Rattle.evidence_types.specs.EvidenceValue.{evidence_parts}
-use Rattle.evidence_trees.specs.HashTrees.{HashTree, AreListsOf}
+use Rattle.evidence_trees.specs.HashTrees.{HashTree, IsWayFrom, AreListsOf}
 use Rattle.evidence_making.specs.Made.{made}
 use Rattle.evidence_making.specs.Stamping.{IsNoToken, StampsAnother, StampsRoot}
 use Rattle.evidence_making.specs.declared.fault.MakeFault.TheVariants as make
@@ -30,6 +30,7 @@ StampsNot token root f = ((f ≡ failure.Unstamping stamp.TokenMalformed) × IsN
 -- the record of a leaf of the tree would be longer than an element can be
 pub record IsTooLong (tree : HashTree) (token : List ℕ) (digest : Digest) : Type 0 where
   pub values : List (List ℕ)
+  pub way : IsWayFrom tree (octets_of digest) values
   pub lists : AreListsOf tree (octets_of digest) values
   pub size : 2 ^ 32 ≤ length (evidence_parts (made tree.algorithm values token))
 

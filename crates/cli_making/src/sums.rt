@@ -28,8 +28,11 @@ fn stated_in<'a, 't>(alloc: Global, alg: Alg, text: &'t [u8]) -> Result<Sums<'t>
 ///
 /// Errors: U1, U2, U5 and U6; memory is refused.
 pub fn sums_in<'a, 't>(alloc: Global, alg: Alg, text: &'t [u8]) -> Result<Sums<'t>, Failure<'a>>
+    // The text states them.
     ensures found { IfOk result (λ sums. sums_of alg text.now ≡ Ok sums) }
+    // Their names are text.
     ensures named { IfOk result AreNamed }
+    // Why they are refused.
     ensures refused { IfErr result (RefusesSums alg text.now) }
 {
     let sums = stated_in(alloc, alg, text)?;

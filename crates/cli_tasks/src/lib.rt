@@ -6,6 +6,7 @@ mod task;
 pub use task::{
     About, AttachWords, CheckEach, CheckWords, CompareWords, Each, EvidenceQuestionsWords,
     EvidenceTask, EvidenceWords, FitEach, FitWords, ListWords, MakeWords, Many, MatchWords,
-    MigrateWords, QuestionsEach, QuestionsWords, RequestWords, RootRequestWords, Several,
-    StampQuestionsWords, StampWords, Stamped, Task, TextTask,
+    MigrateWords, QuestionsEach, QuestionsWords, RehashRequestWords, RehashWords, RenewWords,
+    RenewalRequestWords, RequestWords, RootRequestWords, Several, StampQuestionsWords, StampWords,
+    Stamped, Task, TextTask,
 };

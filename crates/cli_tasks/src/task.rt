@@ -188,6 +188,14 @@ pub enum EvidenceTask<'a> {
     Request(RootRequestWords<'a>),
     /// To make a record of each of these files, by the stamp of the root.
     Make(MakeWords<'a>),
+    /// To make the request for a stamp of the root of the tree over the last time-stamps of records.
+    RequestRenewal(RenewalRequestWords<'a>),
+    /// To renew these records in their places, by that stamp.
+    Renew(RenewWords<'a>),
+    /// To make the request for a stamp of the root of the tree over data and their records.
+    RequestRehash(RehashRequestWords<'a>),
+    /// To give each of these records a new chain in its place, by that stamp.
+    Rehash(RehashWords<'a>),
 }
 
 /// The evidence record that is checked, the data that it should be for, the lists that it is checked with, and how long
@@ -249,6 +257,52 @@ pub struct MakeWords<'a> {
     pub into: &'a str,
     /// The path of the file that holds the digests.
     pub sums: &'a str,
+}
+
+/// Evidence records, and the file for the request for a stamp of the root of the tree over their last time-stamps.
+#[derive(Debug, Drop)]
+pub struct RenewalRequestWords<'a> {
+    /// The paths of the files that hold the records.
+    pub records: Vec<&'a str>,
+    /// The path of the file that the request goes into.
+    pub out: &'a str,
+}
+
+/// Evidence records that are renewed in their places, and the stamp of the root of the tree over their last
+/// time-stamps.
+#[derive(Debug, Drop)]
+pub struct RenewWords<'a> {
+    /// The paths of the files that hold the records.
+    pub records: Vec<&'a str>,
+    /// The path of the file that holds the token of the stamp.
+    pub token: &'a str,
+}
+
+/// The digests of the data of evidence records by an algorithm, as `sha256sum` and its kin write them, the folder with
+/// the records, and the file for the request for a stamp of the root of the tree over the data and their records.
+#[derive(Clone, Copy, Debug, PartialEq, Eq)]
+pub struct RehashRequestWords<'a> {
+    /// The algorithm of the digests, by its name.
+    pub alg: &'a str,
+    /// The path of the file that holds the digests.
+    pub sums: &'a str,
+    /// The path of the folder with the records.
+    pub into: &'a str,
+    /// The path of the file that the request goes into.
+    pub out: &'a str,
+}
+
+/// The same, and the stamp of that root.
+#[derive(Clone, Copy, Debug, PartialEq, Eq)]
+pub struct RehashWords<'a> {
+    /// The algorithm of the digests, by its name.
+    pub alg: &'a str,
+    /// The path of the file that holds the digests.
+    pub sums: &'a str,
+    /// The path of the folder with the records.
+    pub into: &'a str,
+    /// The path of the file that holds the token of the stamp.
+    pub token: &'a str,
 }
 
 /// What a command asks of each of several files.

@@ -54,6 +54,10 @@ evidence_paths (evidence.Check words) = words.trust.now ∷ words.answers.now �
 evidence_paths (evidence.Questions words) = words.trust.now ∷ words.record.now ∷ []
 evidence_paths (evidence.Request words) = words.sums.now ∷ []
 evidence_paths (evidence.Make words) = words.token.now ∷ words.sums.now ∷ []
+evidence_paths (evidence.RequestRenewal words) = map (λ s. s.now) words.records.items
+evidence_paths (evidence.Renew words) = words.token.now ∷ map (λ s. s.now) words.records.items
+evidence_paths (evidence.RequestRehash words) = words.sums.now ∷ []
+evidence_paths (evidence.Rehash words) = words.token.now ∷ words.sums.now ∷ []
 
 -- the content that is read for each of several files, if one is handed in
 abbrev pub content_of : Each → Option (Bor (List ℕ))

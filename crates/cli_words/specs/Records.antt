@@ -1,5 +1,5 @@
 -- The values that the parser of the command line found for a command about evidence records.
-use Rattle.std.specs.Prelude.{◌≡◌, ◌≢◌, ℕ, List, [], Some, map, option_map, unwrap_or, codes}
+use Rattle.std.specs.Prelude.{◌≡◌, ◌≢◌, ℕ, List, [], None, Some, map, option_map, unwrap_or, codes}
 use Rattle.clap.specs.Matches.{first_value, matched_of, raw_values}
 use Rattle.clap.specs.declared.parser.matches.Found.{Found}
 use Rattle.cli_tasks.specs.declared.task.EvidenceQuestionsWords.{EvidenceQuestionsWords}
@@ -7,6 +7,10 @@ use Rattle.cli_tasks.specs.declared.task.EvidenceTask.{EvidenceTask}
 use Rattle.cli_tasks.specs.declared.task.EvidenceTask.TheVariants as task
 use Rattle.cli_tasks.specs.declared.task.EvidenceWords.{EvidenceWords}
 use Rattle.cli_tasks.specs.declared.task.MakeWords.{MakeWords}
+use Rattle.cli_tasks.specs.declared.task.RehashRequestWords.{RehashRequestWords}
+use Rattle.cli_tasks.specs.declared.task.RehashWords.{RehashWords}
+use Rattle.cli_tasks.specs.declared.task.RenewWords.{RenewWords}
+use Rattle.cli_tasks.specs.declared.task.RenewalRequestWords.{RenewalRequestWords}
 use Rattle.cli_tasks.specs.declared.task.RootRequestWords.{RootRequestWords}
 use Rattle.cli_words.specs.Words.{IsFlagIn}
 
@@ -46,12 +50,46 @@ pub record IsMakeIn (given : Found) (words : MakeWords) : Type 0 where
   pub into : first_value given (codes "into") ≡ Some words.into.now
   pub sums : first_value given (codes "SUMS") ≡ Some words.sums.now
 
+-- the same for a request for a stamp by which records are renewed: there is some record, and no token
+pub record IsRenewalRequestIn (given : Found) (words : RenewalRequestWords) : Type 0 where
+  pub paths : map (λ s. s.now) words.records.items ≡ all_values given (codes "RECORD")
+  pub some : words.records.items ≢ []
+  pub out : first_value given (codes "request") ≡ Some words.out.now
+  pub no_token : first_value given (codes "token") ≡ None
+
+-- the same for records that are renewed by such a stamp: there is some record, and no request
+pub record IsRenewIn (given : Found) (words : RenewWords) : Type 0 where
+  pub paths : map (λ s. s.now) words.records.items ≡ all_values given (codes "RECORD")
+  pub some : words.records.items ≢ []
+  pub token : first_value given (codes "token") ≡ Some words.token.now
+  pub no_request : first_value given (codes "request") ≡ None
+
+-- the same for a request for a stamp by which records get a new chain: there is no token
+pub record IsRehashRequestIn (given : Found) (words : RehashRequestWords) : Type 0 where
+  pub alg : first_value given (codes "alg") ≡ Some words.alg.now
+  pub sums : first_value given (codes "SUMS") ≡ Some words.sums.now
+  pub into : first_value given (codes "into") ≡ Some words.into.now
+  pub out : first_value given (codes "request") ≡ Some words.out.now
+  pub no_token : first_value given (codes "token") ≡ None
+
+-- the same for records that get a new chain by such a stamp: there is no request
+pub record IsRehashIn (given : Found) (words : RehashWords) : Type 0 where
+  pub alg : first_value given (codes "alg") ≡ Some words.alg.now
+  pub sums : first_value given (codes "SUMS") ≡ Some words.sums.now
+  pub into : first_value given (codes "into") ≡ Some words.into.now
+  pub token : first_value given (codes "token") ≡ Some words.token.now
+  pub no_request : first_value given (codes "request") ≡ None
+
 -- the same for every task about records
 abbrev pub IsEvidenceTaskIn : Found → EvidenceTask → Type 0
 IsEvidenceTaskIn given (task.Check words) = IsEvidenceIn given words
 IsEvidenceTaskIn given (task.Questions words) = IsEvidenceQuestionsIn given words
 IsEvidenceTaskIn given (task.Request words) = IsRootRequestIn given words
 IsEvidenceTaskIn given (task.Make words) = IsMakeIn given words
+IsEvidenceTaskIn given (task.RequestRenewal words) = IsRenewalRequestIn given words
+IsEvidenceTaskIn given (task.Renew words) = IsRenewIn given words
+IsEvidenceTaskIn given (task.RequestRehash words) = IsRehashRequestIn given words
+IsEvidenceTaskIn given (task.Rehash words) = IsRehashIn given words
 
 -- the command that asks for such a task, behind `evidence`
 abbrev pub evidence_command_of : EvidenceTask → List ℕ
@@ -59,3 +97,7 @@ evidence_command_of (task.Check words) = codes "check"
 evidence_command_of (task.Questions words) = codes "questions"
 evidence_command_of (task.Request words) = codes "request"
 evidence_command_of (task.Make words) = codes "make"
+evidence_command_of (task.RequestRenewal words) = codes "renew"
+evidence_command_of (task.Renew words) = codes "renew"
+evidence_command_of (task.RequestRehash words) = codes "rehash"
+evidence_command_of (task.Rehash words) = codes "rehash"

@@ -9,16 +9,12 @@ pub fn with_words<'a>(
     words: &'static [Word],
 ) -> Result<Command<'a>, AllocError> {
     for word in words {
-        command = command.arg(taking(named(alloc, word), word)?)?;
+        let arg = Arg::new(alloc, word.name)
+            .required(word.required)
+            .help(word.help);
+        command = command.arg(taking(arg, word)?)?;
     }
     Ok(command)
-}
-
-/// A word by its name, with its help.
-fn named<'a>(alloc: Global, word: &'static Word) -> Arg<'a> {
-    Arg::new(alloc, word.name)
-        .required(word.required)
-        .help(word.help)
 }
 
 /// The word, taking what it takes. (Its room on the stack is given back before the command takes it.)
@@ -56,6 +52,9 @@ fn taking_one<'a>(arg: Arg<'a>, word: &'static Word) -> Arg<'a> {
         Takes::Algorithm => valued(arg.long(word.name), "NAME")
             .default_value("sha256")
             .value_parser(ALGORITHMS.as_slice()),
+        Takes::NamedAlgorithm => {
+            valued(arg.long(word.name), "NAME").value_parser(ALGORITHMS.as_slice())
+        }
         Takes::Nothing | Takes::NothingOf(_, _) => {
             arg.long(word.name).action(ArgAction::SetTrue)
         }

@@ -2,13 +2,15 @@ use crate::arguments::with_words;
 use crate::grammar::{ABOUT_EVIDENCE, ABOUT_STAMPS};
 use crate::help::{
     ATTACH_LINES, CERTIFICATE_LINES, CHECK_LINES, COMPARE_LINES, EVIDENCE_CHECK_LINES,
-    EVIDENCE_LINES, EVIDENCE_MAKE_LINES, EVIDENCE_QUESTIONS_LINES, EVIDENCE_REQUEST_LINES,
-    FIT_LINES, MATCH_LINES, MIGRATE_LINES, QUESTIONS_LINES, REQUEST_LINES, SHOW_LINES,
-    STAMP_CHECK_LINES, STAMP_LINES, STAMP_QUESTIONS_LINES,
+    EVIDENCE_LINES, EVIDENCE_MAKE_LINES, EVIDENCE_QUESTIONS_LINES, EVIDENCE_REHASH_LINES,
+    EVIDENCE_RENEW_LINES, EVIDENCE_REQUEST_LINES, FIT_LINES, MATCH_LINES, MIGRATE_LINES,
+    QUESTIONS_LINES, REQUEST_LINES, SHOW_LINES, STAMP_CHECK_LINES, STAMP_LINES,
+    STAMP_QUESTIONS_LINES,
 };
 use crate::vocabulary::{
     ATTACH, CERTIFICATE, CHECK, COMPARE, EVIDENCE_CHECK, EVIDENCE_MAKE, EVIDENCE_QUESTIONS,
-    EVIDENCE_REQUEST, FIT, MATCH, MIGRATE, QUESTIONS, REQUEST, SHOW, STAMP_CHECK, STAMP_QUESTIONS,
+    EVIDENCE_REHASH, EVIDENCE_RENEW, EVIDENCE_REQUEST, FIT, MATCH, MIGRATE, QUESTIONS, REQUEST,
+    SHOW, STAMP_CHECK, STAMP_QUESTIONS,
 };
 use clap::Command;
 use std::alloc::{AllocError, Global};
@@ -35,6 +37,8 @@ pub enum Named {
     EvidenceQuestions,
     EvidenceRequest,
     EvidenceMake,
+    EvidenceRenew,
+    EvidenceRehash,
 }
 
 impl Named {
@@ -54,6 +58,8 @@ impl Named {
             Named::Stamp => "stamp",
             Named::Evidence => "evidence",
             Named::EvidenceMake => "make",
+            Named::EvidenceRenew => "renew",
+            Named::EvidenceRehash => "rehash",
         }
     }
 }
@@ -78,11 +84,13 @@ pub static ALL: [Named; 12] = [
 pub static STAMPS: [Named; 2] = [Named::StampCheck, Named::StampQuestions];
 
 /// Those about evidence records.
-pub static EVIDENCE: [Named; 4] = [
+pub static EVIDENCE: [Named; 6] = [
     Named::EvidenceCheck,
     Named::EvidenceQuestions,
     Named::EvidenceRequest,
     Named::EvidenceMake,
+    Named::EvidenceRenew,
+    Named::EvidenceRehash,
 ];
 
 /// The words of one command. Each command is a function of its own, since a proof of all in one takes minutes.
@@ -106,6 +114,8 @@ pub fn command<'a>(alloc: Global, named: &Named) -> Result<Command<'a>, AllocErr
         Named::EvidenceQuestions => evidence_questions(alloc),
         Named::EvidenceRequest => evidence_request(alloc),
         Named::EvidenceMake => evidence_make(alloc),
+        Named::EvidenceRenew => evidence_renew(alloc),
+        Named::EvidenceRehash => evidence_rehash(alloc),
     }
 }
 
@@ -265,4 +275,24 @@ fn evidence_make<'a>(alloc: Global) -> Result<Command<'a>, AllocError> {
         )
         .after_help(EVIDENCE_MAKE_LINES);
     with_words(alloc, command, EVIDENCE_MAKE.as_slice())
+}
+
+fn evidence_renew<'a>(alloc: Global) -> Result<Command<'a>, AllocError> {
+    let command = Command::new(alloc, "renew")
+        .about(
+            "Makes a request for one time-stamp by which the evidence records in the RECORDs are renewed, or renews \
+                each of them by its token (RFC 4998 5.2).",
+        )
+        .after_help(EVIDENCE_RENEW_LINES);
+    with_words(alloc, command, EVIDENCE_RENEW.as_slice())
+}
+
+fn evidence_rehash<'a>(alloc: Global) -> Result<Command<'a>, AllocError> {
+    let command = Command::new(alloc, "rehash")
+        .about(
+            "Makes a request for one time-stamp by which the evidence records of the files in SUMS get a new chain, \
+                under another digest algorithm, or gives it to each of them by its token (RFC 4998 5.2).",
+        )
+        .after_help(EVIDENCE_REHASH_LINES);
+    with_words(alloc, command, EVIDENCE_REHASH.as_slice())
 }

@@ -17,8 +17,8 @@ const ABOUT: &str =
      certificates, CMS SignedData and evidence records (RFC 4998); says whether a content and its signed\n\
      attributes belong together, whether a response answers a request, by when the signatures of a file\n\
      existed, and whether two signatures sign the same; prints what a verifier must be asked about a\n\
-     file; judges a time-stamp, or an evidence record, that stands beside files; makes evidence\n\
-     records; attaches time-stamp tokens; and brings trust lists to their newest version.";
+     file; judges a time-stamp, or an evidence record, that stands beside files; makes and renews\n\
+     evidence records; attaches time-stamp tokens; and brings trust lists to their newest version.";
 
 /// What the commands about stamps do.
 pub const ABOUT_STAMPS: &str =
@@ -26,7 +26,8 @@ pub const ABOUT_STAMPS: &str =
 
 /// What the commands about evidence records do.
 pub const ABOUT_EVIDENCE: &str =
-    "Says by when files existed, by an evidence record that stands beside them (RFC 4998); and makes such records.";
+    "Says by when files existed, by an evidence record that stands beside them (RFC 4998); and makes and renews such \
+     records.";
 
 /// What the program takes behind the word that names a group of commands, or behind its own name, where this word
 /// stands.
@@ -47,23 +48,13 @@ fn command_line<'a>(alloc: Global, word: &str) -> Result<Command<'a>, AllocError
     if word == VERSION_WORD {
         return Ok(line);
     }
-    let is_named = is_command(word);
+    let is_named = ALL.as_slice().iter().any(|named| named.name() == word);
     for named in ALL.as_slice() {
         if !is_named || named.name() == word {
             line = line.subcommand(command(alloc, named)?)?;
         }
     }
     Ok(line)
-}
-
-/// Whether a command has this name.
-fn is_command(word: &str) -> bool {
-    for named in ALL.as_slice() {
-        if named.name() == word {
-            return true;
-        }
-    }
-    false
 }
 
 /// What the program takes behind `stamp`.

@@ -39,6 +39,8 @@ Example:
   cmsproof evidence check --trust trusted.txt --answers answers.txt record.ers document.pdf
   cmsproof evidence request --cert SHA256SUMS request.tsq
   cmsproof evidence make --token token.tok --into records SHA256SUMS
+  cmsproof evidence renew --request request.tsq record.ers
+  cmsproof evidence rehash --alg sha512 --into records --request request.tsq SHA512SUMS
   cmsproof attach --signer 1 --token token.tok signed.p7s stamped.p7s
   cmsproof compare signed.p7s stamped.p7s
   cmsproof migrate trusted.txt trusted-2.txt";
@@ -343,18 +345,22 @@ Examples:
 
 /// What the commands about evidence records are.
 pub const EVIDENCE_LINES: &str = "\
-The commands are `evidence check`, `evidence questions`, `evidence request` and `evidence make`;
-`cmsproof evidence check --help` says what each takes and prints. What is in a record
-`cmsproof show evidence` shows.
+The commands are `evidence check`, `evidence questions`, `evidence request`, `evidence make`,
+`evidence renew` and `evidence rehash`; `cmsproof evidence check --help` says what each takes and
+prints. What is in a record `cmsproof show evidence` shows.
 
 One time-stamp is enough for many files: `request` asks for one of the root of a hash tree over
-their digests, and `make` makes a record of each file by it (RFC 4998 4.2).
+their digests, and `make` makes a record of each file by it (RFC 4998 4.2). Another one renews them
+all, before the first no longer serves: `renew` asks for it, and puts it into each record (5.2).
+`rehash` does so before a digest algorithm no longer serves, by the files' digests by another one.
 
 Examples:
   sha256sum *.pdf > SHA256SUMS
   cmsproof evidence request --cert SHA256SUMS request.tsq
   cmsproof match request.tsq response.tsr token.tok
   cmsproof evidence make --token token.tok --into records SHA256SUMS
+  cmsproof evidence renew --request request.tsq records/*.ers
+  cmsproof evidence rehash --alg sha512 --into records --request request.tsq SHA512SUMS
   cmsproof evidence questions --trust trusted.txt record.ers > questions.txt
   cmsproof evidence check --trust trusted.txt --answers answers.txt record.ers document.pdf";
 
@@ -491,6 +497,96 @@ Examples:
   cmsproof match request.tsq response.tsr token.tok
   cmsproof evidence make --token token.tok --into records SHA256SUMS
   sha512sum *.pdf | cmsproof evidence make --alg sha512 --token token.tok --into records -";
+
+/// What `evidence renew` writes and prints.
+pub const EVIDENCE_RENEW_LINES: &str = "\
+The last time-stamp of an evidence record (RFC 4998, DER) serves until its authority or its
+algorithms end. Before that a new one is put behind it, in its chain (5.2). One is enough for all
+RECORDs: it is for the root of the hash tree over the hash values of their last time-stamps, by the
+digest algorithm of their last chains, which must be the same.
+
+With --request the request for it is made, for no policy, without a nonce and without a certificate.
+With --token, the token of the answer to it, as `match` writes it, each RECORD is replaced by a new
+file with the record as it was and one archive time-stamp more: the hash values which lead from its
+last time-stamp to the root, and TOKEN. Nothing is printed.
+
+Otherwise the first rule that fails is printed, and nothing is written; of the RECORDs, in their
+order, one of these:
+  malformed FAULT            it isn't an evidence record in DER (status 2)
+  refused U3 NoStamp         its data are encrypted, its last time-stamp states no time, or the
+                             algorithm of its last chain isn't known (status 1, and the others too)
+  refused U4 Mixed           its last chain is by another algorithm than those of the RECORDs before
+then, with --token:
+  refused U7 TokenMalformed  TOKEN isn't a CMS SignedData whose content is a TSTInfo, in DER
+  refused U8 ImprintDiffers  the token isn't for the root: the request was for other RECORDs
+  refused U9 Order           the token isn't later than the last time-stamp of a RECORD
+  refused U10 TooLong        a length would pass 4,294,967,295
+TOKEN is read first. A RECORD that TOKEN has renewed already stays as it is, and counts for the tree
+as it was: a run that was cut off can be run again, with the same RECORDs. Each must be a regular
+file, and no link; it keeps its permissions. All are tested before the first is replaced. Otherwise
+the line names the first that can't be opened, read or replaced (status 4):
+  failed write RECORD        it isn't a regular file, or can't be written; or the write fails, and
+                             then those before it are renewed
+  failed read RECORD         it can't be read; or it has changed since all were tested, and then
+                             those before it are renewed
+`usage request` says that neither or both of --request and --token are given, or that OUT is a
+RECORD, and `usage RECORD` that with --token one of these is `-` (status 3).
+No signature is checked: `evidence check` says whether a record is accepted.
+
+Examples:
+  cmsproof evidence renew --request request.tsq records/*.ers
+  cmsproof match request.tsq response.tsr token.tok
+  cmsproof evidence renew --token token.tok records/*.ers";
+
+/// What `evidence rehash` writes and prints.
+pub const EVIDENCE_REHASH_LINES: &str = "\
+Before a digest algorithm of an evidence record (RFC 4998, DER) no longer serves, the record gets a
+new chain by another one, over the data and the old chains (5.2). One time-stamp is enough for all:
+SUMS has a line for each file, as the help of `evidence request` says, with its digest by the new
+algorithm, that of --alg; its record is FOLDER/NAME.ers, with the NAME of that line. The time-stamp
+is for the root of the hash tree over the leaves, of each line the digest of two joined digests:
+that of the line, and that of the record's chains as they stand.
+
+With --request the request for it is made, for no policy, without a nonce and without a certificate.
+With --token, the token of the answer to it, as `match` writes it, each record is replaced by a new
+file with the record as it was and one chain more, of one archive time-stamp: the hash values which
+lead from its leaf to the root, and TOKEN. Nothing is printed.
+
+Otherwise the first rule that fails is printed, and nothing is written:
+  sums U1 Line at line N     line N of SUMS, counted from 1, is of another form (status 2)
+  sums U2 Empty              SUMS has no line (status 2)
+  refused U5 Name            a name is empty, begins with `/`, or has an octet 0, or between its
+                             slashes an empty part, a part `.` or a part `..`; or, after U6, it
+                             isn't UTF-8 (status 1, and the others too)
+  refused U6 NameTwice       two lines have one name
+then of the records, in the order of the lines, one of these:
+  malformed FAULT            it isn't an evidence record in DER (status 2)
+  refused U3 NoStamp         its data are encrypted, or its last time-stamp states no time
+then, with --token:
+  refused U7 TokenMalformed  TOKEN isn't a CMS SignedData whose content is a TSTInfo, in DER
+  refused U8 ImprintDiffers  the token isn't for the root: the request was for other SUMS or records
+  refused U9 Order           the token isn't later than the last time-stamp of a record
+  refused U10 TooLong        a length would pass 4,294,967,295
+SUMS is read first, then TOKEN, then the records. One that has its new chain by TOKEN already stays
+as it is, and counts for the tree as it was: a run that was cut off can be run again, with the same
+SUMS and TOKEN. All records are tested before the first is replaced; they keep their permissions.
+Otherwise the line names the first that can't be opened, read or replaced (status 4), its octets
+beyond printable ASCII as `\\x` and two digits:
+  failed open FOLDER/NAME.ers   it isn't there, or it isn't a regular file, or something else than a
+                                folder stands on the way to it, as a link
+  failed write FOLDER/NAME.ers  it can't be replaced, or the write fails, and then those before it
+                                have the new chain
+  failed read FOLDER/NAME.ers   it can't be read; or it has changed since all were tested, and then
+                                those before it have the new chain
+`usage request` says that neither or both of --request and --token are given, or that OUT is SUMS or
+a record (status 3). Neither a signature is checked, nor whether a record is for its file: `evidence
+check` says that, and tells a record that was exchanged.
+
+Examples:
+  sha512sum *.pdf > SHA512SUMS
+  cmsproof evidence rehash --alg sha512 --into records --request request.tsq SHA512SUMS
+  cmsproof match request.tsq response.tsr token.tok
+  cmsproof evidence rehash --alg sha512 --into records --token token.tok SHA512SUMS";
 
 /// What `attach` writes and prints.
 pub const ATTACH_LINES: &str = "\

@@ -1,7 +1,7 @@
 //! Whether a task would read standard input in the place of two files.
 ghost use Rattle.std.specs.Prelude.{◌≡◌, ◌||◌, ◌++◌, [], map, nat_lt};
 ghost use Rattle.cli_words.specs.Inputs.{content_of, evidence_paths, inputs_among, lists_of, several_paths, task_paths};
-ghost use Rattle.cli_words.specs.Inputs.{text_paths, with_content};
+ghost use Rattle.cli_words.specs.Inputs.{with_content};
 
 use cli_tasks::{Each, EvidenceTask, Many, Several, Task, TextTask};
 
@@ -14,34 +14,27 @@ pub fn is_read_twice(task: &Task<'_>) -> bool
 {
     match task {
         Task::Questions(words) => is_twice(&[words.trust], &[words.file]),
-        Task::Text(task) => is_text_read_twice(task),
-    }
-}
-
-/// The same for a task whose text is made before it is printed.
-fn is_text_read_twice(task: &TextTask<'_>) -> bool
-    ensures { result ≡ nat_lt 1 (inputs_among (text_paths task.now)) }
-{
-    match task {
-        TextTask::Check(words) => {
-            is_twice_with(words.content, &[words.trust, words.answers, words.file])
-        }
-        TextTask::Fit(words) => is_twice_with(words.content, &[words.file]),
-        TextTask::Match(words) => is_twice(&[words.request], &[words.response]),
-        TextTask::Compare(words) => is_twice(&[words.first_file], &[words.second_file]),
-        TextTask::Attach(words) => is_twice(&[words.token], &[words.file]),
-        TextTask::CheckStamp(words) => {
-            is_twice(&[words.trust, words.answers], &[words.stamp, words.data])
-        }
-        TextTask::AskStamp(words) => is_twice(&[words.trust], &[words.stamp]),
-        TextTask::Request(_)
-        | TextTask::ShowRequest(_)
-        | TextTask::ShowResponse(_)
-        | TextTask::ShowTst(_)
-        | TextTask::ShowSigned(_)
-        | TextTask::ShowEvidence(_)
-        | TextTask::ShowCertificate(_)
-        | TextTask::Migrate(_) => false,
+        Task::Text(task) => match task {
+            TextTask::Check(words) => {
+                is_twice_with(words.content, &[words.trust, words.answers, words.file])
+            }
+            TextTask::Fit(words) => is_twice_with(words.content, &[words.file]),
+            TextTask::Match(words) => is_twice(&[words.request], &[words.response]),
+            TextTask::Compare(words) => is_twice(&[words.first_file], &[words.second_file]),
+            TextTask::Attach(words) => is_twice(&[words.token], &[words.file]),
+            TextTask::CheckStamp(words) => {
+                is_twice(&[words.trust, words.answers], &[words.stamp, words.data])
+            }
+            TextTask::AskStamp(words) => is_twice(&[words.trust], &[words.stamp]),
+            TextTask::Request(_)
+            | TextTask::ShowRequest(_)
+            | TextTask::ShowResponse(_)
+            | TextTask::ShowTst(_)
+            | TextTask::ShowSigned(_)
+            | TextTask::ShowEvidence(_)
+            | TextTask::ShowCertificate(_)
+            | TextTask::Migrate(_) => false,
+        },
     }
 }
 
@@ -57,6 +50,10 @@ pub fn is_evidence_read_twice(task: &EvidenceTask<'_>) -> bool
         EvidenceTask::Questions(words) => is_twice(&[words.trust], &[words.record]),
         EvidenceTask::Request(words) => is_twice(&[words.sums], &[]),
         EvidenceTask::Make(words) => is_twice(&[words.token], &[words.sums]),
+        EvidenceTask::RequestRenewal(words) => is_twice(&[], words.records.as_slice()),
+        EvidenceTask::Renew(words) => is_twice(&[words.token], words.records.as_slice()),
+        EvidenceTask::RequestRehash(words) => is_twice(&[words.sums], &[]),
+        EvidenceTask::Rehash(words) => is_twice(&[words.token], &[words.sums]),
     }
 }
 

@@ -20,12 +20,15 @@ use crate::several::{each_of, several_in};
 use crate::words::{
     attach_words, check_words, compare_words, evidence_questions_words, evidence_words, fit_words,
     make_words, match_words, migrate_words, questions_words, request_words, root_request_words,
-    shown, stamp_questions_words, stamp_words, value,
+    shown, some_values, stamp_questions_words, stamp_words, value,
 };
 use clap::error::ErrorKind;
 use clap::{ArgMatches, Command};
 use cli_failures::Failure;
-use cli_tasks::{EvidenceTask, Many, Task, TextTask};
+use cli_tasks::{
+    EvidenceTask, Many, RehashRequestWords, RehashWords, RenewWords, RenewalRequestWords, Task,
+    TextTask,
+};
 use std::alloc::Global;
 use std::convert::AsStr;
 
@@ -66,7 +69,10 @@ fn meaning_in<'a>(
     }
 }
 
-/// What the words ask of several files, or stamps, or records, if they name several, or a list of them.
+/// The command that takes several records together.
+const RENEW: &str = "renew";
+
+/// What the words ask of several files, or stamps, or records, each by itself, if they name several, or a list of them.
 fn many_in<'a>(
     alloc: Global,
     group: Group,
@@ -81,6 +87,9 @@ fn many_in<'a>(
     let Some((command, given)) = matches.subcommand() else {
         return Ok(None);
     };
+    if command == RENEW {
+        return Ok(None);
+    }
     let Some(files) = several_in(alloc, place_of(group), given)? else {
         return Ok(None);
     };
@@ -188,8 +197,51 @@ fn evidence_command_in<'a>(
         "questions" => Ok(EvidenceTask::Questions(evidence_questions_words(given)?)),
         "request" => Ok(EvidenceTask::Request(root_request_words(given)?)),
         "make" => Ok(EvidenceTask::Make(make_words(given)?)),
+        RENEW => renewal_in(alloc, given),
+        "rehash" => rehash_in(given),
         // The parser knows no other command.
         _ => Err(Failure::Usage("command")),
+    }
+}
+
+/// The task of `evidence renew`: a request, if a file is named that it goes into, or a renewal, if a token is.
+///
+/// Errors: `Usage`, which names `request`, if neither or both are.
+fn renewal_in<'a>(alloc: Global, given: &ArgMatches<'a>) -> Result<EvidenceTask<'a>, Failure<'a>>
+    ensures command { IfOk result (λ task. evidence_command_of task ≡ codes "renew") }
+    ensures words { IfOk result (IsEvidenceTaskIn (found_of given.now)) }
+{
+    let records = some_values(alloc, given, "RECORD")?;
+    match (given.get_str("request"), given.get_str("token")) {
+        (Some(out), None) => Ok(EvidenceTask::RequestRenewal(RenewalRequestWords { records, out })),
+        (None, Some(token)) => Ok(EvidenceTask::Renew(RenewWords { records, token })),
+        _ => Err(Failure::Usage("request")),
+    }
+}
+
+/// The task of `evidence rehash`: a request, if a file is named that it goes into, or new chains, if a token is.
+///
+/// Errors: `Usage`, which names `request`, if neither or both are.
+fn rehash_in<'a>(given: &ArgMatches<'a>) -> Result<EvidenceTask<'a>, Failure<'a>>
+    ensures command { IfOk result (λ task. evidence_command_of task ≡ codes "rehash") }
+    ensures words { IfOk result (IsEvidenceTaskIn (found_of given.now)) }
+{
+    let (alg, sums) = (value(given, "alg")?, value(given, "SUMS")?);
+    let into = value(given, "into")?;
+    match (given.get_str("request"), given.get_str("token")) {
+        (Some(out), None) => Ok(EvidenceTask::RequestRehash(RehashRequestWords {
+            alg,
+            sums,
+            into,
+            out,
+        })),
+        (None, Some(token)) => Ok(EvidenceTask::Rehash(RehashWords {
+            alg,
+            sums,
+            into,
+            token,
+        })),
+        _ => Err(Failure::Usage("request")),
     }
 }
 

@@ -20,8 +20,10 @@ pub enum Takes {
     Number,
     /// `--name` and how many octets may be kept.
     Octets,
-    /// `--name` and one of the names of `ALGORITHMS`.
+    /// `--name` and one of the names of `ALGORITHMS`, by default that of SHA-256.
     Algorithm,
+    /// The same, without a default.
+    NamedAlgorithm,
     /// `--name` alone.
     Nothing,
     /// One or more values in their places, whose name in the help is the word's.
@@ -149,7 +151,7 @@ const REQUEST_OUT: Word = Word {
     help: "The file to write, as request.tsq; one that is there is replaced",
 };
 
-/// The digests of many files, of `evidence request` and `evidence make`.
+/// The digests of many files, of `evidence request`, `evidence make` and `evidence rehash`.
 const SUMS: Word = Word {
     name: "SUMS",
     takes: Takes::Place,
@@ -465,6 +467,61 @@ pub static EVIDENCE_MAKE: [Word; 4] = [
         required: true,
         help: "The folder to write the records into, as --into records (no default): that of NAME is FOLDER/NAME.ers, \
                and none that is there is replaced by another",
+    },
+    SUMS,
+];
+
+/// The words of `evidence renew`, in the order of its help.
+pub static EVIDENCE_RENEW: [Word; 3] = [
+    Word {
+        name: "request",
+        takes: Takes::Text("OUT"),
+        required: false,
+        help: "The file to write the request into, as --request request.tsq; one that is there is replaced (no \
+               default: this or --token is given)",
+    },
+    Word {
+        name: "token",
+        takes: Takes::Text("TOKEN"),
+        required: false,
+        help: "The token that stamps the root of the tree over the last time-stamps of the RECORDs, as --token \
+               token.tok (no default: this or --request is given)",
+    },
+    Word {
+        name: "RECORD",
+        takes: Takes::Several,
+        required: true,
+        help: "The evidence records to renew, as record.ers (no default); with --token each is replaced",
+    },
+];
+
+/// The words of `evidence rehash`, in the order of its help.
+pub static EVIDENCE_REHASH: [Word; 5] = [
+    Word {
+        name: "alg",
+        takes: Takes::NamedAlgorithm,
+        required: true,
+        help: "The digest algorithm of SUMS and of the new chains, as --alg sha512 (no default)",
+    },
+    Word {
+        name: "into",
+        takes: Takes::Text("FOLDER"),
+        required: true,
+        help: "The folder with the records, as --into records (no default): that of NAME is FOLDER/NAME.ers",
+    },
+    Word {
+        name: "request",
+        takes: Takes::Text("OUT"),
+        required: false,
+        help: "The file to write the request into, as --request request.tsq; one that is there is replaced (no \
+               default: this or --token is given)",
+    },
+    Word {
+        name: "token",
+        takes: Takes::Text("TOKEN"),
+        required: false,
+        help: "The token that stamps the root of the tree over SUMS and the records, as --token token.tok (no \
+               default: this or --request is given)",
     },
     SUMS,
 ];

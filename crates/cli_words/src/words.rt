@@ -204,7 +204,7 @@ fn values<'a>(
 }
 
 /// The same for an argument that the parser demands.
-fn some_values<'a>(
+pub fn some_values<'a>(
     alloc: Global,
     given: &ArgMatches<'a>,
     name: &'static str,

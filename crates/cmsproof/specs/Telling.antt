@@ -1,5 +1,5 @@
--- What the program prints once it has done what its words ask for. `holds` is what an open file holds, if that is
--- known, and `says` what it may say of itself.
+-- What the program prints once it has done what its words ask for. `holds` is what an open file holds, and `contents`
+-- what it has taken, if that is known, and `says` what it may say of itself.
 use Rattle.std.specs.Prelude.{◌≡◌, ◌⊎◌, ℕ, List, Option}
 use Rattle.std.specs.Borrow.{Bor}
 use Rattle.std.specs.String.{string_bytes}
@@ -25,13 +25,14 @@ IsToldBy holds says (meaning.Help help) text = text ≡ string_bytes help
 
 -- a command failed: a writer took a beginning of what is printed of a task, of several files or of help, if what it
 -- takes is known
-abbrev pub IsStoppedBy : {F : Type 0} → (holds : F → Option (List ℕ)) → (says : Sayings F) → Meaning
+abbrev pub IsStoppedBy : {F : Type 0} → (holds contents : F → Option (List ℕ)) → (says : Sayings F) → Meaning
     → (before after : Option (List ℕ)) → Type 0
-IsStoppedBy holds says (meaning.Task task) before after = StopsBy holds says task before after
-IsStoppedBy holds says (meaning.Many many) before after =
+IsStoppedBy holds contents says (meaning.Task task) before after = StopsBy holds says task before after
+IsStoppedBy holds contents says (meaning.Many many) before after =
     EndsMany holds says many.each many.files status.Failed before after
-IsStoppedBy holds says (meaning.Evidence task) before after = evidence.StopsBy holds task before after
-IsStoppedBy holds says (meaning.Help help) before after = Begins before after (string_bytes help)
+IsStoppedBy holds contents says (meaning.Evidence task) before after =
+    evidence.StopsBy holds contents task before after
+IsStoppedBy holds contents says (meaning.Help help) before after = Begins before after (string_bytes help)
 
 -- a writer took the line of a file that isn't of its form, or the lines of several of which this is the worst that is
 -- said, if what it takes is known

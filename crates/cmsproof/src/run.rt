@@ -30,8 +30,8 @@ where
     ensures done { result ≡ Status.Done → (meaning : Meaning) × (text : List ℕ)
         × IsToldBy R.File.remaining R.File.says meaning text × Appends (O.contents out.old) (O.contents out.new) text }
     // If it failed, a beginning of that is, or of the line of a failure that belongs there.
-    ensures cut { result ≡ Status.Failed → ((meaning : Meaning) × IsStoppedBy R.File.remaining R.File.says meaning
-        (O.contents out.old) (O.contents out.new))
+    ensures cut { result ≡ Status.Failed → ((meaning : Meaning)
+        × IsStoppedBy R.File.remaining R.File.contents R.File.says meaning (O.contents out.old) (O.contents out.new))
         ⊎ ((f : Failure) × Begins (O.contents out.old) (O.contents out.new) (printed_text f)) }
     // After a fault of the words or of a value nothing is on the standard output; for a fault of a file its line is,
     // and likewise for a file that is refused. Of several files there is a line for each, if one of them is the worst.
@@ -57,7 +57,7 @@ where
     E: Write,
     ensures done { result ≡ Status.Done → (text : List ℕ) × IsToldBy R.File.remaining R.File.says meaning.entry text
         × Appends (O.contents out.old) (O.contents out.new) text }
-    ensures cut { result ≡ Status.Failed → IsStoppedBy R.File.remaining R.File.says meaning.entry
+    ensures cut { result ≡ Status.Failed → IsStoppedBy R.File.remaining R.File.contents R.File.says meaning.entry
         (O.contents out.old) (O.contents out.new) }
     ensures silent { result ≡ Status.Usage → out.new ≡ out.old }
     ensures malformed { result ≡ Status.Malformed

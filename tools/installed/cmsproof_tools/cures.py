@@ -596,6 +596,18 @@ ROWS = (
     Row("13", "U2 Empty", "there is no line", "look what `sha256sum` said: it found no file"),
     Row(
         "13",
+        "U3 NoStamp",
+        "a RECORD has encryptionInfo, or the token of its last time-stamp states no time, or the algorithm of its last chain is unknown",
+        "leave it out, or get it from another copy; `show evidence` says what it has",
+    ),
+    Row(
+        "13",
+        "U4 Mixed",
+        "the last chains of the RECORDs are by different digest algorithms, and one stamp serves one (RFC 4998 5.1)",
+        "ask for a stamp for those of each algorithm by themselves; `show evidence` names it",
+    ),
+    Row(
+        "13",
         "U5 Name",
         "a name is empty, begins with `/`, has a part that is empty, `.` or `..`, or an octet 0, and so may lead out of the folder of the "
         "records; or it is not UTF-8",
@@ -611,8 +623,15 @@ ROWS = (
     Row(
         "13",
         "U8 ImprintDiffers",
-        "its imprint is not the root over these digests, by this algorithm: SUMS was changed since the request, or the token is another's",
-        "name the SUMS of the request, and the same `--alg`; or ask for a stamp of these, by `evidence request`",
+        "its imprint is not the root over these digests, or these records, by this algorithm: SUMS was changed since the request, "
+        "a RECORD was left out, added or renewed by another, or the token is another's",
+        "name the SUMS, and the same `--alg`, or the RECORDs of the request; or ask for a stamp of these",
+    ),
+    Row(
+        "13",
+        "U9 Order",
+        "it is not later than the last time-stamp of a RECORD (RFC 4998 5.1)",
+        "ask for a new stamp; if that time is still to come, leave this RECORD out until then",
     ),
     Row("13", "U10 TooLong", "a length would pass 4,294,967,295", "none: this form has no such record"),
 )

@@ -1,4 +1,5 @@
-//! What is put below a folder, and what is not: no link there is followed, and no file is replaced by another.
+//! What is put below a folder, and what is not: no link there is followed, and no file is replaced by another. And what
+//! is replaced: regular files alone.
 use cli_failures::{Failure, files};
 use std::fs;
 use std::os::unix::fs::symlink;
@@ -103,5 +104,32 @@ fn replaces_no_file_below_a_folder(rt: HostRuntime) -> Result<(), Fail> {
     assert!(rt; !fs::exists(&rt, "filled/a.ers.new0")?);
     fs::remove_file(&rt, "filled/a.ers")?;
     fs::remove_dir(&rt, "filled")?;
+    Ok(())
+}
+
+#[test]
+fn replaces_regular_files_alone(rt: HostRuntime) -> Result<(), Fail> {
+    fs::create_dir(&rt, "renewed")?;
+    fs::write(&rt, "renewed/a.ers", b"old")?;
+    symlink(&rt, "a.ers", "renewed/link.ers")?;
+    for (path, line) in [
+        ("renewed/link.ers", "failed write renewed/link.ers\n"),
+        ("renewed/none.ers", "failed write renewed/none.ers\n"),
+        ("renewed", "failed write renewed\n"),
+        ("/dev/null", "failed write /dev/null\n"),
+        ("renewed/\u{1b}[7m", "failed write renewed/\\x1b[7m\n"),
+        ("renewed/a.ers", "done"),
+    ] {
+        let tested = said(&rt, files::test_whole(&rt, path))?;
+        assert_eq!(rt; tested.as_str(), line);
+        let wrote = said(&rt, files::replace_whole(&rt, path, b"new"))?;
+        assert_eq!(rt; wrote.as_str(), line);
+        let kept = if line == "done" { b"new" } else { b"old" };
+        assert_eq!(rt; fs::read(&rt, "renewed/a.ers")?.as_slice(), kept.as_slice());
+    }
+    for path in ["link.ers", "a.ers"] {
+        fs::remove_file(&rt, format!(in rt.alloc(); "renewed/{path}")?.as_str())?;
+    }
+    fs::remove_dir(&rt, "renewed")?;
     Ok(())
 }

@@ -15,12 +15,14 @@ pub returns-clause-made : goal.returns-clause-made
 returns-clause-made c =
     record_made c.args.tree.now c.args.token.now c.args.sum.now.digest c.in_ok-digest.digest c.alg.result
     c.in-Some.values c.in_ok-digest.ensures
-    (c.alg.ensures ∙ (ap alg_of c.in_ok-digest.ensures ∙ c.requires.leaf.0)) c.in-Some.ensures.lists (λ v. v.items)
+    (c.alg.ensures ∙ (ap alg_of c.in_ok-digest.ensures ∙ c.requires.leaf.0))
+    c.in-Some.ensures.way c.in-Some.ensures.lists (λ v. v.items)
     c.make_record.result c.make_record.ensures.made c.make_record.ensures.shows
 
 pub returns-clause-too_long : goal.returns-clause-too_long
 returns-clause-too_long c = λ is.
     record_too_long c.args.tree.now c.args.token.now c.args.sum.now.digest c.in_ok-digest.digest c.alg.result
     c.in-Some.values c.in_ok-digest.ensures
-    (c.alg.ensures ∙ (ap alg_of c.in_ok-digest.ensures ∙ c.requires.leaf.0)) c.in-Some.ensures.lists
+    (c.alg.ensures ∙ (ap alg_of c.in_ok-digest.ensures ∙ c.requires.leaf.0))
+    c.in-Some.ensures.way c.in-Some.ensures.lists
     (c.make_record.ensures.too_long.0 is)

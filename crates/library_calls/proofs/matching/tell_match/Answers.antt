@@ -1,4 +1,4 @@
-use Rattle.std.proofs.Common.{inl, refl, ◌∙◌}
+use Rattle.std.proofs.Common.{inl, inr, refl, ◌∙◌}
 use Rattle.library_calls.proofs.Told.{line_as}
 use Rattle.library_calls.proofs.matching.tell_match.Goals as goal
 
@@ -8,3 +8,7 @@ returns-in-Ok c = inl (
   c.tell_line.ensures.said ∙ c.ruled-said.ensures,
   line_as _ _ _ _ _ _ _ _ c.as_bytes.ensures.value refl c.tell_line.ensures.line,
 )
+
+pub returns-in-Err : goal.returns-in-Err
+returns-in-Err c =
+    inr (c.in-Err.why, c.in-Err.ensures.refused, c.tell_failure.ensures.said, c.tell_failure.ensures.line)

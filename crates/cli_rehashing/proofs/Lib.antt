@@ -1,0 +1,6 @@
+pub mod Walks
+pub mod Lines
+pub mod Anew
+pub mod Puts
+pub mod Tested
+pub mod Runs

@@ -1,0 +1,29 @@
+use Rattle.std.proofs.Common.{◌≡◌, ◌∙◌, Some, None, rules}
+use Rattle.std.proofs.lemmas.Result.{err_from_is_err_and}
+use Rattle.cli_renewing.proofs.Puts.{adds_none}
+use Rattle.cli_rehashing.proofs.Puts.{put_if, stays}
+use Rattle.cli_rehashing.proofs.step.put_line.Goals as goal
+
+pub returns-in_err-octets-clause-none : goal.returns-in_err-octets-clause-none
+returns-in_err-octets-clause-none g c =
+    let p = err_from_is_err_and c.from_residual-in_err-octets.result c.from_residual-in_err-octets.ensures.1 in
+    rw p.1 (adds_none _)
+
+pub returns-in-Ok-Some-clause-put : goal.returns-in-Ok-Some-clause-put
+returns-in-Ok-Some-clause-put g c =
+    let some : c.in-Ok-Some.field-0 ≡ Some c.in-Ok-Some.rehashed = search rules in
+    let same : c.as_slice-in-Ok-Some.result.now ≡ c.in-Ok-Some.rehashed.items = search rules in
+    put_if g.K.KeepsBelow.ways c.args.tree.now c.args.token.now c.args.moment c.args.folder.now c.args.sum.now
+    c.text_of-name.result.now c.as_slice-2.result.now c.in_ok-octets.octets.items c.in_ok-digest.digest
+    (c.text_of-name.ensures ∙ c.as_slice.ensures.value ∙ c.in_ok-name.ensures) c.as_slice-2.ensures.value
+    c.in_ok-digest.ensures c.in_ok-octets.ensures.read c.put_file.result _ _ c.in-Ok-Some.rehashed.items
+    c.as_slice-in-Ok-Some.result.now same (rw some at c.in-Ok-Some.ensures) c.put_file.ensures.did
+    c.put_file.ensures.adds
+
+pub returns-in-Ok-None-clause-put : goal.returns-in-Ok-None-clause-put
+returns-in-Ok-None-clause-put g c =
+    let none : c.in-Ok-None.field-0 ≡ None = search rules in
+    stays g.K.KeepsBelow.ways c.args.tree.now c.args.token.now c.args.moment c.args.folder.now c.args.sum.now
+    c.text_of-name.result.now c.as_slice-2.result.now c.in_ok-octets.octets.items c.in_ok-digest.digest
+    (c.text_of-name.ensures ∙ c.as_slice.ensures.value ∙ c.in_ok-name.ensures) c.as_slice-2.ensures.value
+    c.in_ok-digest.ensures c.in_ok-octets.ensures.read _ (rw none at c.in-Ok-None.ensures)

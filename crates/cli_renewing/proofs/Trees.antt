@@ -1,0 +1,58 @@
+-- The tree on footings.
+use Rattle.std.proofs.Common.{◌≡◌, ◌≢◌, ◌⊎◌, ◌<◌, ℕ, List, [], ◌∷◌, map, Option, Some, None, Result, Ok, Err, All}
+use Rattle.std.proofs.Common.{refl, sym, ap, ◌∙◌, subst, length, arith}
+use Rattle.std.specs.Prelude.{IfOk}
+use Rattle.std.specs.List.{AllByRecursion, slice_get}
+use Rattle.std.proofs.lemmas.List.Elements.{All-from_recursion}
+use Rattle.digests.specs.Digests.{alg_of, octets_of}
+use Rattle.digests.specs.declared.algorithm.Alg.{Alg}
+use Rattle.digests.specs.declared.value.Digest.{Digest}
+use Rattle.evidence_trees.specs.HashTrees.{HashTree, IsTreeOf}
+use Rattle.cli_renewing.specs.Footings.{IsRootOf}
+use Rattle.cli_renewing.specs.declared.footing.Footing.{Footing}
+use Rattle.cli_renewing.specs.Footings.{AreBy, IsTreeOn}
+use Rattle.cli_renewing.specs.Steps.{AreOfFirst}
+
+-- all are by the algorithm of the first, which is at the front
+pub by_first : (footings : List Footing) (first : Footing) (alg : Alg) → Some first ≡ slice_get footings 0
+    → alg ≡ alg_of first.leaf → AreOfFirst footings → AreBy alg footings
+by_first [] first alg front is of = tt
+by_first (f ∷ footings) first alg front is of =
+    let same : first ≡ f = cc in
+    subst (λ (a : Alg). AreBy a (f ∷ footings)) (sym (is ∙ ap (λ (x : Footing). alg_of x.leaf) same)) of
+
+map-map : {X Y Z : Type 0} (g : Y → Z) (f : X → Y) (xs : List X) → map g (map f xs) ≡ map (λ x. g (f x)) xs
+map-map g f [] = refl
+map-map {X} {Y} {Z} g f (x ∷ xs) = ap (λ (l : List Z). g (f x) ∷ l) (map-map g f xs)
+
+leaves_all : (alg : Alg) (footings : List Footing) → AreBy alg footings
+    → AllByRecursion (λ (d : Digest). alg_of d ≡ alg) (map (λ (f : Footing). f.leaf) footings)
+leaves_all alg [] by = tt
+leaves_all alg (f ∷ footings) by = (by.0, leaves_all alg footings by.1)
+
+pub leaves_by : (alg : Alg) (footings : List Footing) (leaves : List Digest) → AreBy alg footings
+    → leaves ≡ map (λ (f : Footing). f.leaf) footings → All (λ (d : Digest). alg_of d ≡ alg) leaves
+leaves_by alg footings leaves by are =
+    subst (λ (ds : List Digest). All (λ (d : Digest). alg_of d ≡ alg) ds) (sym are)
+    (All-from_recursion (λ (d : Digest). alg_of d ≡ alg) (map (λ (f : Footing). f.leaf) footings)
+    (leaves_all alg footings by))
+
+pub some_leaves : (f : Footing) (footings others : List Footing) (leaves : List Digest) → footings ≡ f ∷ others
+    → leaves ≡ map (λ (g : Footing). g.leaf) footings → 0 < length leaves
+some_leaves f footings others leaves is are =
+    subst (λ (ds : List Digest). 0 < length ds)
+    (sym (are ∙ ap (λ (fs : List Footing). map (λ (g : Footing). g.leaf) fs) is)) (omega arith)
+
+pub tree_is_on : (alg : Alg) (footings : List Footing) (leaves : List Digest) (tree : HashTree) → AreBy alg footings
+    → leaves ≡ map (λ (f : Footing). f.leaf) footings → IsTreeOf alg (map octets_of leaves) tree → (root : Digest)
+    → IsRootOf tree root → IsTreeOn footings tree root
+tree_is_on alg footings leaves tree by are over root is_root =
+    let values : map octets_of leaves ≡ map (λ (f : Footing). octets_of f.leaf) footings =
+    ap (λ (ds : List Digest). map octets_of ds) are ∙ map-map octets_of (λ (f : Footing). f.leaf) footings in
+    record {
+      by = subst (λ (a : Alg). AreBy a footings) (sym over.algorithm) by;
+      over = subst (λ (a : Alg). IsTreeOf a (map (λ (f : Footing). octets_of f.leaf) footings) tree)
+          (sym over.algorithm)
+          (subst (λ (vs : List (List ℕ)). IsTreeOf alg vs tree) values over);
+      is_root = is_root;
+    }

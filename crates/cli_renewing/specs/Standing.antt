@@ -1,0 +1,25 @@
+-- What is found on the way to what a renewal stands on.
+use Rattle.std.specs.Prelude.{◌≡◌, ◌⊎◌, ℕ, Bool, true, false, List, Option}
+use Rattle.der_core.specs.Grammar.{file}
+use Rattle.evidence_types.specs.EvidenceTable.{evidence_record}
+use Rattle.evidence_making.specs.declared.fault.LeafFault.TheVariants as leaf
+use Rattle.evidence_making.specs.declared.leaves.LastStamp.{LastStamp}
+use Rattle.evidence_making.specs.Done.{IsDoneBy}
+use Rattle.evidence_making.specs.Leaves.{HasNoStamp, IsLastStamp}
+use Rattle.cli_failures.specs.declared.failure.Failure.{Failure}
+use Rattle.cli_failures.specs.declared.failure.Failure.TheVariants as failure
+use Rattle.cli_failures.specs.Causes.{IsMalformed}
+
+-- the record isn't renewed already
+abbrev pub IsNotDone : (token : Option (List ℕ)) → (octets : List ℕ) → Type 0
+IsNotDone token octets = (other : LastStamp) → IsDoneBy token octets other → ⊥
+
+-- the record is renewed already, and this is what it stood on; or it isn't, and this is its last time-stamp
+abbrev pub IsFound : (token : Option (List ℕ)) → (octets : List ℕ) → (done : Bool) → LastStamp → Type 0
+IsFound token octets true last = IsDoneBy token octets last
+IsFound token octets false last = IsNotDone token octets × IsLastStamp octets last
+
+-- memory ran out, the octets encode no record, or U3
+abbrev pub HasNoFooting : (octets : List ℕ) → Failure → Type 0
+HasNoFooting octets f = (f ≡ failure.Memory) ⊎ (IsMalformed (file evidence_record) octets f
+    ⊎ ((f ≡ failure.Unrenewable leaf.NoStamp) × HasNoStamp octets))

@@ -46,7 +46,7 @@ from cmsproof_tools.progress import Progress  # noqa: E402
 from cmsproof_tools.resuming import Resume  # noqa: E402
 from cmsproof_tools.rows import Noting, keys_of  # noqa: E402
 from cmsproof_tools.state import Basis, State  # noqa: E402
-from cmsproof_tools.workers import PROTOCOL, TOGETHER  # noqa: E402
+from cmsproof_tools.workers import MOST, PROTOCOL  # noqa: E402
 
 FILE = REAL / "rsa_attached_ts.p7s"
 # how little Dask watches itself, as docs/TOOLS.md has it
@@ -164,11 +164,11 @@ def time_inside(folder, count, rounds):
         with State(f"inside{number}") as state:
             state.judge_by(Basis("0" * 64, "", "", "none"), b"")
             resume = Resume("states", state, given, noted)
-            for at in range(0, count, TOGETHER):
-                group = names[at : at + TOGETHER]
-                for place in (0, 1) if at // TOGETHER % 2 == number % 2 else (1, 0):
+            for at in range(0, count, MOST):
+                group = names[at : at + MOST]
+                for place in (0, 1) if at // MOST % 2 == number % 2 else (1, 0):
                     total[place] += judged(noted if place else without, group, resume if place else None)
-                total[2] += time_hash(len(group), TOGETHER)
+                total[2] += time_hash(len(group), MOST)
         totals.append([seconds / count * 1e6 for seconds in total])
     least = [min(several) for several in zip(*totals)]
     ratios = sorted(noted / without for without, noted, _ in totals)

@@ -1,6 +1,7 @@
 """Tests that one run over some hundred files of every kind says of each what the proved commands say of it, by however
 many processes, with a state and without."""
 import json
+import os
 import random
 import subprocess
 import sys
@@ -213,6 +214,45 @@ class Several(unittest.TestCase):
             pair = [str(folder / "of.p7s")]
             self.assertEqual(checking.outcomes_of_several(work, pair), [checking.outcomes_of(work, pair[0])])
 
+    def test_what_takes_the_place_of_a_file(self):
+        """It is not read for the file, and not waited for; and what is no regular file is not opened."""
+        folder, signed = folder_of(self), (REAL / "rsa_attached_ts.p7s").read_bytes()
+        name, other, opened = folder / "a.p7s", folder / "b", os.open
+        work = checking.Work(
+            TrustList.from_file(REAL / "trust.txt"), None, False, False, {}, Pairs({}, USUAL), frozenset(), False, False
+        )
+
+        def copy():
+            other.write_bytes(signed)
+            os.utime(other, ns=(0, 0))
+
+        def grown():
+            other.write_bytes(signed + b"\0")
+
+        def changed():
+            name.write_bytes(signed[::-1])
+
+        for make in (lambda: os.mkfifo(other), other.mkdir, lambda: other.symlink_to("/dev/zero"), copy, grown, changed):
+            name.write_bytes(signed)
+            os.utime(name, ns=(0, 0))
+
+            def late(path, *words):
+                if path == str(name):
+                    make()
+                    if make is not changed:
+                        name.unlink()
+                        other.rename(name)
+                return opened(path, *words)
+
+            self.assertIsNotNone(checking.short(work, str(name)))
+            with mock.patch.object(descriptors.os, "open", late):
+                self.assertIsNone(checking.short(work, str(name)))
+            if not name.is_file():
+                with mock.patch.object(descriptors.os, "open") as called:
+                    self.assertIsNone(checking.short(work, str(name)))
+                called.assert_not_called()
+            name.rmdir() if name.is_dir() else name.unlink()
+
     def test_names_that_workers_do_not_have(self):
         """They are those of the list, whatever is in them, and are handed out and judged as those of few files."""
         strange = ["", "é", "\udcff\udc80", "a" * 300, "\U0001f600", "\ud800", " ", "\n"]
@@ -220,7 +260,8 @@ class Several(unittest.TestCase):
             held = Names(several)
             self.assertEqual((list(held), len(held), held[:]), (several, len(several), several))
             self.assertEqual([held[at] for at in range(len(several))], several)
-            self.assertEqual(held[BLOCK - 3 : BLOCK + 3], several[BLOCK - 3 : BLOCK + 3])
+            for part in (slice(BLOCK - 3, BLOCK + 3), slice(BLOCK, 2 * BLOCK), slice(9, 2), slice(-9, None), slice(None, 9, 4)):
+                self.assertEqual(held[part], several[part])
             self.assertRaises(IndexError, lambda: held[len(several)])
         folder = folder_of(self)
         code = f"import sys; sys.path[:0] = [{str(MODULES)!r}]; from cmsproof_tools import archive, running\n"

@@ -15,7 +15,7 @@ from making import NOBODY, folder_of, need_tools
 need_tools()
 
 import cmsproof  # noqa: E402
-from cmsproof_tools import authority, batches, summing  # noqa: E402
+from cmsproof_tools import authority, batches, making, summing  # noqa: E402
 from cmsproof_tools.running import Stop  # noqa: E402
 from test_stamping import ASKED, Authority  # noqa: E402
 
@@ -198,19 +198,19 @@ class Parts(unittest.TestCase):
         ):
             (top / "a").write_bytes(octets)
             # (a change that leaves the same times)
-            with mock.patch.object(batches.summing, "mark_below", return_value=new.mark):
-                self.assertEqual(batches.is_as_it_was(at, "sha256", line, kept), as_it_was, (octets, kept))
+            with mock.patch.object(making.summing, "mark_below", return_value=new.mark):
+                self.assertEqual(making.is_as_it_was(at, "sha256", line, kept), as_it_was, (octets, kept))
         (top / "a").unlink()
-        self.assertFalse(batches.is_as_it_was(at, "sha256", line, known))
+        self.assertFalse(making.is_as_it_was(at, "sha256", line, known))
 
     def test_which_batch_is_the_next(self):
         state = folder_of(self)
         given = mock.Mock(state=str(state), folder=str(state), alg="sha256", policy=None)
-        self.assertEqual(batches.batch_in(given).path, str(state / "1"))
+        self.assertEqual(making.batch_in(given).path, str(state / "1"))
         for number in ("9", "10", "07", "x"):
             (state / number).mkdir()
         (state / "10" / "done").write_bytes(b"")
-        self.assertEqual(batches.batch_in(given).path, str(state / "11"))
+        self.assertEqual(making.batch_in(given).path, str(state / "11"))
 
 
 if __name__ == "__main__":

@@ -15,9 +15,9 @@ from cmsproof_tools.texts import Question, answers_of, read_questions
 ROOM = 1 << 13
 # what is no short questions text
 LONG = 1 << 16
-# the statuses of a file that was judged; and what the calls are handed that convert nothing
+# the statuses of a file that was judged; and what the calls are handed that convert nothing, as ctypes hands it on
 JUDGED = (lib.DONE, lib.REFUSED, lib.MALFORMED)
-NONE, NO, YES = ctypes.c_size_t(0), ctypes.c_bool(False), ctypes.c_bool(True)
+NONE, NO, YES = ctypes.c_size_t.from_param(0), ctypes.c_bool.from_param(False), ctypes.c_bool.from_param(True)
 
 
 class Questions(NamedTuple):
@@ -48,7 +48,8 @@ class Room:
         """Makes room for so many octets of a text."""
         self.text, self.size = (ctypes.c_char * size)(), size
         at, length = ctypes.c_void_p(ctypes.addressof(self.text)), ctypes.byref(self.length)
-        self.words, self.ready = (at, size, length, self.to_answer), (at, ctypes.c_size_t(size), length, self.to_answer)
+        self.words = at, size, length, self.to_answer
+        self.ready = ctypes.c_void_p.from_param(at), ctypes.c_size_t.from_param(size), length, self.to_answer
 
     def written(self, call: Callable[..., int], *words: Any) -> tuple[int, bytes]:
         """The status and text of a call that makes a text: tried with the room that is there, and again with as much as it says."""
@@ -99,19 +100,23 @@ class Room:
         """What a check of octets in memory says, with these answers and no content beside them."""
         if type(octets) is not bytes or type(answers) is not bytes:
             raise TypeError("bytes are needed")  # (nobody else looks at what is handed to these calls)
-        held, self.of_file.value, self.of_answers.value = trust.held, len(octets), len(answers)
+        held, calls, list_of_answers, numbers = trust.held, self.calls, self.to_answers, self.to_answer
+        self.of_file.value, self.of_answers.value = len(octets), len(answers)
+        room, size, length, _ = self.ready
+        allowed = YES if sha1 else NO
         try:
-            status = self.calls.read(self.to_answers, answers, self.of_answers, self.to_answer)
+            status = calls.read(list_of_answers, answers, self.of_answers, numbers)
             if status != lib.DONE:
                 raise refused("answers", status, self.answer)
-            words = held.reference, self.to_answers, octets, self.of_file, b"", NONE, NO, YES if sha1 else NO
             with held.lock:
-                status = self.calls.check(*words, *self.ready)
+                status = calls.check(
+                    held.reference, list_of_answers, octets, self.of_file, b"", NONE, NO, allowed, room, size, length, numbers
+                )
         finally:
-            self.calls.free(self.to_answers)
-        length = self.length.value
-        if status in JUDGED and length <= self.size:
-            return said_of(status, self.answer, cast(bytes, self.text[:length]))
+            calls.free(list_of_answers)
+        written = self.length.value
+        if status in JUDGED and written <= self.size:
+            return said_of(status, self.answer, cast(bytes, self.text[:written]))
         status, line = self.checked(trust, of_bytes(octets), (b"", 0, False, sha1), answers)
         return said_of(status, self.answer, line)
 
@@ -205,28 +210,28 @@ def check_several(
     own, found = room(), cast("list[Union[Said, Exception, None]]", [None] * len(files))
     octets = [one if type(one) is bytes else bytes(one) for one in files]
     texts = [b""] * len(octets)
-
-    def asked(number: int) -> None:
-        texts[number] = text = own.asked_short(trust, octets[number])
-        # (of one that is long not more than one is kept)
-        if len(text) > LONG:
-            texts[number] = b""
-            found[number] = own.said(trust, octets[number], verifiers[number].answers(text), sha1)
-
-    def answered(number: int) -> None:
-        texts[number] = answers_to(texts[number], verifiers[number])
-
-    def checked(number: int) -> None:
-        found[number] = own.said(trust, octets[number], texts[number], sha1)
-
     try:
-        for step in (asked, answered, checked):
-            for number in range(len(octets)):
-                if found[number] is None:
-                    try:
-                        step(number)
-                    except Exception as error:
-                        found[number] = error
+        for number, one in enumerate(octets):
+            try:
+                text = own.asked_short(trust, one)
+                if len(text) <= LONG:
+                    texts[number] = text
+                else:  # of one that is long not more than one is kept
+                    found[number] = own.said(trust, one, verifiers[number].answers(text), sha1)
+            except Exception as error:
+                found[number] = error
+        for number, text in enumerate(texts):
+            if found[number] is None:
+                try:
+                    texts[number] = answers_to(text, verifiers[number])
+                except Exception as error:
+                    found[number] = error
+        for number, one in enumerate(octets):
+            if found[number] is None:
+                try:
+                    found[number] = own.said(trust, one, texts[number], sha1)
+                except Exception as error:
+                    found[number] = error
     finally:
         give_back(own)
     return cast("list[Union[Said, Exception]]", found)

@@ -99,8 +99,9 @@ class Straight(NamedTuple):
 
 @lru_cache(maxsize=None)
 def straight() -> Straight:
-    """The calls by which short files are checked: those of the library that is loaded, also where its file is another one by now."""
-    loaded = ctypes.CDLL(library()._name, handle=library()._handle)
+    """The calls by which short files are checked: those of the library that is loaded, also where its file is another one by now. (No
+    other thread of Python runs meanwhile: to let it, and to wait for it, takes longer than it could do in that time.)"""
+    loaded = ctypes.PyDLL(library()._name, handle=library()._handle)
     calls = Straight(
         loaded.cmsproof_questions, loaded.cmsproof_check, loaded.cmsproof_answers_read, loaded.cmsproof_answers_free
     )

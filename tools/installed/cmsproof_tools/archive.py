@@ -31,8 +31,8 @@ if TYPE_CHECKING:
 MANY = 50_000
 # where descriptors have names
 PLACES = ("/dev/", "/proc/")
-# what is read for files that are not accepted, or for a state
-READ = ("kinds", "lines", "recording")
+# what is read for files that are not accepted
+READ = ("kinds", "lines")
 
 
 def last_line(trust: str, trusted: bytes, resume: Resume | None, known: Known | None, count: int, worst: int) -> str:
@@ -309,7 +309,8 @@ def judged(tool: str, given: Any, parser: Words) -> int:
     if not names and (given.only is None or given.trust is None):
         parser.error("no file is named")
     # (what each worker would read is read once)
-    beside = [*(["stamping"] if given.stamps else []), *(["evidencing"] if records is not None else [])]
+    beside = [*(["recording"] if given.state is not None else []), *(["stamping"] if given.stamps else [])]
+    beside += ["evidencing"] if records is not None else []
     beside += ["explaining_records"] if given.explain and records is not None else []
     more = [*(["explaining", "cures"] if given.explain else []), *beside]
     for name in (*(READ if len(names) > 1 else []), *more):

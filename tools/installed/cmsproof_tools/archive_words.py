@@ -192,8 +192,8 @@ def command_of(words: list[str]) -> str | None:
         return "report"
     if words[:1] == ["due"] and asked & {"--months", "--by", "--help", "-h"}:
         return "due"
-    if words[:1] == ["stamp"] and asked & {"--tsa", "--help", "-h"}:
-        return "stamp"
+    if words[:1] in (["stamp"], ["renew"]) and asked & {"--tsa", "--help", "-h"}:
+        return words[0]
     return "evidence" if words[:1] == ["evidence"] and asked & {"--to", "--verify", "--help", "-h"} else None
 
 

@@ -1,7 +1,8 @@
-"""How `cmsproof-archive stamp` goes on: a batch of files, whose digests one time-stamp is over, from the digests to the records.
+"""What `cmsproof-archive stamp` and `renew` do alike: a state with batches, each of which gets one time-stamp; the program, which makes what is
+kept; and the answer of an authority, which is judged before it is kept.
 
-A batch is a folder in the state, whose name is a number. What stands in it was put there whole, in this order: `sums`, the digests;
-`request.tsq`, before it is sent; `response.tsr` and `token.tok`, once they are judged; `done`. So a run goes on behind what is there.
+A batch is a folder in the state, whose name is a number. What stands in it was put there whole: `terms.json`, what it is of; `request.tsq`,
+before it is sent; `response.tsr` and `token.tok`, once they are judged; `done`. So a run goes on behind what is there.
 """
 from __future__ import annotations
 
@@ -13,31 +14,28 @@ import os
 import re
 import shutil
 import signal
+import stat
 import subprocess
 import sys
 import time
-from contextlib import ExitStack, contextmanager, suppress
-from typing import Any, Iterator, NamedTuple, Optional, Sequence
+from contextlib import contextmanager, suppress
+from typing import Any, Callable, Iterator, NamedTuple
 from urllib.parse import SplitResult
 
 import cmsproof
-from cmsproof_tools import authority, summing
-from cmsproof_tools.evidenced import ENDING, NOTHING, first_ends, records_in
-from cmsproof_tools.folders import files_under
+from cmsproof_tools import authority
+from cmsproof_tools.evidenced import first_ends
 from cmsproof_tools.lasting import VERSION_1, By, Unjudged, end_of, sequence
-from cmsproof_tools.progress import Progress
 from cmsproof_tools.rows import time_text
-from cmsproof_tools.running import DONE, FAILED, MALFORMED, REFUSED, USAGE, Started, Stop
-from cmsproof_tools.running import module, one_line, shown, tell, write
+from cmsproof_tools.running import FAILED, MALFORMED, REFUSED, USAGE, Stop
+from cmsproof_tools.running import one_line, shown, tell, write
 from cmsproof_tools.signed_parts import certificates_of, parts_of, time_in, tst_fields
-from cmsproof_tools.state import told
-from cmsproof_tools.summing import Names, Summed, Sums
 from cmsproof_tools.texts import in_order, is_moment
-from cmsproof_tools.workers import LIBRARY, PR_SET_PDEATHSIG, Workers
-from cmsproof_tools.writing import written
+from cmsproof_tools.workers import LIBRARY, PR_SET_PDEATHSIG
 
-SUMS, REQUEST, RESPONSE, TOKEN, DONE_FILE, TERMS = "sums", "request.tsq", "response.tsr", "token.tok", "done", "terms.json"
+REQUEST, RESPONSE, TOKEN, DONE_FILE, TERMS = "request.tsq", "response.tsr", "token.tok", "done", "terms.json"
 NEW = ".new"
+READING = os.O_RDONLY | os.O_NOFOLLOW | os.O_CLOEXEC
 # how many seconds two clocks may be apart without a word
 APART = 300
 # an AlgorithmIdentifier, which each record has one of at least
@@ -65,17 +63,45 @@ class Batch(NamedTuple):
         return os.path.lexists(self.place(name))
 
     def read(self, name: str) -> bytes:
-        """The octets of a file in it. Raises Stop, with a line, where it cannot be read."""
+        """The octets of a file in it. Raises Stop, with a line, where it cannot be read, as a link."""
         try:
-            with open(self.place(name), "rb") as file:
+            with open(os.open(self.place(name), READING), "rb") as file:
                 return file.read()
         except OSError as error:
             raise Stop(FAILED, f"failed read {shown(self.place(name))}: {error.strerror}") from error
 
     def put(self, name: str, octets: bytes) -> None:
-        """Puts a file into it, whole or not at all."""
+        """Puts a file into it, whole or not at all, and through no link."""
+        if os.path.islink(self.place(name)):
+            raise Stop(FAILED, f"failed write {shown(self.place(name))}: it is a link")
         write(self.place(name), octets)
         sync(self.path)
+
+    def remove(self, name: str) -> None:
+        """Removes a file of it, if it is there. Raises Stop, with a line, where that fails."""
+        try:
+            os.unlink(self.place(name))
+        except FileNotFoundError:
+            pass
+        except OSError as error:
+            raise Stop(FAILED, f"failed write {shown(self.place(name))}: {error.strerror}") from error
+
+    def begun_with(self) -> dict[str, str]:
+        """The terms that it was begun with. Raises Stop, with a line, where they cannot be read."""
+        try:
+            found = json.loads(self.read(TERMS))
+        except (ValueError, RecursionError):
+            found = None
+        if not isinstance(found, dict) or not all(isinstance(one, str) for one in found.values()):
+            raise Stop(FAILED, f"failed state {shown(self.place(TERMS))}: it is damaged")
+        return found
+
+    def sweep(self, name: str) -> None:
+        """Removes what is left of a file of many octets that a run was writing when it was killed."""
+        with suppress(OSError):
+            for one in os.listdir(self.path):
+                if one.startswith(f".{name}."):
+                    os.unlink(self.place(one))
 
 
 def sync(folder: str) -> None:
@@ -148,154 +174,20 @@ def numbers_in(state: str) -> list[int]:
         raise Stop(FAILED, f"failed open {shown(state)}: {error.strerror}") from error
 
 
-def terms_of(given: Any) -> dict[str, str]:
-    """What a batch is of: the archive's folder, the digest algorithm, and the policy."""
-    return {"folder": os.path.realpath(given.folder), "alg": given.alg, "policy": given.policy or ""}
-
-
-def sweep(batch: Batch) -> None:
-    """Removes what is left of digests that a run was writing when it was killed, which are many octets."""
-    with suppress(OSError):
-        for name in os.listdir(batch.path):
-            if name.startswith(f".{SUMS}."):
-                os.unlink(batch.place(name))
-
-
-def batch_in(given: Any) -> Batch:
-    """The batch that is to be gone on with, or a new one. Ends the tool where it is one of other words."""
-    numbers, terms = numbers_in(given.state), terms_of(given)
-    last = Batch(os.path.join(given.state, str(numbers[-1] if numbers else 1)), terms)
+def last_in(state: str, terms: dict[str, str], key: str) -> Batch:
+    """The last batch in a state, if it is not done, or a new one. Ends the tool where it is one of another command, whose terms have not
+    this key."""
+    numbers = numbers_in(state)
+    last = Batch(os.path.join(state, str(numbers[-1] if numbers else 1)), terms)
     if last.has(DONE_FILE):
-        last = Batch(os.path.join(given.state, str(numbers[-1] + 1)), terms)
+        last = Batch(os.path.join(state, str(numbers[-1] + 1)), terms)
     made(last.path)
-    sync(given.state)
-    if not last.has(SUMS):
-        sweep(last)
-        last.put(TERMS, json.dumps(terms).encode() + b"\n")
-        return last
-    try:
-        begun = json.loads(last.read(TERMS))
-    except ValueError as error:
-        raise Stop(FAILED, f"failed state {shown(last.place(TERMS))}: it is damaged") from error
-    if begun != terms:
-        where = shown(last.path)
-        raise Stop(USAGE, f"{where} is a batch of another FOLDER, --alg or --policy: go on with that, or remove it")
+    if not stat.S_ISDIR(os.lstat(last.path).st_mode):
+        raise Stop(FAILED, f"failed state {shown(last.path)}: it is a link")
+    sync(state)
+    if last.has(TERMS) and key not in last.begun_with():
+        raise Stop(USAGE, f"{shown(last.path)} is a batch of another command: name another --state")
     return last
-
-
-# ---- the digests
-
-
-def files_of(tool: str, given: Any) -> Iterator[str]:
-    """The names of the regular files under the archive's folder, below that. What is none has a line."""
-    top = os.path.join(given.folder, "")
-
-    def skip(name: str, kind: str) -> None:
-        tell(tool, f"{shown(name)}: skipped: it is {kind}")
-
-    for name in files_under(top, skip):
-        if name == top or not name.startswith(top):
-            raise Stop(FAILED, f"failed open {shown(given.folder)}")
-        yield name[len(top) :]
-
-
-def in_the_way(place: str) -> str:
-    """Why nothing can be put in a place where nothing is, "" if it can."""
-    try:
-        os.lstat(place)
-    except FileNotFoundError:
-        pass
-    except NotADirectoryError:
-        return "a file is in the place of its record's folder"
-    except OSError as error:
-        return f"its record would have no place: {error.strerror}"
-    return ""
-
-
-def named(tool: str, given: Any) -> list[str]:
-    """The names of the files that have no record. Ends the tool, before anything is sent, where one can have none."""
-    records, fit = records_in(given.into, given.folder), Names(given.into)
-    names, faults, kept = list[str](), 0, 0
-    for name in files_of(tool, given):
-        place = os.path.join(given.into, name + ENDING)
-        fault, lacking = fit.fault(name), records.lacking(place)
-        if lacking == "":
-            kept += 1
-            continue
-        if not fault:
-            fault = in_the_way(place) if lacking == NOTHING else f"in the place of its record is {lacking}"
-        if fault:
-            faults += 1
-            tell(tool, f"{shown(os.path.join(given.folder, name))}: it can have no record: {fault}")
-        else:
-            names.append(name)
-    for name in fit.clashing(names):
-        faults += 1
-        tell(tool, f"{shown(os.path.join(given.folder, name))}: it can have no record: a folder is in its place")
-    if kept:
-        tell(tool, f"{kept} files have a record already, which is not looked at")
-    if faults:
-        raise Stop(REFUSED, f"{faults} files can have no record: nothing was sent")
-    return names
-
-
-def summed_all(tool: str, given: Any, top: int, sums: Sums, names: Sequence[str]) -> int:
-    """Computes the digests that are not known, and answers how many files could not be read, which are named."""
-    due, faults = sums.due(top, names), 0
-    progress = Progress(tool, len(due), given.progress)
-
-    def lost(_: str, by: int) -> Summed:
-        return Summed("", False, b"", f"its worker was ended by signal {by}")
-
-    due_names = module("names").kept(due) if due else due
-    with Workers(min(given.jobs, len(due)), lambda name: summing.summed(top, given.alg, name)) as workers:
-        for name, one in zip(due_names, workers.results(due_names, lost)):
-            if one.fault:
-                faults += 1
-                progress.put("")
-                tell(tool, f"{shown(os.path.join(given.folder, name))}: {one.fault}")
-            else:
-                sums.put(name, one)
-            progress.steps(["unread" if one.fault else "summed"])
-    progress.end()
-    with told(sums.path):
-        sums.commit()
-    return faults
-
-
-def write_sums(tool: str, given: Any, batch: Batch, top: int, sums: Sums, names: Sequence[str]) -> None:
-    """Writes the digests of all files, each of which is as it was when its digest was computed. Ends the tool where one is not."""
-    changed = 0
-    try:
-        with written(batch.place(SUMS), Started.descriptors) as file:
-            for name in names:
-                kept = sums.of_file(name)
-                if kept is None or kept.mark != summing.mark_below(top, name):
-                    changed += 1
-                    tell(tool, f"{shown(os.path.join(given.folder, name))}: it was changed while the others were read")
-                else:
-                    file.write(summing.line_of(name, kept.digest))
-            if changed:
-                raise Stop(FAILED, f"{changed} files were changed: nothing was sent; run this again")
-    except OSError as error:
-        raise Stop(FAILED, f"failed write {shown(batch.place(SUMS))}: {error.strerror}") from error
-    sync(batch.path)
-
-
-def begin(tool: str, given: Any, batch: Batch, top: int) -> bool:
-    """Writes the digests of the files that have no record, and answers whether there is one."""
-    names = named(tool, given)
-    if not names:
-        return False
-    check_writable(given.into)
-    with Sums(os.path.join(given.state, "sums.db"), given.alg) as sums:
-        if faults := summed_all(tool, given, top, sums, names):
-            raise Stop(FAILED, f"{faults} files could not be read: nothing was sent; run this again")
-        write_sums(tool, given, batch, top, sums, names)
-    return True
-
-
-# ---- the request, the answer and the records
 
 
 def program_of(given: Any) -> str:
@@ -321,9 +213,15 @@ def line_of(said: bytes) -> str:
     return found[1] + shown(found[2]) if found else text.partition("\n")[0]
 
 
-def run_program(given: Any, batch: Batch, *words: str) -> None:
-    """Runs a command of the program in the folder of a batch. Ends the tool with its line and status where it does not succeed."""
+def run_program(given: Any, batch: Batch, *words: str, prepare: Callable[[], None] = lambda: None) -> None:
+    """Runs a command of the program in the folder of a batch, which `prepare` makes ready in the process of its own. Ends the tool with its
+    line and status where it does not succeed."""
     program, parent = program_of(given), os.getpid()
+
+    def ready() -> None:
+        end_with(parent)
+        prepare()
+
     try:
         done = subprocess.run(
             [program, "evidence", *words],
@@ -331,7 +229,7 @@ def run_program(given: Any, batch: Batch, *words: str) -> None:
             stdin=subprocess.DEVNULL,
             capture_output=True,
             check=False,
-            preexec_fn=lambda: end_with(parent),
+            preexec_fn=ready,
         )
     except (OSError, subprocess.SubprocessError) as error:
         raise Stop(FAILED, f"failed run {shown(program)}: {getattr(error, 'strerror', None) or error}") from error
@@ -340,14 +238,6 @@ def run_program(given: Any, batch: Batch, *words: str) -> None:
     line = line_of(done.stdout + done.stderr) or f"it ended with status {done.returncode}"
     status = done.returncode if done.returncode in (REFUSED, MALFORMED, FAILED) else FAILED
     raise Stop(status, f"cmsproof evidence {words[0]}: {line}")
-
-
-def ask(given: Any, batch: Batch) -> None:
-    """Makes the request, with a number that the answer must repeat."""
-    nonce = POSITIVE + os.urandom(CHOSEN).hex()
-    policy = ["--policy", given.policy] if given.policy else []
-    run_program(given, batch, "request", "--alg", given.alg, *policy, "--nonce", nonce, "--cert", SUMS, REQUEST + NEW)
-    put_in_place(batch, REQUEST)
 
 
 def put_in_place(batch: Batch, name: str) -> None:
@@ -403,20 +293,29 @@ def own_list(token: bytes) -> cmsproof.TrustList:
     return cmsproof.TrustList(b"".join([b"cmsproof trust 2\n", *(b"tsa - - %s\n" % one.hex().encode() for one in read)]))
 
 
+def later_of(first: str, second: str) -> str:
+    """The later of two moments; what is no moment is none."""
+    return second if not is_moment(first) or (is_moment(second) and in_order(first, second)) else first
+
+
+def served_until(given: Any, trust: Any, token: bytes, moment: str) -> str:
+    """The last moment at which a token serves, by a trust list and the ends of algorithms. Ends the tool where it counts under no authority,
+    or is later than a moment. (That it is over the root its request says, and the program compares it with that.)"""
+    record = sequence(VERSION_1, sequence(SHA_256), sequence(sequence(sequence(token))))
+    try:
+        return end_of(record, By(trust, dict(first_ends(given.end)), moment))
+    except Unjudged as error:
+        raise Stop(error.status, f"the token of the authority: {error}") from error
+
+
 def judge(tool: str, given: Any, trust: Any, token: bytes) -> None:
-    """Ends the tool where a token counts under no authority of the trust list, or its algorithms or its authority have ended. (That it is over
-    the root its request says, and the program compares it with that.)"""
+    """Ends the tool where a token counts under no authority of the trust list, or its algorithms or its authority have ended."""
     if trust is None:
         tell(tool, "no --trust: nobody looked whose time-stamp it is")
         trust = own_list(token)
-    record = sequence(VERSION_1, sequence(SHA_256), sequence(sequence(sequence(token))))
     # (of two clocks one is ahead)
-    now, said = int(time.time()), time_of(token)
-    moment = said if is_moment(said) and in_order(time_text(now), said) else time_text(now)
-    try:
-        end = end_of(record, By(trust, dict(first_ends(given.end)), moment))
-    except Unjudged as error:
-        raise Stop(error.status, f"the token of the authority: {error}") from error
+    moment = later_of(time_text(int(time.time())), time_of(token))
+    end = served_until(given, trust, token, moment)
     if not in_order(moment, end):
         raise Stop(REFUSED, f"the token of the authority: it served until {end} alone")
 
@@ -428,13 +327,13 @@ def tell_where_apart(tool: str, token: bytes) -> None:
         tell(tool, f"the token of the authority says {said}, and the clock here {time_text(now)}")
 
 
-def answered(tool: str, given: Any, batch: Batch, address: SplitResult, trust: Any) -> str:
-    """Has the token of the batch there, and answers its time. What is kept was judged."""
+def answered(tool: str, given: Any, batch: Batch, address: SplitResult, judged: Callable[[bytes], None]) -> str:
+    """Has the token of the batch there, and answers its time. What is kept was judged, and is judged again."""
     is_kept, request = batch.has(RESPONSE), request_in(batch)
     response = batch.read(RESPONSE) if is_kept else authority.answer_to(request, address, given.timeout)
     try:
         token = token_in(batch, response)
-        judge(tool, given, trust, token)
+        judged(token)
     except Stop as stop:
         place = f"; it is kept as {shown(batch.place(RESPONSE))}: remove that to ask again" if is_kept else ""
         raise Stop(stop.status, stop.line + place) from stop
@@ -443,61 +342,3 @@ def answered(tool: str, given: Any, batch: Batch, address: SplitResult, trust: A
         batch.put(RESPONSE, response)
     batch.put(TOKEN, token)
     return time_of(token)
-
-
-def is_as_it_was(top: int, algorithm: str, line: bytes, kept: Optional[Summed]) -> bool:
-    """Whether the file of a line of digests is as it was. It is read again where nothing says so, as if it had just been changed when it was
-    read: it may have been changed once more within the same tick of the file system's clock."""
-    name = summing.name_in(line)
-    if kept is not None and kept.steady and kept.mark == summing.mark_below(top, name):
-        if line == summing.line_of(name, kept.digest):
-            return True
-    return line == summing.line_of(name, summing.summed(top, algorithm, name).digest)
-
-
-def changed_since(tool: str, given: Any, batch: Batch, top: int) -> int:
-    """Names the files of a batch that were changed since their digests were computed, or are gone, and answers how many they are."""
-    found = 0
-    with Sums(os.path.join(given.state, "sums.db"), given.alg) as sums, open(batch.place(SUMS), "rb") as lines:
-        for line in lines:
-            name = summing.name_in(line)
-            if not is_as_it_was(top, given.alg, line, sums.of_file(name)):
-                found += 1
-                tell(tool, f"{shown(os.path.join(given.folder, name))}: it was changed since: its record is of what it was")
-    return found
-
-
-def finish(tool: str, given: Any, batch: Batch, top: int, address: SplitResult, trust: Any) -> int:
-    """Goes on from the digests to the records, and answers the exit status."""
-    check_writable(given.into)
-    if not batch.has(REQUEST):
-        ask(given, batch)
-    moment = answered(tool, given, batch, address, trust)
-    run_program(given, batch, "make", "--alg", given.alg, "--token", TOKEN, "--into", os.path.abspath(given.into), SUMS)
-    with open(batch.place(SUMS), "rb") as lines:
-        count = sum(1 for _ in lines)
-    changed = changed_since(tool, given, batch, top)
-    settle(given.into)
-    batch.put(DONE_FILE, b"")
-    write("-", f"{shown(given.folder)}: {count} records of {one_line(moment)}\n".encode())
-    return REFUSED if changed else DONE
-
-
-def run(tool: str, given: Any, address: SplitResult) -> int:
-    """Has the files of an archive stamped, and answers the exit status."""
-    trust = None if given.trust is None else module("archive").trust_list(given.trust, False)
-    program_of(given)
-    for folder in (given.state, given.into):
-        made(folder)
-    with ExitStack() as stack:
-        stack.enter_context(held(given.state))
-        try:
-            top = os.open(given.folder, os.O_RDONLY | os.O_DIRECTORY | os.O_CLOEXEC)
-        except OSError as error:
-            raise Stop(FAILED, f"failed open {shown(given.folder)}: {error.strerror}") from error
-        stack.callback(os.close, top)
-        batch = batch_in(given)
-        if not batch.has(SUMS) and not begin(tool, given, batch, top):
-            write("-", f"{shown(given.folder)}: no file is without a record\n".encode())
-            return DONE
-        return finish(tool, given, batch, top, address, trust)

@@ -70,15 +70,15 @@ class Judge(Vouching):
 
     def answers(self, text: bytes) -> bytes:
         """The answers list for a questions text."""
-        fault_in = module("verifying").fault_in
+        fault_in, vouched = module("verifying").fault_in, self.vouched
         for line in lines_asked(text):
             self.asked += 1
             fault = fault_in(line)
             if fault is None:
-                self.vouched.append(line)
+                vouched.append(line)
             else:
                 self.faults.append(fault)
-        return answers_of(self.vouched)
+        return answers_of(vouched)
 
 
 def unread(name: str, error: OSError) -> Unread:
@@ -331,21 +331,11 @@ def outcome_by(
     if found.kind != RECORD and (other := again_in_der(found, verdict.code)) is not None:
         return outcome_of(work, reading, other, name)
     line = verdict.line.replace("accepted ", SAID[found.kind], 1) if found.kind in SAID else verdict.line
-    said = Outcome(
-        name,
-        STATUSES[verdict.verdict],
-        line,
-        judge.asked,
-        tuple(judge.faults),
-        part=found.part,
-        notes=found.notes,
-        container=found.container,
-        converted=found.converted,
-        covers=found.covers,
-        content="" if beside is None else beside.name,
-        record=None if work.noting is None else Draft(reading, found, content, verdict.line, judge.vouched),
-    )
-    return explained(work, said, found)
+    status, faults, named = STATUSES[verdict.verdict], tuple(judge.faults), "" if beside is None else beside.name
+    record = None if work.noting is None else Draft(reading, found, content, verdict.line, judge.vouched)
+    part, notes, how = found.part, found.notes, (found.container, found.converted, found.covers)
+    said = Outcome(name, status, line, judge.asked, faults, "", "", part, notes, *how, named, "", "", record)
+    return said if status == DONE else explained(work, said, found)
 
 
 def told(work: Work, name: str, outcomes: list[Outcome]) -> list[Outcome]:
@@ -419,7 +409,10 @@ def short(work: Work, name: str) -> Union[Reading, None]:
             return None
         begun = time_ns()
         read = descriptors.copied(name, SHORT)
-        return None if read is None or work.pairs.content_of(name) is not None else Reading(Copy(name, *read), None, begun)
+        if read is None or work.pairs.content_of(name) is not None:
+            return None
+        found, octets = read
+        return Reading(Copy(name, found, octets), None, begun)
     except Exception:
         return None
 
@@ -456,7 +449,10 @@ def outcomes_of_several(work: Work, names: list[str]) -> list[list[Outcome]]:
         try:
             if isinstance(verdict, Exception):
                 raise verdict
-            said.append(all_said(work, name, reading, [outcome_by(work, reading, found, judge, verdict, name)]))
+            one = outcome_by(work, reading, found, judge, verdict, name)
+            # (of a signed file by itself that is accepted nothing else is told, and its record may wait)
+            is_usual = one.status == DONE and not one.container
+            said.append([one] if is_usual else all_said(work, name, reading, [one]))
         except Exception as error:
             said.append([failed(name, error)])
     return said

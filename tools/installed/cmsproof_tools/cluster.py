@@ -17,7 +17,7 @@ from cmsproof_tools.pairs import USUAL, Pairs
 from cmsproof_tools.rows import Noting, keys_of
 from cmsproof_tools.running import FAILED, Stop, shown, tell
 from cmsproof_tools.versions import versions_text
-from cmsproof_tools.workers import MOST, TOGETHER
+from cmsproof_tools.workers import MOST
 
 # how many files are handed out at a time, at least and at most, and for how many seconds; how many such parts for each worker, and how
 # many seconds without one are waited
@@ -87,8 +87,8 @@ def judge(names: list[str], trusted: bytes, terms: Terms, contents: frozenset[st
     inside = frozenset(os.path.join(terms.folder, name) for name in contents)
     work = work_of(trusted, terms)._replace(contents=inside)
     named: list[list[Outcome]] = []
-    for at in range(0, len(names), TOGETHER):
-        group = names[at : at + TOGETHER]
+    for at in range(0, len(names), MOST):
+        group = names[at : at + MOST]
         found = all_noted(work, outcomes_of_several(work, [os.path.join(terms.folder, name) for name in group]))
         named += [[as_named(outcome, name, terms.folder) for outcome in outcomes] for name, outcomes in zip(group, found)]
     return Part(trust, versions, named, time.monotonic() - begun)

@@ -18,6 +18,8 @@ NULL_DEVICE = os.makedev(1, 3)
 # where a process has its own descriptors; how a file is reached that is not opened for reading yet, and how it is then
 OWN = "/proc/self/fd/"
 REACHING, READING = os.O_PATH | os.O_CLOEXEC, os.O_RDONLY | os.O_CLOEXEC
+# how a file is opened that was a regular one a moment before: so that nothing waits for whatever is there now
+AT_ONCE = READING | os.O_NONBLOCK | os.O_NOCTTY
 STANDARD = ("stdin", "stdout", "stderr")
 # the copies that were made, by the number of the descriptor: what is named twice is the same
 COPIES: dict[int, int] = {}
@@ -131,24 +133,20 @@ def reached(path: str) -> int:
 
 def copied(path: str, most: int) -> tuple[os.stat_result, bytes] | None:
     """What is said of the regular file of this name, and all its octets, if they are at most so many; None of any other, and of one that
-    is changed meanwhile. It is reached as by `reached_as`. (This is called for each file of an archive, and calls as little as it can.)
-    """
-    descriptor = os.open(path, REACHING)
-    try:
-        found = os.fstat(descriptor)
-        size = found.st_size
-        if size > most or not stat.S_ISREG(found.st_mode):
-            return None
-        reading = os.open(f"{OWN}{descriptor}", READING)
-    finally:
-        os.close(descriptor)
+    is changed meanwhile. Nothing else is opened: what takes the file's place in between is not waited for, and is seen by its number.
+    (This is called for each file of an archive, and calls as little as it can.)"""
+    was = os.stat(path)
+    size = was.st_size
+    if size > most or not stat.S_ISREG(was.st_mode):
+        return None
+    reading = os.open(path, AT_ONCE)
     try:
         octets = os.read(reading, size + 1)
-        now = os.fstat(reading)
+        found = os.fstat(reading)
     finally:
         os.close(reading)
-    is_same = len(octets) == size == now.st_size
-    if is_same and now.st_mtime_ns == found.st_mtime_ns and now.st_ctime_ns == found.st_ctime_ns:
+    is_same = len(octets) == size == found.st_size and found.st_ino == was.st_ino and found.st_dev == was.st_dev
+    if is_same and found.st_mtime_ns == was.st_mtime_ns and found.st_ctime_ns == was.st_ctime_ns:
         return found, octets
     return None
 

@@ -8,7 +8,7 @@ import time
 from calendar import monthrange
 from collections import Counter
 from functools import partial
-from typing import Any, NamedTuple, Sequence, Union
+from typing import TYPE_CHECKING, Any, Callable, NamedTuple, Sequence, TypeVar
 
 from cmsproof_tools.archive_words import add_ends, jobs_of, time_of
 from cmsproof_tools.evidenced import ENDING, first_ends
@@ -17,6 +17,9 @@ from cmsproof_tools.pairs import is_regular
 from cmsproof_tools.progress import Progress
 from cmsproof_tools.running import DONE, FAILED, REFUSED, Words, module, one_line, shown, tell, write
 from cmsproof_tools.texts import in_order
+
+if TYPE_CHECKING:
+    from cmsproof.octets import Buffer
 
 ABOUT = """Lists the evidence records (RFC 4998) that must be renewed by a moment: those whose last time-stamp does not serve until then, since
 its authority's certificate or entry in the trust list ends before, or a digest algorithm does.
@@ -36,6 +39,7 @@ Exit status: 0 none is due; 1 one is; 2 one is malformed, or the trust list is; 
 """
 # the last year that a moment has
 LAST_YEAR = 9999
+Said = TypeVar("Said")
 
 
 class Told(NamedTuple):
@@ -53,13 +57,18 @@ def months_of(text: str) -> int:
     return int(text)
 
 
-def parser_of(tool: str) -> Words:
-    """The parser of the words."""
-    parser = Words(tool, description=ABOUT)
+def add_moment(parser: Words) -> None:
+    """The words by which records are due."""
     parser.add_argument("--trust", required=True, metavar="LIST", help="the trust list, which is read once")
     parser.add_argument("--months", type=months_of, metavar="N", help="those that are due within so many months from now")
     parser.add_argument("--by", type=time_of, metavar="TIME", help="those that are due by this moment")
     add_ends(parser, "")
+
+
+def parser_of(tool: str) -> Words:
+    """The parser of the words."""
+    parser = Words(tool, description=ABOUT)
+    add_moment(parser)
     jobs = "records that are judged at a time; as many as there are processors by default"
     parser.add_argument("--jobs", type=jobs_of, default=len(os.sched_getaffinity(0)), metavar="N", help=jobs)
     json_help = "a line of JSON for each record that is due, and a last one about all"
@@ -91,11 +100,11 @@ class Named(NamedTuple):
     others: int
 
 
-def records_named(tool: str, given: Any) -> Named:
-    """The records that the words name, and those in folders."""
+def named_under(tool: str, folder: str, found: Named) -> int:
+    """Adds the records under a folder to those that were named, and answers how many other files are there."""
     from cmsproof_tools.folders import files_under
 
-    archive, found, others = module("archive"), Named([], {}, 0), 0
+    before, others = len(found.names), 0
 
     def skip(name: str, kind: str) -> None:
         if name.endswith(ENDING):
@@ -104,19 +113,25 @@ def records_named(tool: str, given: Any) -> Named:
         else:
             tell(tool, f"{shown(name)}: skipped: it is {kind}")
 
+    for below in files_under(folder, skip):
+        # (what cannot be looked into is no regular file)
+        if below.endswith(ENDING) or not is_regular(below):
+            found.names.append(below)
+        else:
+            others += 1
+    if len(found.names) == before:
+        tell(tool, f"{shown(folder)}: no record is in it")
+    return others
+
+
+def records_named(tool: str, given: Any) -> Named:
+    """The records that the words name, and those in folders."""
+    archive, found, others = module("archive"), Named([], {}, 0), 0
     for name in given.files:
         if name == "-" or name.startswith(archive.PLACES) or not os.path.isdir(name):
             found.names.extend(archive.names_in("-", given.null) if name == "-" else [name])
-            continue
-        before = len(found.names)
-        for below in files_under(name, skip):
-            # (what cannot be looked into is no regular file)
-            if below.endswith(ENDING) or not is_regular(below):
-                found.names.append(below)
-            else:
-                others += 1
-        if len(found.names) == before:
-            tell(tool, f"{shown(name)}: no record is in it")
+        else:
+            others += named_under(tool, name, found)
     found.names.extend(name for path in given.files_from for name in archive.names_in(path, given.null))
     return found._replace(others=others)
 
@@ -130,22 +145,31 @@ def line_of(name: str, status: int, at: str, reason: str, is_json: bool) -> byte
     return json.dumps(said).encode() + b"\n"
 
 
-def judged(by: Any, unfit: dict[str, str], is_json: bool, name: str) -> Told:
-    """What is said of a record."""
+def said_of(unfit: dict[str, str], name: str, judge: Callable[[Buffer], Said]) -> Said:
+    """What is said of the octets of a record. Raises Unjudged, with the status and the reason, where nothing can be said."""
     lasting, checking = module("lasting"), module("checking")
     try:
         if name in unfit:
             raise lasting.Unjudged(FAILED, f"it is {unfit[name]}, and is not read")
         with checking.opened(name) as file:
-            end = lasting.end_of(file.octets, by)
+            return judge(file.octets)
+    except lasting.Unjudged:
+        raise
+    except MemoryError as error:
+        raise lasting.Unjudged(FAILED, "failed memory") from error
+    except checking.Unread as error:
+        raise lasting.Unjudged(FAILED, str(error)) from error
+    except Exception as error:  # a fault of the tool itself
+        raise lasting.Unjudged(FAILED, f"failed due: {type(error).__name__}: {error}") from error
+
+
+def judged(by: Any, unfit: dict[str, str], is_json: bool, name: str) -> Told:
+    """What is said of a record."""
+    lasting = module("lasting")
+    try:
+        end = said_of(unfit, name, lambda octets: str(lasting.end_of(octets, by)))
     except lasting.Unjudged as error:
         return Told(["unjudged"], error.status, line_of(name, error.status, "now", str(error), is_json))
-    except MemoryError:
-        return failed(is_json, name, "failed memory")
-    except checking.Unread as error:
-        return failed(is_json, name, str(error))
-    except Exception as error:  # a fault of the tool itself
-        return failed(is_json, name, f"failed due: {type(error).__name__}: {error}")
     if in_order(by.moment, end):
         return Told(["lasting"], DONE, b"")
     return Told(["due"], REFUSED, line_of(name, REFUSED, end, "", is_json))
@@ -194,10 +218,10 @@ def counted(counts: Counter[str], moment: str, others: int) -> str:
     return text + (f"; {others} other files in the folders do not end in {ENDING}" if others else "")
 
 
-def moment_by(given: Any) -> Union[str, None]:
-    """The moment by which records are due; None where it is not said, or twice."""
+def moment_by(parser: Words, given: Any) -> str:
+    """The moment by which records are due. Ends the tool where it is not said, or twice."""
     if (given.months is None) is (given.by is None):
-        return None
+        parser.error("by when? --months N counts from now, --by TIME is a moment: say one of both")
     return given.by or months_on(time.time(), given.months)
 
 
@@ -205,9 +229,7 @@ def main(tool: str, words: list[str]) -> int:
     """Runs the tool with these words and answers its exit status."""
     parser = parser_of(tool)
     given = parser.parse_args(words)
-    moment = moment_by(given)
-    if moment is None:
-        parser.error("by when? --months N counts from now, --by TIME is a moment: say one of both")
+    moment = moment_by(parser, given)
     archive, lasting = module("archive"), module("lasting")
     by = lasting.By(archive.trust_list(given.trust, False), dict(first_ends(given.end)), moment)
     found = records_named(tool, given)

@@ -192,9 +192,9 @@ def opened(octets: Buffer, by: By) -> tuple[Last, tuple[Question, ...]]:
     return last, tuple(asked)
 
 
-def end_of(octets: Buffer, by: By) -> str:
-    """The last moment at which the last time-stamp of a record serves. Raises Unjudged where nobody can say it, or where it is made later than
-    the moment up to which it is to serve, which a check does not accept."""
+def last_and_end(octets: Buffer, by: By) -> tuple[Last, str]:
+    """The last time-stamp of a record, and the last moment at which it serves. Raises Unjudged where nobody can say it, or where it is made later
+    than the moment up to which it is to serve, which a check does not accept."""
     last, asked = opened(octets, by)
     found = by.under(last, asked)
     if not in_order(last.time, by.moment):
@@ -203,4 +203,9 @@ def end_of(octets: Buffer, by: By) -> str:
     lasts = found[0].period.last
     for entry in found:
         lasts = entry.period.last if in_order(lasts, entry.period.last) else lasts
-    return earliest([lasts, *ends])
+    return last, earliest([lasts, *ends])
+
+
+def end_of(octets: Buffer, by: By) -> str:
+    """The last moment at which the last time-stamp of a record serves. Raises Unjudged as `last_and_end`."""
+    return last_and_end(octets, by)[1]

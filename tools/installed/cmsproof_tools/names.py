@@ -37,7 +37,12 @@ class Names(Sequence[str]):
 
     def __getitem__(self, at: Any) -> Any:
         if isinstance(at, slice):
-            return [self[one] for one in range(*at.indices(self.size))]
+            first, last, step = at.indices(self.size)
+            if step != 1:
+                return [self[one] for one in range(first, last, step)]
+            blocks = range(first // BLOCK, -(-max(first, last) // BLOCK))
+            names = [name for number in blocks for name in self.block(number)]
+            return names[first - BLOCK * blocks.start : max(first, last) - BLOCK * blocks.start]
         place = range(self.size)[at]
         return self.block(place // BLOCK)[place % BLOCK]
 

@@ -125,9 +125,10 @@ class Resume:
         """What is said of each of these files, of some at a time. Its rows are kept once the next ones are asked for: what is kept has been
         printed."""
         left = iter(names)
+        keep = self.keep if self.is_elsewhere or self.recheck or self.work.stamps or self.alone else self.state.put_values
         for several in found:
             yield several
-            judged = int(time.time())
+            judged = (int(time.time()),)
             for _, _, _, _, kept_of_all, _ in several:
                 for kept, name in zip(kept_of_all, left):
-                    self.keep(name, [(*values, judged) for values in kept])
+                    keep(name, [values + judged for values in kept])

@@ -39,27 +39,32 @@ def seconds_of(text: str) -> float:
     return float(text)
 
 
-def parser_of(tool: str) -> Words:
-    """The parser of the words."""
-    parser = Words(tool, description=ABOUT)
+def add_authority(parser: Words) -> None:
+    """The words that say which authority is asked, and how, and where is kept what was done."""
     parser.add_argument("--tsa", required=True, metavar="URL", help="the address of the authority, http or https")
-    into = "the folder of the records, which is made if it is not there"
-    parser.add_argument("--into", required=True, metavar="DIR", help=into)
     state = "a folder with what was done so far, which is made if it is not there"
     parser.add_argument("--state", required=True, metavar="DIR", help=state)
-    parser.add_argument("--trust", metavar="LIST", help="the trust list that has the authority")
-    add_ends(parser, ", with --trust")
-    digest = "the digest algorithm, sha256 by default"
-    parser.add_argument("--alg", choices=ALGORITHMS, default="sha256", metavar="NAME", help=digest)
     parser.add_argument("--policy", metavar="OID", help="the policy under which the authority is asked to stamp")
     took = "how many seconds the authority may take, 60 by default"
     parser.add_argument("--timeout", type=seconds_of, default=60.0, metavar="N", help=took)
-    jobs = "files that are read at a time; as many as there are processors by default"
-    parser.add_argument("--jobs", type=jobs_of, default=len(os.sched_getaffinity(0)), metavar="N", help=jobs)
     program = "the program cmsproof, by default the one beside this tool or on PATH"
     parser.add_argument("--program", metavar="FILE", help=program)
     progress = "say how far the work is, also where standard error is not a terminal"
     parser.add_argument("--progress", action="store_true", help=progress)
+
+
+def parser_of(tool: str) -> Words:
+    """The parser of the words."""
+    parser = Words(tool, description=ABOUT)
+    into = "the folder of the records, which is made if it is not there"
+    parser.add_argument("--into", required=True, metavar="DIR", help=into)
+    add_authority(parser)
+    parser.add_argument("--trust", metavar="LIST", help="the trust list that has the authority")
+    add_ends(parser, ", with --trust")
+    digest = "the digest algorithm, sha256 by default"
+    parser.add_argument("--alg", choices=ALGORITHMS, default="sha256", metavar="NAME", help=digest)
+    jobs = "files that are read at a time; as many as there are processors by default"
+    parser.add_argument("--jobs", type=jobs_of, default=len(os.sched_getaffinity(0)), metavar="N", help=jobs)
     parser.add_argument("folder", metavar="FOLDER", help="the folder of the archive")
     return parser
 
@@ -97,5 +102,4 @@ def main(tool: str, words: list[str]) -> int:
     given = parser.parse_args(words)
     check_folders(parser, given)
     address = module("authority").address_of(given.tsa)
-    batches = module("batches")
-    return int(batches.run(tool, given, address))
+    return int(module("making").run(tool, given, address))

@@ -42,7 +42,7 @@ LONGEST = 1 << 28
 # what a file can be
 VERDICTS = running.VERDICTS
 # after how many files, and after how many seconds, rows are written for good: so few that no process waits for the next names
-FILES, SECONDS = 100, 1.0
+FILES, SECONDS = 400, 1.0
 # how many texts of grounds are known by their numbers: each evidence record can have its own
 MOST_GROUNDS = 10_000
 # none: octets are bound as `bytearray`, since sqlite3 looks for an adapter of each `bytes` (DECISIONS, 300)

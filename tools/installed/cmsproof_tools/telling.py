@@ -33,11 +33,13 @@ def told_of(outcomes: list[Outcome], line_of: Callable[[Outcome], str], is_kept:
     """What is said of a file by its outcomes, and for a state if one is kept; a content may have none."""
     if not outcomes:
         return b"", (), DONE, ["content"], [[]], []
-    ended = outcomes[0] if len(outcomes) == 1 else max(outcomes, key=lambda outcome: outcome.status)
+    said: tuple[str, ...] = ()
+    ended = outcomes[0]
+    if len(outcomes) > 1 or ended.faults or ended.kind or ended.notes:
+        ended, said = max(outcomes, key=lambda outcome: outcome.status), tuple(complaints(outcomes))
     lines = "".join([line_of(outcome) + "\n" for outcome in outcomes]).encode()
     rows = module("rows").values_of_all(outcomes) if is_kept else []
-    given = outcomes if is_known else []
-    return lines, tuple(complaints(outcomes)), ended.status, [ended.line.partition(" ")[0]], [rows], given
+    return lines, said, ended.status, [ended.line.partition(" ")[0]], [rows], outcomes if is_known else []
 
 
 def all_told(
@@ -51,9 +53,9 @@ def all_told(
 def joined(several: list[Told]) -> list[tuple[int, Told]]:
     """What is said of files one by one, said of many at a time where nothing must stand between, and of how many."""
     found: list[tuple[int, Told]] = []
-    begin = 0
+    begin, apart = 0, [is_apart(told) for told in several]
     for at in range(1, len(several) + 1):
-        if at == len(several) or at - begin == MOST or is_apart(several[at]) or is_apart(several[at - 1]):
+        if at == len(several) or at - begin == MOST or apart[at] or apart[at - 1]:
             lines, said, statuses, verdicts, rows, given = zip(*several[begin:at])
             told = b"".join(lines), said[0], max(statuses), list(chain(*verdicts)), list(chain(*rows)), given[0]
             found.append((at - begin, told))

@@ -20,9 +20,10 @@ LIBRARY = ctypes.CDLL(None, use_errno=True)
 # how many items a worker is handed at a time where there are many, and of how many characters; after how many seconds it says what
 # it has done of them. Two such groups fit into a pipe, so that nobody waits who should read.
 GROUP, ROOM, OFTEN = 128, 8192, 0.05
-# how many of them the task is done for in turn: few, since what is done waits for all of them
-TOGETHER = 16
-# of how many items results are given on at a time
+# how many of them the task is done for in turn at first: few, since what is done waits for all of them; and how many seconds are so few
+# that it is done for more of them
+TOGETHER, QUICK = 16, 0.02
+# of how many items results are given on at a time, and for how many the task is done in turn at most
 MOST = 64
 # how many octets are read at a time
 PIECE = 1 << 20
@@ -95,17 +96,21 @@ def serve(connection: Connection, task: Callable[[list[Any]], list[Any]], finish
         check_count(sum(count for count, _ in results), done)
         connection.send(results)
 
+    size = TOGETHER
     try:
         while True:
-            items, done, next_time = connection.receive(), list[Any](), time.monotonic() + OFTEN
-            for at in range(0, len(items), TOGETHER):
-                some = items[at : at + TOGETHER]
+            items, done, at, begun = connection.receive(), list[Any](), 0, time.monotonic()
+            next_time = begun + OFTEN
+            while at < len(items):
+                some = items[at : at + size]
                 found = task(some)
                 check_count(len(found), some)
                 done += found
-                if time.monotonic() >= next_time:
+                at, was, begun = at + size, begun, time.monotonic()
+                size = min(2 * size, MOST) if begun - was < QUICK else TOGETHER
+                if begun >= next_time:
                     send(done)
-                    done, next_time = [], time.monotonic() + OFTEN
+                    done, next_time = [], begun + OFTEN
             if done:
                 send(done)
     except (EOFError, BrokenPipeError, ConnectionResetError):

@@ -1,0 +1,224 @@
+"""How `cmsproof-archive stamp` goes on: from the files of an archive that have no evidence record to their records.
+
+A batch (batches.py) is what one time-stamp is over: its `sums` are the digests of these files, which stand there before the request. Only the
+program `cmsproof` makes a record.
+"""
+from __future__ import annotations
+
+import json
+import os
+from contextlib import ExitStack
+from functools import partial
+from typing import Any, Iterator, Optional, Sequence
+from urllib.parse import SplitResult
+
+from cmsproof_tools import summing
+from cmsproof_tools.batches import CHOSEN, DONE_FILE, NEW, POSITIVE, REQUEST, TERMS, TOKEN, Batch
+from cmsproof_tools.batches import answered, check_writable, held, judge, last_in, made, program_of, put_in_place
+from cmsproof_tools.batches import run_program, settle, sync
+from cmsproof_tools.evidenced import ENDING, NOTHING, records_in
+from cmsproof_tools.folders import files_under
+from cmsproof_tools.progress import Progress
+from cmsproof_tools.running import DONE, FAILED, REFUSED, USAGE, Started, Stop
+from cmsproof_tools.running import module, one_line, shown, tell, write
+from cmsproof_tools.state import told
+from cmsproof_tools.summing import Names, Summed, Sums
+from cmsproof_tools.workers import Workers
+from cmsproof_tools.writing import written
+
+SUMS = "sums"
+
+
+def terms_of(given: Any) -> dict[str, str]:
+    """What a batch is of: the archive's folder, the digest algorithm, and the policy."""
+    return {"folder": os.path.realpath(given.folder), "alg": given.alg, "policy": given.policy or ""}
+
+
+def batch_in(given: Any) -> Batch:
+    """The batch that is to be gone on with, or a new one. Ends the tool where it is one of other words."""
+    terms = terms_of(given)
+    last = last_in(given.state, terms, "folder")
+    if not last.has(SUMS):
+        last.sweep(SUMS)
+        last.put(TERMS, json.dumps(terms).encode() + b"\n")
+    elif last.begun_with() != terms:
+        where = shown(last.path)
+        raise Stop(USAGE, f"{where} is a batch of another FOLDER, --alg or --policy: go on with that, or remove it")
+    return last
+
+
+def files_of(tool: str, given: Any) -> Iterator[str]:
+    """The names of the regular files under the archive's folder, below that. What is none has a line."""
+    top = os.path.join(given.folder, "")
+
+    def skip(name: str, kind: str) -> None:
+        tell(tool, f"{shown(name)}: skipped: it is {kind}")
+
+    for name in files_under(top, skip):
+        if name == top or not name.startswith(top):
+            raise Stop(FAILED, f"failed open {shown(given.folder)}")
+        yield name[len(top) :]
+
+
+def in_the_way(place: str) -> str:
+    """Why nothing can be put in a place where nothing is, "" if it can."""
+    try:
+        os.lstat(place)
+    except FileNotFoundError:
+        pass
+    except NotADirectoryError:
+        return "a file is in the place of its record's folder"
+    except OSError as error:
+        return f"its record would have no place: {error.strerror}"
+    return ""
+
+
+def named(tool: str, given: Any) -> list[str]:
+    """The names of the files that have no record. Ends the tool, before anything is sent, where one can have none."""
+    records, fit = records_in(given.into, given.folder), Names(given.into)
+    names, faults, kept = list[str](), 0, 0
+    for name in files_of(tool, given):
+        place = os.path.join(given.into, name + ENDING)
+        fault, lacking = fit.fault(name), records.lacking(place)
+        if lacking == "":
+            kept += 1
+            continue
+        if not fault:
+            fault = in_the_way(place) if lacking == NOTHING else f"in the place of its record is {lacking}"
+        if fault:
+            faults += 1
+            tell(tool, f"{shown(os.path.join(given.folder, name))}: it can have no record: {fault}")
+        else:
+            names.append(name)
+    for name in fit.clashing(names):
+        faults += 1
+        tell(tool, f"{shown(os.path.join(given.folder, name))}: it can have no record: a folder is in its place")
+    if kept:
+        tell(tool, f"{kept} files have a record already, which is not looked at")
+    if faults:
+        raise Stop(REFUSED, f"{faults} files can have no record: nothing was sent")
+    return names
+
+
+def summed_all(tool: str, given: Any, top: int, sums: Sums, names: Sequence[str]) -> int:
+    """Computes the digests that are not known, and answers how many files could not be read, which are named."""
+    due, faults = sums.due(top, names), 0
+    progress = Progress(tool, len(due), given.progress)
+
+    def lost(_: str, by: int) -> Summed:
+        return Summed("", False, b"", f"its worker was ended by signal {by}")
+
+    due_names = module("names").kept(due) if due else due
+    with Workers(min(given.jobs, len(due)), lambda name: summing.summed(top, given.alg, name)) as workers:
+        for name, one in zip(due_names, workers.results(due_names, lost)):
+            if one.fault:
+                faults += 1
+                progress.put("")
+                tell(tool, f"{shown(os.path.join(given.folder, name))}: {one.fault}")
+            else:
+                sums.put(name, one)
+            progress.steps(["unread" if one.fault else "summed"])
+    progress.end()
+    with told(sums.path):
+        sums.commit()
+    return faults
+
+
+def write_sums(tool: str, given: Any, batch: Batch, top: int, sums: Sums, names: Sequence[str]) -> None:
+    """Writes the digests of all files, each of which is as it was when its digest was computed. Ends the tool where one is not."""
+    changed = 0
+    try:
+        with written(batch.place(SUMS), Started.descriptors) as file:
+            for name in names:
+                kept = sums.of_file(name)
+                if kept is None or kept.mark != summing.mark_below(top, name):
+                    changed += 1
+                    tell(tool, f"{shown(os.path.join(given.folder, name))}: it was changed while the others were read")
+                else:
+                    file.write(summing.line_of(name, kept.digest))
+            if changed:
+                raise Stop(FAILED, f"{changed} files were changed: nothing was sent; run this again")
+    except OSError as error:
+        raise Stop(FAILED, f"failed write {shown(batch.place(SUMS))}: {error.strerror}") from error
+    sync(batch.path)
+
+
+def begin(tool: str, given: Any, batch: Batch, top: int) -> bool:
+    """Writes the digests of the files that have no record, and answers whether there is one."""
+    names = named(tool, given)
+    if not names:
+        return False
+    check_writable(given.into)
+    with Sums(os.path.join(given.state, "sums.db"), given.alg) as sums:
+        if faults := summed_all(tool, given, top, sums, names):
+            raise Stop(FAILED, f"{faults} files could not be read: nothing was sent; run this again")
+        write_sums(tool, given, batch, top, sums, names)
+    return True
+
+
+def ask(given: Any, batch: Batch) -> None:
+    """Makes the request, with a number that the answer must repeat."""
+    nonce = POSITIVE + os.urandom(CHOSEN).hex()
+    policy = ["--policy", given.policy] if given.policy else []
+    run_program(given, batch, "request", "--alg", given.alg, *policy, "--nonce", nonce, "--cert", SUMS, REQUEST + NEW)
+    put_in_place(batch, REQUEST)
+
+
+def is_as_it_was(top: int, algorithm: str, line: bytes, kept: Optional[Summed]) -> bool:
+    """Whether the file of a line of digests is as it was. It is read again where nothing says so, as if it had just been changed when it was
+    read: it may have been changed once more within the same tick of the file system's clock."""
+    name = summing.name_in(line)
+    if kept is not None and kept.steady and kept.mark == summing.mark_below(top, name):
+        if line == summing.line_of(name, kept.digest):
+            return True
+    return line == summing.line_of(name, summing.summed(top, algorithm, name).digest)
+
+
+def changed_since(tool: str, given: Any, batch: Batch, top: int) -> int:
+    """Names the files of a batch that were changed since their digests were computed, or are gone, and answers how many they are."""
+    found = 0
+    with Sums(os.path.join(given.state, "sums.db"), given.alg) as sums, open(batch.place(SUMS), "rb") as lines:
+        for line in lines:
+            name = summing.name_in(line)
+            if not is_as_it_was(top, given.alg, line, sums.of_file(name)):
+                found += 1
+                tell(tool, f"{shown(os.path.join(given.folder, name))}: it was changed since: its record is of what it was")
+    return found
+
+
+def finish(tool: str, given: Any, batch: Batch, top: int, address: SplitResult, trust: Any) -> int:
+    """Goes on from the digests to the records, and answers the exit status."""
+    check_writable(given.into)
+    if not batch.has(REQUEST):
+        ask(given, batch)
+    moment = answered(tool, given, batch, address, partial(judge, tool, given, trust))
+    run_program(given, batch, "make", "--alg", given.alg, "--token", TOKEN, "--into", os.path.abspath(given.into), SUMS)
+    with open(batch.place(SUMS), "rb") as lines:
+        count = sum(1 for _ in lines)
+    changed = changed_since(tool, given, batch, top)
+    settle(given.into)
+    batch.put(DONE_FILE, b"")
+    write("-", f"{shown(given.folder)}: {count} records of {one_line(moment)}\n".encode())
+    return REFUSED if changed else DONE
+
+
+def run(tool: str, given: Any, address: SplitResult) -> int:
+    """Has the files of an archive stamped, and answers the exit status."""
+    trust = None if given.trust is None else module("archive").trust_list(given.trust, False)
+    program_of(given)
+    for folder in (given.state, given.into):
+        made(folder)
+    with ExitStack() as stack:
+        stack.enter_context(held(given.state))
+        try:
+            top = os.open(given.folder, os.O_RDONLY | os.O_DIRECTORY | os.O_CLOEXEC)
+        except OSError as error:
+            raise Stop(FAILED, f"failed open {shown(given.folder)}: {error.strerror}") from error
+        stack.callback(os.close, top)
+        batch = batch_in(given)
+        if batch.has(SUMS) or begin(tool, given, batch, top):
+            status = finish(tool, given, batch, top, address, trust)
+        else:
+            write("-", f"{shown(given.folder)}: no file is without a record\n".encode())
+            status = DONE
+    return status

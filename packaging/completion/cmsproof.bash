@@ -24,7 +24,8 @@ _cmsproof_options() {
     'cmsproof-archive report') echo '--help --version --html --csv --json --known --only' ;;
     'cmsproof-archive evidence') echo '--help --version --trust --content --sha1 --record --end --at --whole --part --without-content --to --verify --list-of-the-bundle' ;;
     'cmsproof-archive due') echo '--help --version --trust --months --by --end --jobs --json --files-from --null --progress' ;;
-    'cmsproof-archive stamp') echo '--help --version --tsa --into --state --trust --end --alg --policy --timeout --jobs --program --progress' ;;
+    'cmsproof-archive stamp') echo '--help --version --into --tsa --state --policy --timeout --program --progress --trust --end --alg --jobs' ;;
+    'cmsproof-archive renew') echo '--help --version --records --trust --months --by --end --tsa --state --policy --timeout --program --progress --jobs' ;;
     esac
 }
 
@@ -36,7 +37,7 @@ _cmsproof_firsts() {
     'cmsproof stamp') echo 'check questions' ;;
     'cmsproof evidence') echo 'check questions request make renew rehash' ;;
     'cmsproof help') echo 'request show cert fit match check questions stamp evidence attach compare migrate help' ;;
-    'cmsproof-archive') echo 'report evidence due stamp' ;;
+    'cmsproof-archive') echo 'report evidence due stamp renew' ;;
     esac
 }
 
@@ -139,16 +140,27 @@ _cmsproof_values() {
     'cmsproof-archive due --end') echo '' ;;
     'cmsproof-archive due --jobs') echo '' ;;
     'cmsproof-archive due --files-from') echo files ;;
-    'cmsproof-archive stamp --tsa') echo '' ;;
     'cmsproof-archive stamp --into') echo files ;;
+    'cmsproof-archive stamp --tsa') echo '' ;;
     'cmsproof-archive stamp --state') echo files ;;
+    'cmsproof-archive stamp --policy') echo '' ;;
+    'cmsproof-archive stamp --timeout') echo '' ;;
+    'cmsproof-archive stamp --program') echo files ;;
     'cmsproof-archive stamp --trust') echo files ;;
     'cmsproof-archive stamp --end') echo '' ;;
     'cmsproof-archive stamp --alg') echo 'sha256 sha384 sha512' ;;
-    'cmsproof-archive stamp --policy') echo '' ;;
-    'cmsproof-archive stamp --timeout') echo '' ;;
     'cmsproof-archive stamp --jobs') echo '' ;;
-    'cmsproof-archive stamp --program') echo files ;;
+    'cmsproof-archive renew --records') echo files ;;
+    'cmsproof-archive renew --trust') echo files ;;
+    'cmsproof-archive renew --months') echo '' ;;
+    'cmsproof-archive renew --by') echo '' ;;
+    'cmsproof-archive renew --end') echo '' ;;
+    'cmsproof-archive renew --tsa') echo '' ;;
+    'cmsproof-archive renew --state') echo files ;;
+    'cmsproof-archive renew --policy') echo '' ;;
+    'cmsproof-archive renew --timeout') echo '' ;;
+    'cmsproof-archive renew --program') echo files ;;
+    'cmsproof-archive renew --jobs') echo '' ;;
     *) return 1 ;;
     esac
 }
@@ -180,6 +192,7 @@ _cmsproof() {
     'cmsproof-archive evidence') place=$tool\ ${COMP_WORDS[1]} ;;
     'cmsproof-archive due') place=$tool\ ${COMP_WORDS[1]} ;;
     'cmsproof-archive stamp') place=$tool\ ${COMP_WORDS[1]} ;;
+    'cmsproof-archive renew') place=$tool\ ${COMP_WORDS[1]} ;;
     esac
     [ "$place" = "$tool" ] || first=2
     if words=$(_cmsproof_values "$place" "$before"); then

@@ -5,6 +5,7 @@ use Rattle.digests.specs.declared.algorithm.Alg.{Alg}
 use Rattle.trust_lists.specs.Entries.{EntryValue}
 use Rattle.trust_lists.specs.Asking.{Asked}
 use Rattle.check_verdict.specs.Passing.{Terms, Due}
+use Rattle.check_fit.specs.Fitting.{with_sha1}
 
 -- the last moment at which an algorithm holds, as the user says
 pub record AlgEnd : Type 0 where
@@ -23,7 +24,7 @@ pub record Grounds : Type 0 where
 
 -- Tokens are judged with SHA-1 allowed: which algorithms hold, and until when, is a matter of the ends.
 abbrev pub terms_of : Grounds → Terms
-terms_of g = record { policy = record { sha1 = true }; trust = g.trust; vouches = g.vouches }
+terms_of g = record { policy = with_sha1 true; trust = g.trust; vouches = g.vouches }
 
 -- these octets are due as the imprint, by this algorithm alone
 abbrev pub of_root : Alg → List ℕ → Due

@@ -6,3 +6,4 @@ pub mod Rows
 pub mod Readings
 pub mod Octets
 pub mod OneType
+pub mod Policies

@@ -6,9 +6,9 @@ use Rattle.der_core.specs.Element.{el, has_tag}
 use Rattle.der_core.specs.Results.{◌>>=◌}
 use Rattle.digests.specs.Algorithms.{Names}
 use Rattle.digests.specs.Messages.{digest_of}
-use Rattle.digests.specs.Named.{alg_named, is_alg}
+use Rattle.digests.specs.Named.{alg_named}
+use Rattle.digests.specs.Sets.{is_in}
 use Rattle.digests.specs.declared.algorithm.Alg.{Alg}
-use Rattle.digests.specs.declared.algorithm.Alg.TheVariants.{Sha1}
 use Rattle.cms_types.specs.AttributeValue.{AttributeValue}
 use Rattle.cms_types.specs.SignerValue.{SignerValue}
 use Rattle.check_fit.specs.declared.policy.Policy.{Policy}
@@ -23,9 +23,23 @@ id_content_type = 0x2a ∷ 0x86 ∷ 0x48 ∷ 0x86 ∷ 0xf7 ∷ 0x0d ∷ 0x01 ∷
 abbrev pub id_message_digest : List ℕ
 id_message_digest = 0x2a ∷ 0x86 ∷ 0x48 ∷ 0x86 ∷ 0xf7 ∷ 0x0d ∷ 0x01 ∷ 0x09 ∷ 0x04 ∷ []
 
--- an algorithm is allowed if it isn't SHA-1, or if the policy allows SHA-1
+-- an algorithm is allowed if the policy has it
 abbrev pub is_allowed : Policy → Alg → Bool
-is_allowed policy alg = if is_alg alg Sha1 then policy.sha1 else true
+is_allowed policy alg = is_in alg policy.allowed
+
+-- the policy of a user who says whether SHA-1 is allowed: all other algorithms are
+abbrev pub with_sha1 : (sha1 : Bool) → Policy
+with_sha1 sha1 = record {
+  allowed = record {
+    sha1 = sha1;
+    sha224 = true;
+    sha256 = true;
+    sha384 = true;
+    sha512 = true;
+    sha512_224 = true;
+    sha512_256 = true;
+  };
+}
 
 -- the algorithm, if there is one and it is allowed
 abbrev pub allowed : Policy → Option Alg → Option Alg

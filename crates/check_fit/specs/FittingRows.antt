@@ -12,13 +12,13 @@ use Rattle.cms_types.specs.SignerValue.{SignerValue, KeyId}
 use Rattle.check_fit.specs.declared.policy.Policy.{Policy}
 use Rattle.check_fit.specs.declared.rules.SignerRule.{SignerRule}
 use Rattle.check_fit.specs.declared.rules.SignerRule.TheVariants as rule
-use Rattle.check_fit.specs.Fitting.{Fits, FailsFirst, id_content_type, id_message_digest}
+use Rattle.check_fit.specs.Fitting.{Fits, FailsFirst, with_sha1, id_content_type, id_message_digest}
 
 abbrev pub strict : Policy
-strict = record { sha1 = false }
+strict = with_sha1 false
 
-abbrev pub with_sha1 : Policy
-with_sha1 = record { sha1 = true }
+abbrev pub lenient : Policy
+lenient = with_sha1 true
 
 -- id-data (RFC 5652, 4), id-signedData (RFC 5652, 5.1), signing-time (RFC 5652, 11.3), MD5 (RFC 1321)
 abbrev pub id_data : List ℕ
@@ -83,7 +83,7 @@ pub record FittingRows (content : List ℕ) : Type 0 where
   pub by_sha512_256 : Fits strict content id_data (signer (plainly (contents_of Sha512_256))
       (Some (of_data ∷ digest_by Sha512_256 content ∷ [])))
   -- by SHA-1, which is allowed
-  pub by_sha1 : Fits with_sha1 content id_data (signer (plainly (contents_of Sha1))
+  pub by_sha1 : Fits lenient content id_data (signer (plainly (contents_of Sha1))
       (Some (of_data ∷ digest_by Sha1 content ∷ [])))
   -- a content of another type
   pub of_another_type : Fits strict content id_signed_data

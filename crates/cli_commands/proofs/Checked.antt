@@ -24,11 +24,12 @@ use Rattle.cli_commands.specs.Checking.{ShowsRefused}
 use Rattle.cli_commands.specs.Rereading.{IsLimitFor, OfPassOver, Sayings}
 use Rattle.cli_commands.proofs.JudgedFiles.{judged_file, Gives}
 use Rattle.check_fit.specs.FileFitting.{SourceFacts}
+use Rattle.check_fit.specs.Fitting.{with_sha1}
 
 -- what a check goes by is what the lists say
 pub terms : {F : Type 0} (holds : F → Option (List ℕ)) (sha1 : Bool) (policy : Policy) (trust : List EntryValue)
     (vouched : List Asked)
-    → policy ≡ record { sha1 = sha1 }
+    → policy ≡ with_sha1 sha1
     → IsTrustOf holds trust → IsAnswersOf holds vouched
     → IsTerms holds sha1 (terms_of policy trust (λ q. is_among vouched q))
 terms holds sha1 policy trust vouched p is (text, asked, read, says, same) =
@@ -38,7 +39,7 @@ terms holds sha1 policy trust vouched p is (text, asked, read, says, same) =
 pub record IsCalledBy {F S : Type 0} (holds : F → Option (List ℕ)) (says : Sayings F) (opened : F)
     (words : CheckWords) (policy : Policy) (trust : List EntryValue) (vouched : List Asked) (room : ℕ)
     (before : Option S) : Type 0 where
-  pub policy_is : policy ≡ record { sha1 = words.sha1 }
+  pub policy_is : policy ≡ with_sha1 words.sha1
   pub trusted : IsTrustOf holds trust
   pub vouched_for : IsAnswersOf holds vouched
   pub handed : is_some before ≡ is_some words.content

@@ -9,6 +9,7 @@ use Rattle.cms_types.specs.SignedDataValue.{SignedDataValue}
 use Rattle.check_fit.specs.declared.policy.Policy.{Policy}
 use Rattle.check_fit.specs.declared.rules.Refused.{Refused}
 use Rattle.check_fit.specs.FileFitting.{SourceFacts, IsReading, FitsSigned, FitsFile}
+use Rattle.check_fit.specs.Fitting.{with_sha1}
 use Rattle.cli_tasks.specs.declared.task.FitWords.{FitWords}
 use Rattle.cli_failures.specs.declared.failure.Failure.{Failure}
 use Rattle.cli_failures.specs.Files.{IsHeld}
@@ -19,7 +20,7 @@ use Rattle.cli_commands.proofs.JudgedFiles.{judged_file, Gives}
 -- ---- what the words ask for
 
 abbrev policy_of : FitWords → Policy
-policy_of words = record { sha1 = words.sha1 }
+policy_of words = with_sha1 words.sha1
 
 of_words :
     {F : Type 0} (holds : F → Option (List ℕ)) (words : FitWords) (policy : Policy) (handed : Bool) (octets : List ℕ)

@@ -9,6 +9,7 @@ use Rattle.der_grammar.specs.TooLarge.{IsTooLarge}
 use Rattle.check_fit.specs.declared.rules.DeviceFault.TheVariants as device
 use Rattle.check_fit.specs.declared.rules.Refused.{Refused}
 use Rattle.check_fit.specs.declared.rules.Refused.TheVariants as refused
+use Rattle.check_fit.specs.Fitting.{with_sha1}
 use Rattle.trust_lists.specs.Asking.{Asked, is_among}
 use Rattle.list_answers.specs.AnswersText.{answers_of}
 use Rattle.check_verdict.specs.Passing.{Terms}
@@ -30,7 +31,7 @@ TellsAccepted (Err why) text = ⊥
 -- the terms of a check: SHA-1 is allowed if the words say so, the text of a file is the trust list, and that of another
 -- file is an answers list; its questions are vouched for, and no others
 pub record IsTerms {F : Type 0} (holds : F → Option (List ℕ)) (sha1 : Bool) (t : Terms) : Type 0 where
-  pub policy : t.policy ≡ record { sha1 = sha1 }
+  pub policy : t.policy ≡ with_sha1 sha1
   pub trust : IsTrustOf holds t.trust
   pub text : List ℕ
   pub read : IsHeld holds text

@@ -6,6 +6,7 @@ use Rattle.der_core.specs.Grammar.{file}
 use Rattle.der_grammar.specs.Table.{content_info}
 use Rattle.check_fit.specs.declared.rules.Refused.{Refused}
 use Rattle.check_fit.specs.FileFitting.{FitsSigned}
+use Rattle.check_fit.specs.Fitting.{with_sha1}
 use Rattle.cli_tasks.specs.declared.task.FitWords.{FitWords}
 use Rattle.cli_failures.specs.declared.failure.Failure.{Failure}
 use Rattle.cli_failures.specs.declared.failure.Failure.TheVariants as failure
@@ -30,7 +31,7 @@ TellsUnfit (Err why) f = f ≡ failure.Refused why
 abbrev pub JudgesWords : {F : Type 0} → (holds : F → Option (List ℕ)) → FitWords → (octets : List ℕ)
     → Result ℕ Refused → Type 0
 JudgesWords holds words octets verdict = JudgesFile (Faults (file content_info))
-    (FitsSigned (record { sha1 = words.sha1 })) (IsContentHeld holds) (is_some words.content) octets verdict
+    (FitsSigned (with_sha1 words.sha1)) (IsContentHeld holds) (is_some words.content) octets verdict
 
 -- the text says that all signers fit
 abbrev pub ShowsFit : {F : Type 0} → (holds : F → Option (List ℕ)) → FitWords → (text : List ℕ) → Type 0

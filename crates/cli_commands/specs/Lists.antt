@@ -11,6 +11,7 @@ use Rattle.check_verdict.specs.Checkers.{CheckerValue}
 use Rattle.cli_failures.specs.declared.failure.Failure.{Failure}
 use Rattle.cli_failures.specs.declared.failure.Failure.TheVariants as failure
 use Rattle.cli_failures.specs.Files.{IsFailureToRead, IsHeld}
+use Rattle.check_fit.specs.Fitting.{with_sha1}
 
 -- these are the entries of a file whose text is a trust list
 abbrev pub IsTrustOf : {F : Type 0} → (holds : F → Option (List ℕ)) → List EntryValue → Type 0
@@ -18,7 +19,7 @@ IsTrustOf holds entries = (text : List ℕ) × IsHeld holds text × IsTrust text
 
 -- a check goes by these entries, and SHA-1 is allowed if the words say so
 abbrev pub IsCheckerOf : {F : Type 0} → (holds : F → Option (List ℕ)) → (sha1 : Bool) → CheckerValue → Type 0
-IsCheckerOf holds sha1 checker = IsTrustOf holds checker.trust × (checker.policy ≡ record { sha1 = sha1 })
+IsCheckerOf holds sha1 checker = IsTrustOf holds checker.trust × (checker.policy ≡ with_sha1 sha1)
 
 -- the file can't be read, memory runs out, or its text isn't a trust list and has this fault
 abbrev pub IsFailureOfTrust : {F : Type 0} → (holds : F → Option (List ℕ)) → (path : Bor (List ℕ)) → Failure → Type 0

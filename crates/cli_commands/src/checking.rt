@@ -45,7 +45,7 @@ where
     let trust = lists::trust_in(rt, words.trust)?;
     let mut answers = lists::answers_in(rt, words.answers)?;
     let mut passing = Pass::new();
-    let mut checker = Checker::of(&trust, Policy { sha1: words.sha1 });
+    let mut checker = Checker::of(&trust, Policy::with_sha1(words.sha1));
     check_by(rt, words, &mut answers, &mut passing, &mut checker)
 }
 

@@ -23,7 +23,7 @@ pub fn fit<'a, R: Files + AllocGlobal>(rt: &R, words: &FitWords<'a>) -> Result<V
 {
     let mut content = files::content_of(rt, words.content)?;
     let octets = files::read_whole(rt, words.file)?;
-    let policy = Policy { sha1: words.sha1 };
+    let policy = Policy::with_sha1(words.sha1);
     text_of(rt.alloc(), octets.as_slice(), &mut content, &policy)
 }
 

@@ -34,7 +34,7 @@ pub fn check_stamp<'a, R: Files + AllocGlobal>(
     let mut answers = lists::answers_in(rt, words.answers)?;
     let octets = files::read_whole(rt, words.stamp)?;
     let token = stamp_in(octets.as_slice())?;
-    let policy = Policy { sha1: words.sha1 };
+    let policy = Policy::with_sha1(words.sha1);
     let stamp = match Stamp::read(policy, token) {
         Ok(stamp) => stamp,
         Err(rule) => return Err(Failure::Unstamped(rule)),

@@ -38,7 +38,7 @@ where
     let trust = trust_in(rt, each.trust)?;
     let mut answers = answers_in(rt, each.answers)?;
     let mut passing = Pass::new();
-    let mut checker = Checker::of(&trust, Policy { sha1: each.sha1 });
+    let mut checker = Checker::of(&trust, Policy::with_sha1(each.sha1));
     let mut worst = Status::Done;
     for path in paths {
         let words = CheckWords {

@@ -12,7 +12,7 @@ use Rattle.cms_types.specs.AttributeValue.{signed_octets}
 use Rattle.cms_types.specs.SignerValue.{SignerValue}
 use Rattle.cms_types.specs.SignedDataValue.{SignedDataValue, EncodesSignedData}
 use Rattle.check_fit.specs.declared.policy.Policy.{Policy}
-use Rattle.check_fit.specs.Fitting.{Fits, signer_answer}
+use Rattle.check_fit.specs.Fitting.{Fits, signer_answer, with_sha1}
 use Rattle.check_fit.specs.FileFitting.{IsReading}
 use Rattle.cms_compare.specs.declared.compared.Compared.{Compared}
 use Rattle.cms_compare.specs.declared.compared.Compared.TheVariants as compared
@@ -24,7 +24,7 @@ use Rattle.cms_compare.specs.declared.fault.Which.TheVariants as which
 
 -- SHA-1 is allowed: a comparison accepts nothing
 abbrev pub sha1_too : Policy
-sha1_too = record { sha1 = true }
+sha1_too = with_sha1 true
 
 -- The file has this content, and its signer of this number, from 1, fits it: facts in no order.
 pub record IsSignedBy (file : List ℕ) (number : ℕ) (content : List ℕ) (s : SignerValue) : Type 0 where

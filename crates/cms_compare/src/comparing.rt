@@ -28,7 +28,7 @@ fn signed_by<'a>(file: &'a [u8], number: u64) -> Result<(&'a [u8], Signer<'a>), 
         return Err(CompareRule::NoContent);
     };
     match signer_fits(
-        Policy { sha1: true },
+        Policy::with_sha1(true),
         content,
         signed.content_type().bytes(),
         &signer,

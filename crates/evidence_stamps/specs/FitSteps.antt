@@ -5,6 +5,7 @@ use Rattle.digests.specs.Digests.{alg_of, octets_of}
 use Rattle.digests.specs.declared.algorithm.Alg.{Alg}
 use Rattle.digests.specs.declared.value.Digest.{Digest}
 use Rattle.check_fit.specs.declared.rules.DeviceFault.TheVariants as device
+use Rattle.check_fit.specs.Fitting.{with_sha1}
 use Rattle.trust_lists.specs.Asking.{Asked}
 use Rattle.evidence_types.specs.StampValue.{StampValue}
 use Rattle.check_verdict.specs.Passing.{Terms, Due, PassesFor}
@@ -27,7 +28,7 @@ use Rattle.evidence_stamps.specs.declared.unfit.Unfit.TheVariants as unfit
 
 -- a check goes by these grounds
 pub record IsBy (g : Grounds) (checker : CheckerValue) (vouches : Asked → Bool) : Type 0 where
-  pub policy : checker.policy ≡ record { sha1 = true }
+  pub policy : checker.policy ≡ with_sha1 true
   pub trust : checker.trust ≡ g.trust
   pub answers : vouches ≡ g.vouches
 

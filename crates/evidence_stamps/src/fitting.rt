@@ -15,6 +15,7 @@ ghost use Rattle.evidence_stamps.specs.StateValue.{IsStateOf};
 ghost use Rattle.evidence_stamps.specs.PlaceValues.{IsAround, AreWell};
 ghost use Rattle.evidence_stamps.specs.FitSteps.{IsBy, IsFitOf, CountsUnfit, IsAskedOfStamp};
 ghost use Rattle.evidence_stamps.specs.FitSteps.{RootsOrFails, PassesOrFails, IsBetween};
+ghost use Rattle.check_fit.specs.Fitting.{with_sha1};
 
 use crate::algorithm::{alg_of, shows_alg};
 use crate::around::Around;
@@ -73,9 +74,9 @@ fn root_for(
 // W4 of a token that states nothing.
 fn rule_of_unread(token: &[u8]) -> TokenRule
     requires { IsStateOf token.now None }
-    ensures { (t : Terms) → t.policy ≡ record { sha1 = true } → TokenFailsFor t token.now of_none result }
+    ensures { (t : Terms) → t.policy ≡ with_sha1 true → TokenFailsFor t token.now of_none result }
 {
-    match Stamp::read(Policy { sha1: true }, token) {
+    match Stamp::read(Policy::with_sha1(true), token) {
         Ok(_) => unreachable!(),
         Err(failed) => failed,
     }

@@ -4,6 +4,7 @@ use Rattle.trust_lists.specs.Asking.{Asked}
 use Rattle.check_verdict.specs.Checkers.{CheckerValue}
 use Rattle.check_evidence.specs.Grounds.{Grounds}
 use Rattle.judge_evidence.specs.declared.terms.Terms.{Terms}
+use Rattle.check_fit.specs.Fitting.{with_sha1}
 
 -- what the verifier vouches for, and what the terms say
 abbrev pub grounds_of : Terms → (Asked → Bool) → Grounds
@@ -17,4 +18,4 @@ grounds_of t vouches = record {
 
 -- what tokens are judged by: SHA-1 is allowed
 abbrev pub checker_of : Terms → CheckerValue
-checker_of t = record { trust = t.trust.now; policy = record { sha1 = true } }
+checker_of t = record { trust = t.trust.now; policy = with_sha1 true }

@@ -39,9 +39,6 @@ use evidence_types::{ArchiveTimeStamp, Chains, HashLists};
 use list_answers::Verifier;
 use std::alloc::Global;
 
-// Tokens are judged with SHA-1 allowed: which algorithms hold, and until when, is asked by itself.
-const POLICY: Policy = Policy { sha1: true };
-
 // What an archive time-stamp's token states.
 fn state_of<'a>(stamp: &ArchiveTimeStamp<'a>) -> Option<TokenState<'a>>
     ensures { IsStateOf stamp.now.stamp result }
@@ -298,7 +295,8 @@ pub(crate) fn judge_chains<V: Verifier>(
     ensures same { V.vouches verifier.new ≡ V.vouches verifier.old }
     ensures count { CountsRefused result (V.failures verifier.old) (V.failures verifier.new) }
 {
-    let mut checker = Checker::of(terms.trust, POLICY);
+    // SHA-1 is allowed: which algorithms hold, and until when, is asked by itself.
+    let mut checker = Checker::of(terms.trust, Policy::with_sha1(true));
     let mut place = StampPlace::first(chains);
     let mut its = state_of(place.stamp());
     let mut run = Run {

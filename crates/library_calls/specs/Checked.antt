@@ -3,6 +3,7 @@ use Rattle.std.specs.Prelude.{◌≡◌, ◌<◌, ◌^◌, ◌⊎◌, ℕ, Bool,
 use Rattle.cms_types.specs.SignedDataValue.{SignedDataValue, EncodesSignedData}
 use Rattle.check_fit.specs.declared.rules.DeviceFault.TheVariants as device
 use Rattle.check_fit.specs.declared.rules.Refused.{Refused}
+use Rattle.check_fit.specs.Fitting.{with_sha1}
 use Rattle.trust_lists.specs.Asking.{Asked, is_among}
 use Rattle.trust_lists.specs.Entries.{EntryValue}
 use Rattle.check_verdict.specs.Passing.{Terms}
@@ -22,7 +23,7 @@ handed false content = None
 
 -- the terms of a check under a trust list and an answers list, which vouches for the questions in it and no others
 abbrev pub terms_under : (list : List EntryValue) → (asked : List Asked) → (sha1 : Bool) → Terms
-terms_under list asked sha1 = terms_of (record { sha1 = sha1 }) list (is_among asked)
+terms_under list asked sha1 = terms_of (with_sha1 sha1) list (is_among asked)
 
 -- the verdict of the definitions about a file and a content in memory; no device fails, so it is X5 or of a rule
 abbrev pub IsKnownVerdict : Terms → (octets : List ℕ) → (handed : Option (List ℕ)) → Result ℕ Refused → Type 0

@@ -4,6 +4,7 @@ use Rattle.std.specs.Fmt.{decimal}
 use Rattle.check_fit.specs.declared.policy.Policy.{Policy}
 use Rattle.check_fit.specs.declared.rules.Refused.{Refused}
 use Rattle.check_fit.specs.FileFitting.{FitsSigned}
+use Rattle.check_fit.specs.Fitting.{with_sha1}
 use Rattle.cli_failures.specs.declared.failure.Failure.TheVariants as failure
 use Rattle.cli_failures.specs.Failures.{failure_text}
 use Rattle.library_answers.specs.declared.answer.Answer.{Answer}
@@ -31,5 +32,5 @@ fit_status (Err why) = failure_status (failure.Refused why)
 abbrev pub IsFit : (octets : List ℕ) → (handed : Option (List ℕ)) → (sha1 : Bool) → (said : Answer)
     (status : ℕ) (before : List ℕ) (size : ℕ) (after : List ℕ) → Type 0
 IsFit octets handed sha1 said status before size after = (verdict : Result ℕ Refused)
-    × FitsHanded (record { sha1 = sha1 }) octets handed verdict × (said ≡ fit_numbers verdict)
+    × FitsHanded (with_sha1 sha1) octets handed verdict × (said ≡ fit_numbers verdict)
     × IsLine (fit_line verdict) (fit_status verdict) status before size after

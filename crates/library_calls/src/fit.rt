@@ -4,6 +4,7 @@ ghost use Rattle.library_calls.specs.Checked.{handed};
 ghost use Rattle.library_calls.specs.Fit.{FitsHanded, IsFit};
 ghost use Rattle.library_answers.specs.Failures.{IsLine};
 ghost use Rattle.library_answers.specs.Numbers.{ruled};
+ghost use Rattle.check_fit.specs.Fitting.{with_sha1};
 
 use crate::check::{Input, source_of};
 use check_fit::{Policy, Refused, fits};
@@ -16,11 +17,11 @@ const FITS: u32 = 5;
 
 /// Whether the signers of a file fit its content.
 fn fit_verdict(input: Input, sha1: bool) -> Result<usize, Refused>
-    ensures { FitsHanded (record { sha1 = sha1 }) input.entry.file.now (handed input.entry.given
+    ensures { FitsHanded (with_sha1 sha1) input.entry.file.now (handed input.entry.given
         input.entry.content.now) result }
 {
     let mut source = source_of(input.given, input.content);
-    fits(input.file, &mut source, &Policy { sha1 })
+    fits(input.file, &mut source, &Policy::with_sha1(sha1))
 }
 
 /// The line of that many signers that fit, if there is memory.

@@ -1,6 +1,7 @@
 //! A trust list as a handle holds it: with what is kept of it from file to file.
 ghost use Rattle.std.specs.Prelude.{◌≡◌, IfSome};
 ghost use Rattle.check_verdict.specs.KeptDigests.{AreDigestsOf};
+ghost use Rattle.check_fit.specs.Fitting.{with_sha1};
 
 use check_fit::Policy;
 use check_verdict::{Checker, KeptDigests};
@@ -68,9 +69,9 @@ impl HeldTrust {
 
     /// What a check under it goes by, with the digests.
     pub(crate) fn checker(&self, sha1: bool) -> Checker<'_>
-        ensures { result ≡ record { trust = self.now; policy = record { sha1 = sha1 } } }
+        ensures { result ≡ record { trust = self.now; policy = with_sha1 sha1 } }
     {
-        Checker::with(&self.list, Policy { sha1 }, self.kept)
+        Checker::with(&self.list, Policy::with_sha1(sha1), self.kept)
     }
 
     /// Keeps the digests that a check has now.

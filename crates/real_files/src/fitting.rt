@@ -1,10 +1,12 @@
 //! Whether a file and a content belong together, the content being handed in in each way that there is.
-ghost use Rattle.std.specs.Prelude.{◌≡◌, ◌++◌, Result, IfOk, OnOk, ℕ, length, bit_xor, slice_set, slice_index, ◌<◌};
+ghost use Rattle.std.specs.Prelude.{◌≡◌, ◌++◌, false, Result, IfOk, OnOk, ℕ, length, bit_xor, slice_set};
+ghost use Rattle.std.specs.Prelude.{slice_index, ◌<◌};
 ghost use Rattle.std.specs.String.{string_bytes};
 ghost use Rattle.cms_types.specs.SignedDataValue.{SignedDataValue};
 ghost use Rattle.cms_types.specs.declared.fault.CmsFault.{CmsFault};
 ghost use Rattle.check_fit.specs.declared.rules.Refused.{Refused};
 ghost use Rattle.check_fit.specs.FileFitting.{facts_of, IsReading, FitsFile};
+ghost use Rattle.check_fit.specs.Fitting.{with_sha1};
 ghost use Rattle.real_files.specs.AnswerLines.{answer_line};
 
 use check_fit::{Policy, fits};
@@ -12,9 +14,6 @@ use devices::{FromRead, Pieces, Slice, Source};
 use std::alloc::{AllocError, Global};
 use std::rt::Files;
 use std::{fs, io};
-
-/// SHA-1 is refused.
-const STRICT: Policy = Policy { sha1: false };
 
 /// The content of files that were signed without it.
 #[derive(Drop)]
@@ -40,10 +39,11 @@ fn push_answer<S: Source>(
     content: &mut Option<S>,
 ) -> Result<(), AllocError>
     ensures { (answer : Result ℕ Refused) × (reading : Result SignedDataValue CmsFault) × IsReading file.now reading
-        × FitsFile (facts_of S.tells S.rest S.failures) STRICT reading content.old content.new answer
+        × FitsFile (facts_of S.tells S.rest S.failures) (with_sha1 false) reading content.old content.new answer
         × OnOk result (string_bytes text.new ≡ string_bytes text.old ++ answer_line name.now answer) }
 {
-    match fits(file, content, &STRICT) {
+    // SHA-1 is refused.
+    match fits(file, content, &Policy::with_sha1(false)) {
         Ok(count) => write!(text, "{name} fits {count}\n"),
         Err(refused) => write!(text, "{name} {refused}\n"),
     }

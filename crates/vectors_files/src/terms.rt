@@ -38,7 +38,7 @@ impl<'r, 'a> Terms<'r, 'a> {
             row,
             trust: needed(trust, "a trust list that is none")?,
             answers: answers_text(row)?,
-            policy: Policy { sha1 },
+            policy: Policy::with_sha1(sha1),
             content,
         })
     }

@@ -98,7 +98,7 @@ pub fn signer(row: &Row<'_>) -> Result<String, Bad> {
     let content = row.octets_or("content", "'abc")?;
     let econtent_type = row.octets_or("type", "2a864886f70d010701")?;
     let sha1 = row.flag("sha1")?;
-    let fitted = signer_fits(Policy { sha1 }, &content, &econtent_type, &signer);
+    let fitted = signer_fits(Policy::with_sha1(sha1), &content, &econtent_type, &signer);
     row.ended("fits", fitted)
 }
 
@@ -128,7 +128,7 @@ pub fn file(row: &Row<'_>) -> Result<String, Bad> {
 fn fitted<S: Source>(row: &Row<'_>, content: &mut Option<S>) -> Result<String, Bad> {
     let file = row.octets("of")?;
     let sha1 = row.flag("sha1")?;
-    match fits(file.as_slice(), content, &Policy { sha1 }) {
+    match fits(file.as_slice(), content, &Policy::with_sha1(sha1)) {
         Ok(count) => Ok(format!(in row.alloc; "{count} fit")?),
         Err(refused) => row.shown(&refused),
     }

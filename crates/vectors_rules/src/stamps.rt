@@ -70,7 +70,7 @@ pub fn token(row: &Row<'_>) -> Result<String, Bad> {
     row.takes("of stamps trust answers asks sha1")?;
     let (token, stamped) = (row.octets("of")?, row.octets("stamps")?);
     let (trust, sha1) = (trust_in(row, "trust")?, row.flag("sha1")?);
-    let policy = Policy { sha1 };
+    let policy = Policy::with_sha1(sha1);
     let mut verifier = verifier_in(row)?;
     let answer = check_token(&token, &stamped, &trust, &policy, &mut verifier);
     let by_octets = said(row, &answer)?;
@@ -94,7 +94,7 @@ pub fn stamp(row: &Row<'_>) -> Result<String, Bad> {
     };
     let trust = trust_in(row, "trust")?;
     let mut verifier = verifier_in(row)?;
-    let policy = Policy { sha1: false };
+    let policy = Policy::with_sha1(false);
     said(
         row,
         &check_stamp(&token, &due, &trust, &policy, &mut verifier),
@@ -107,5 +107,5 @@ pub fn cut(row: &Row<'_>) -> Result<String, Bad> {
     let (token, stamped) = (row.octets("of")?, row.octets("stamps")?);
     let trust = trust_in(row, "trust")?;
     let mut source = Failing::new(Slice::new(&stamped));
-    from_source(row, &token, &mut source, &trust, Policy { sha1: false })
+    from_source(row, &token, &mut source, &trust, Policy::with_sha1(false))
 }

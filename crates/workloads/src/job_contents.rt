@@ -6,7 +6,7 @@ use crate::lists::trust_of;
 use crate::making::made;
 use crate::numbers::Numbers;
 use crate::results::Results;
-use crate::trusting::{Always, POLICY, stream_verdict, take_verdict};
+use crate::trusting::{Always, policy, stream_verdict, take_verdict};
 use cmsproof_api::{Slice, Trust, check_stream};
 
 /// How many octets a content has.
@@ -47,7 +47,7 @@ fn run_one(
             &mut none,
             room,
             trust,
-            &POLICY,
+            &policy(),
             &mut Always,
         )
     } else {

@@ -7,7 +7,7 @@ use crate::job::Job;
 use crate::lists::trust_of;
 use crate::numbers::Numbers;
 use crate::results::Results;
-use crate::trusting::{Always, POLICY, stream_verdict, take_verdict};
+use crate::trusting::{Always, policy, stream_verdict, take_verdict};
 use cmsproof_api::{Slice, check};
 
 /// How many octets of a small file are kept at most.
@@ -28,7 +28,7 @@ pub(crate) fn run(job: &Job<'_>, results: &mut Results) -> Result<(), Bad> {
             stream_verdict(file.as_slice(), buffer.as_mut_slice(), &trust, &mut Always)
         } else {
             let mut none: Option<Slice> = None;
-            check(file.as_slice(), &mut none, &trust, &POLICY, &mut Always)
+            check(file.as_slice(), &mut none, &trust, &policy(), &mut Always)
         };
         take_verdict(job.alloc, &verdict, results)?;
     }

@@ -6,7 +6,7 @@ use crate::job::Job;
 use crate::lists::trust_of;
 use crate::numbers::Numbers;
 use crate::results::Results;
-use crate::trusting::{Always, POLICY, take_verdict};
+use crate::trusting::{Always, policy, take_verdict};
 use cmsproof_api::{Slice, check};
 
 /// How many entries a list has beside those that files need.
@@ -20,7 +20,7 @@ pub(crate) fn run(job: &Job<'_>, results: &mut Results) -> Result<(), Bad> {
         let trust = trust_of(job, ENTRIES, &mut numbers)?;
         files.make(number, &mut file)?;
         let mut none: Option<Slice> = None;
-        let verdict = check(file.as_slice(), &mut none, &trust, &POLICY, &mut Always);
+        let verdict = check(file.as_slice(), &mut none, &trust, &policy(), &mut Always);
         take_verdict(job.alloc, &verdict, results)?;
         results.take_number(trust.entries().len() as u64);
     }

@@ -7,7 +7,7 @@ use crate::job::Job;
 use crate::making::made;
 use crate::numbers::Numbers;
 use crate::results::Results;
-use crate::trusting::POLICY;
+use crate::trusting::policy;
 use cmsproof_api::{FromWrite, Slice, attach, compare, fits};
 use lines_shown::show_signed;
 use std::alloc::Global;
@@ -44,7 +44,7 @@ fn look(alloc: Global, file: &[u8], results: &mut Results) -> Result<(), Bad> {
     )?;
     results.take(lines.as_bytes());
     let mut none: Option<Slice> = None;
-    if let Ok(count) = fits(file, &mut none, &POLICY) {
+    if let Ok(count) = fits(file, &mut none, &policy()) {
         results.take_number(count as u64);
     }
     Ok(())

@@ -6,7 +6,7 @@ use crate::job::Job;
 use crate::lists::trust_of;
 use crate::numbers::Numbers;
 use crate::results::Results;
-use crate::trusting::{POLICY, take_verdict};
+use crate::trusting::{policy, take_verdict};
 use cmsproof_api::{Answers, FromWrite, Pass, Slice, Trust, check, questions_stream};
 use std::alloc::Global;
 
@@ -52,7 +52,7 @@ fn run_batch(
     )?;
     for file in made.as_slice() {
         let mut none: Option<Slice> = None;
-        let verdict = check(file.as_slice(), &mut none, trust, &POLICY, &mut answers);
+        let verdict = check(file.as_slice(), &mut none, trust, &policy(), &mut answers);
         take_verdict(alloc, &verdict, results)?;
     }
     Ok(())

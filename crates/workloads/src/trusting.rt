@@ -32,7 +32,9 @@ impl Verifier for Always {
 }
 
 /// A policy that takes SHA-1 nowhere.
-pub(crate) const POLICY: Policy = Policy { sha1: false };
+pub(crate) fn policy() -> Policy {
+    Policy::with_sha1(false)
+}
 
 /// Takes the line of a verdict.
 pub(crate) fn take_verdict(
@@ -65,7 +67,7 @@ pub(crate) fn stream_verdict<V: Verifier>(
     let mut none: Option<Slice> = None;
     let first = check_stream_by(
         &mut Pass::new(),
-        &mut Checker::of(trust, POLICY),
+        &mut Checker::of(trust, policy()),
         &mut Slice::new(file),
         &mut none,
         buffer,
@@ -80,7 +82,7 @@ pub(crate) fn stream_verdict<V: Verifier>(
         &mut none,
         buffer,
         trust,
-        &POLICY,
+        &policy(),
         verifier,
     )
 }

@@ -65,7 +65,7 @@ fn lists_are_read(alloc: Global) -> bool {
         asked(alloc, &octets, &trust),
         StreamQuestionsFault::Questions(QuestionsFault::WriteFailed)
     );
-    let (policy, mut content): (Policy, Option<Slice<'_>>) = (Policy { sha1: false }, None);
+    let (policy, mut content): (Policy, Option<Slice<'_>>) = (Policy::with_sha1(false), None);
     let verdict = check(&octets, &mut content, &trust, &policy, &mut answers);
     match (asked, verdict, ANSWERS.split_once('\n')) {
         (Some(asked), Ok(accepted), Some((_, lines))) => {

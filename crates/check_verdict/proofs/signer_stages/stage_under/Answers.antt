@@ -12,10 +12,11 @@ use Rattle.check_verdict.proofs.StageSteps.{signer_stops, signer_is_left, comes_
 use Rattle.check_verdict.proofs.signer_stages.stage_under.Given.{Over}
 use Rattle.check_verdict.proofs.signer_stages.stage_under.Goals.{After-question_of, In-Some, After-ask}
 use Rattle.check_verdict.proofs.signer_stages.stage_under.Goals as goal
+use Rattle.check_fit.specs.Fitting.{with_sha1}
 
 -- these filters are the same for each verifier
 any_terms : Terms
-any_terms = record { policy = record { sha1 = true }; trust = []; vouches = λ q. true }
+any_terms = record { policy = with_sha1 true; trust = []; vouches = λ q. true }
 
 -- an entry for which the verifier is asked passes the filters before the last
 passed : (g : Over) (c : After-question_of g) (attributes : List AttributeValue)

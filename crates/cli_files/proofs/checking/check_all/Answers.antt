@@ -19,7 +19,7 @@ loop-path-init g c = record {
   told = ([], none, appends_none (g.O.Write.contents c.args.out.now));
   goes_by = subst (λ (k : CheckerValue). IsCheckerOf g.R.File.Read.remaining c.args.each.now.sha1 k)
       (sym c.of-checker.ensures)
-      (c.in_ok-trust.ensures.found, refl);
+      (c.in_ok-trust.ensures.found, c.with_sha1.ensures);
   answers = c.in_ok-answers.ensures.found;
 }
 

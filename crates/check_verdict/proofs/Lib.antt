@@ -28,3 +28,4 @@ pub mod Agreement
 pub mod OneSigner
 pub mod SignersGiven
 pub mod Going
+pub mod Beside

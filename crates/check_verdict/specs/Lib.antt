@@ -1,5 +1,6 @@
 pub mod Headline
 pub mod Trusted
+pub mod Beside
 pub mod Passing
 pub mod Filters
 pub mod Stages

@@ -4,9 +4,9 @@ ghost use Rattle.trust_lists.specs.Entries.{EntryValue};
 ghost use Rattle.cert_types.specs.CertificateValue.{CertificateValue};
 ghost use Rattle.check_verdict.specs.KeptCertificates.{IsOfEntry, IsKept};
 
+use crate::trusted::Trusted;
 use cert_types::Certificate;
 use std::marker::{Model, PhantomData};
-use trust_lists::Trust;
 
 // The certificate of the entry at this place.
 #[derive(Debug, Drop)]
@@ -47,7 +47,7 @@ impl Known for Authorities {
 /// Contracts see the entries of the list, in its order.
 #[derive(Debug, Drop)]
 pub(crate) struct Recent<'l, K: Known> {
-    trust: &'l Trust,
+    trust: Trusted<'l>,
     // Four by name, since an array holds only what can be copied.
     first: Option<Kept<'l>>,
     second: Option<Kept<'l>>,
@@ -65,16 +65,16 @@ impl<'l, K: Known> Model for Recent<'l, K> {
 
     ghost Value = { List EntryValue };
 
-    ghost view = { λ r. r.trust.now };
+    ghost view = { λ r. r.trust };
 
-    ghost invariant = { λ r. IfSome r.first (IsKept K.known r.trust.now) × IfSome r.second (IsKept K.known r.trust.now)
-        × IfSome r.third (IsKept K.known r.trust.now) × IfSome r.fourth (IsKept K.known r.trust.now) };
+    ghost invariant = { λ r. IfSome r.first (IsKept K.known r.trust) × IfSome r.second (IsKept K.known r.trust)
+        × IfSome r.third (IsKept K.known r.trust) × IfSome r.fourth (IsKept K.known r.trust) };
 }
 
 impl<'l, K: Known> Recent<'l, K> {
     /// With none.
-    pub fn of(trust: &'l Trust) -> Recent<'l, K>
-        ensures { result ≡ trust.now }
+    pub fn of(trust: Trusted<'l>) -> Recent<'l, K>
+        ensures { result ≡ trust.entry }
     {
         Recent {
             trust,

@@ -1,10 +1,13 @@
 //! What a check goes by, apart from the verifier, which each question changes.
-ghost use Rattle.std.specs.Prelude.{◌≡◌};
+ghost use Rattle.std.specs.Prelude.{◌≡◌, map};
+ghost use Rattle.check_verdict.specs.Beside.{beside};
 ghost use Rattle.check_verdict.specs.KeptDigests.{AreDigestsOf};
 
 use crate::certificates::{Authorities, Recent, Signers};
 use crate::hashed::{Hashed, KeptDigests};
+use crate::trusted::Trusted;
 use check_fit::Policy;
+use der_time::Moment;
 use std::marker::Model;
 use trust_lists::Trust;
 
@@ -53,11 +56,28 @@ impl<'l> Checker<'l> {
         // It goes by this list and this policy.
         ensures { result ≡ record { trust = trust.now; policy = policy } }
     {
+        Checker::over(Trusted::of(trust), policy, kept)
+    }
+
+    /// Beside a record that shows the file by this moment (RFC 4998 5.3): an entry of an authority counts only if it
+    /// holds then too, and for no token that is later. Nothing is kept yet.
+    pub fn beside(trust: &'l Trust, policy: Policy, shown: Moment) -> Checker<'l>
+        // It goes by the entries of this list as they count beside the record, and by this policy.
+        ensures { result ≡ record { trust = map (beside shown) trust.now; policy = policy } }
+    {
+        Checker::over(Trusted::beside(trust, shown), policy, KeptDigests::none())
+    }
+
+    // By entries as they count, with digests that were kept of their certificates.
+    fn over(trusted: Trusted<'l>, policy: Policy, kept: KeptDigests) -> Checker<'l>
+        requires { AreDigestsOf trusted kept }
+        ensures { result ≡ record { trust = trusted.entry; policy = policy } }
+    {
         Checker {
             policy,
-            hashed: Hashed::of(trust, kept),
-            signers: Recent::of(trust),
-            authorities: Recent::of(trust),
+            signers: Recent::of(trusted.again()),
+            authorities: Recent::of(trusted.again()),
+            hashed: Hashed::of(trusted, kept),
         }
     }
 
@@ -77,9 +97,9 @@ impl<'l> Checker<'l> {
         self.policy
     }
 
-    /// The entries that the user trusts.
-    pub(crate) fn trust(&self) -> &'l Trust
-        ensures { result.now ≡ self.now.trust }
+    /// The entries that the user trusts, as they count.
+    pub(crate) fn trust(&self) -> Trusted<'l>
+        ensures { result ≡ self.now.trust }
     {
         self.hashed.trust()
     }

@@ -4,11 +4,11 @@ ghost use Rattle.digests.specs.Digests.{alg_of};
 ghost use Rattle.trust_lists.specs.Entries.{EntryValue};
 ghost use Rattle.check_verdict.specs.KeptDigests.{IsDigestAt, AreDigestsOf};
 
+use crate::trusted::Trusted;
 use cert_types::Certificate;
 use check_names::CertificateHasher;
 use digests::{Alg, Digest, digest};
 use std::marker::Model;
-use trust_lists::Trust;
 
 /// How many digests are kept.
 const SLOTS: usize = 8;
@@ -50,7 +50,7 @@ impl KeptDigests {
 /// Contracts see the entries of the list, in its order.
 #[derive(Debug, Drop)]
 pub(crate) struct Hashed<'l> {
-    trust: &'l Trust,
+    trust: Trusted<'l>,
     kept: KeptDigests,
 }
 
@@ -61,25 +61,25 @@ impl<'l> Model for Hashed<'l> {
 
     ghost Value = { List EntryValue };
 
-    ghost view = { λ h. h.trust.now };
+    ghost view = { λ h. h.trust };
 
-    ghost invariant = { λ h. AreDigestsOf h.trust.now h.kept };
+    ghost invariant = { λ h. AreDigestsOf h.trust h.kept };
 }
 
 impl<'l> Hashed<'l> {
     /// The list, with these digests of it.
-    pub fn of(trust: &'l Trust, kept: KeptDigests) -> Hashed<'l>
-        requires { AreDigestsOf trust.now kept }
-        ensures { result ≡ trust.now }
+    pub fn of(trust: Trusted<'l>, kept: KeptDigests) -> Hashed<'l>
+        requires { AreDigestsOf trust kept }
+        ensures { result ≡ trust.entry }
     {
         Hashed { trust, kept }
     }
 
     /// The list.
-    pub fn trust(&self) -> &'l Trust
-        ensures { result.now ≡ self.now }
+    pub fn trust(&self) -> Trusted<'l>
+        ensures { result ≡ self.now }
     {
-        self.trust
+        self.trust.again()
     }
 
     /// The digests that are kept now.

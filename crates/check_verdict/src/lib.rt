@@ -20,6 +20,7 @@ mod stamp;
 mod tally;
 mod token;
 mod token_stages;
+mod trusted;
 
 pub use accepted::Accepted;
 pub use asking::{holds, question_of};

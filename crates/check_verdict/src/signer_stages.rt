@@ -12,25 +12,25 @@ ghost use Rattle.trust_lists.specs.Entries.{EntryValue};
 ghost use Rattle.check_names.specs.Naming.{NamesIfAny};
 ghost use Rattle.check_verdict.specs.SignerStages.{LeftAt, IsSignersAt, ComesForSigner, AsksForSigner};
 
-use crate::asking::{holds_under, question_of};
-use crate::candidates::next_candidate;
+use crate::asking::question_of;
 use crate::checker::Checker;
 use crate::filter::{SignerFilter, further_for_signer};
 use crate::hashed::Hashed;
+use crate::trusted::Counted;
 use cert_types::Certificate;
 use check_names::{matches, names_if_any};
 use cms_types::Signer;
 use der_time::Moment;
 use list_answers::{AskFault, Verifier};
-use trust_lists::{Entry, Role};
+use trust_lists::Role;
 
 // Whether the entry with this certificate holds at the moment, if one is given.
-fn holds_at(entry: &Entry, certificate: &Certificate, moment: &Option<Moment>) -> bool
+fn holds_at(entry: &Counted, certificate: &Certificate, moment: &Option<Moment>) -> bool
     requires { certificate.now ≡ entry.now.certificate }
     ensures { IsTrue result ↔ IfSome moment.now (Holds entry.now) }
 {
     match moment {
-        Some(moment) => holds_under(entry, certificate, *moment),
+        Some(moment) => entry.holds_under(certificate, *moment),
         None => true,
     }
 }
@@ -39,7 +39,7 @@ fn holds_at(entry: &Entry, certificate: &Certificate, moment: &Option<Moment>) -
 fn failed_unasked(
     signer: &Signer,
     moment: &Option<Moment>,
-    entry: &Entry,
+    entry: &Counted,
     place: usize,
     certificate: &Certificate,
     hashed: &mut Hashed,
@@ -68,7 +68,7 @@ fn failed_unasked(
 fn stage_under<V: Verifier>(
     signer: &Signer,
     moment: &Option<Moment>,
-    entry: &Entry,
+    entry: &Counted,
     place: usize,
     certificate: &Certificate,
     verifier: &mut V,
@@ -101,7 +101,7 @@ fn stage_under<V: Verifier>(
 fn signer_stage<'l, V: Verifier>(
     signer: &Signer,
     moment: &Option<Moment>,
-    entry: &'l Entry,
+    entry: &Counted<'l>,
     place: usize,
     checker: &mut Checker<'l>,
     verifier: &mut V,
@@ -164,9 +164,9 @@ pub(crate) fn signer_stages<V: Verifier>(
     let trust = checker.trust();
     let mut best = Some(SignerFilter::UnknownSigner);
     let mut from = 0;
-    while let Some(at) = next_candidate(trust, Role::Signer, signer.sid(), from) {
-        let entry = &trust.entries()[at];
-        let failed = signer_stage(signer, moment, entry, at, checker, verifier)?;
+    while let Some(at) = trust.next(Role::Signer, signer.sid(), from) {
+        let entry = trust.entry(at);
+        let failed = signer_stage(signer, moment, &entry, at, checker, verifier)?;
         best = further_for_signer(best, failed);
         from = at + 1;
     }

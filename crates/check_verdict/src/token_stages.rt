@@ -12,16 +12,16 @@ ghost use Rattle.check_verdict.specs.Trusted.{asked};
 ghost use Rattle.check_verdict.specs.TokenRules.{LeftForToken, IsInPeriod};
 ghost use Rattle.check_verdict.specs.TokenStages.{ComesForToken, AsksForToken};
 
-use crate::asking::{holds_under, question_of};
-use crate::candidates::next_candidate;
+use crate::asking::question_of;
 use crate::checker::Checker;
 use crate::claim::Claim;
 use crate::filter::{TokenFilter, further_for_token};
 use crate::hashed::Hashed;
+use crate::trusted::Counted;
 use cert_types::Certificate;
 use check_names::{matches, must_name};
 use list_answers::{AskFault, Verifier};
-use trust_lists::{Entry, Role};
+use trust_lists::Role;
 
 // Whether the certificate is for time-stamping alone, which may be known.
 fn is_stamping_only(certificate: &Certificate, known: bool) -> bool
@@ -45,7 +45,7 @@ fn is_for_stamping(failed: Option<TokenFilter>) -> bool
 // the verifier vouches for the token's signer.
 fn failed_unasked(
     claim: &Claim,
-    entry: &Entry,
+    entry: &Counted,
     place: usize,
     certificate: &Certificate,
     known: bool,
@@ -73,7 +73,7 @@ fn failed_unasked(
     if !is_stamping_only(certificate, known) {
         return TokenFilter::Purpose;
     }
-    if !holds_under(entry, certificate, claim.moment) {
+    if !entry.holds_under(certificate, claim.moment) {
         return TokenFilter::Period;
     }
     TokenFilter::SignatureFails
@@ -82,7 +82,7 @@ fn failed_unasked(
 // Where the entry of an authority with this certificate stops; `None` if it passes K10 to K14.
 fn stage_under<V: Verifier>(
     claim: &Claim,
-    entry: &Entry,
+    entry: &Counted,
     place: usize,
     certificate: &Certificate,
     known: bool,
@@ -116,7 +116,7 @@ fn stage_under<V: Verifier>(
 // it is for time-stamping alone, since other tokens may have it.
 fn token_stage<'l, V: Verifier>(
     claim: &Claim,
-    entry: &'l Entry,
+    entry: &Counted<'l>,
     place: usize,
     checker: &mut Checker<'l>,
     verifier: &mut V,
@@ -174,9 +174,9 @@ pub(crate) fn token_stages<V: Verifier>(
     let trust = checker.trust();
     let mut best = Some(TokenFilter::UnknownTsa);
     let mut from = 0;
-    while let Some(at) = next_candidate(trust, Role::Tsa, claim.signer.sid(), from) {
-        let entry = &trust.entries()[at];
-        let failed = token_stage(claim, entry, at, checker, verifier)?;
+    while let Some(at) = trust.next(Role::Tsa, claim.signer.sid(), from) {
+        let entry = trust.entry(at);
+        let failed = token_stage(claim, &entry, at, checker, verifier)?;
         best = further_for_token(best, failed);
         from = at + 1;
     }

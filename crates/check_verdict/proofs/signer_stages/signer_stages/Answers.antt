@@ -12,7 +12,7 @@ use Rattle.check_verdict.specs.Trusted.{asked}
 use Rattle.check_verdict.specs.SignerStages.{LeftAt, IsSignersAt}
 use Rattle.check_verdict.proofs.Tallies.{at_falls}
 use Rattle.check_verdict.proofs.Going.{goes_further}
-use Rattle.check_verdict.proofs.Found.{entry_among, best_of_found, best_of_rest}
+use Rattle.check_verdict.proofs.Found.{entry_there, best_of_found, best_of_rest}
 use Rattle.check_verdict.proofs.signer_stages.signer_stages.Given.{Over}
 use Rattle.check_verdict.proofs.signer_stages.signer_stages.Goals.{After-signer_stage}
 use Rattle.check_verdict.proofs.signer_stages.signer_stages.Goals as goal
@@ -26,8 +26,7 @@ only : (g : Over) (c : After-signer_stage g) (test : Asked → Bool) (attributes
 only g c test attributes has asks =
     g.V.Verifier.asked_further test _ _ _ (c.loop-at.invariant.only test attributes has asks)
     (c.signer_stage.ensures.only test attributes has (asks _
-    (entry_among _ _ _ c.entries.ensures c.trust-trust.ensures c.in-Some.at _ c.index-entries-at.is
-    c.in-Some.ensures.1)))
+    (entry_there _ _ c.trust-trust.ensures c.in-Some.at _ c.entry-entry.ensures.there)))
 
 pub returns-in_err-failed-clause-only : goal.returns-in_err-failed-clause-only
 returns-in_err-failed-clause-only g c = only g (goal.at.returns-in_err-failed-clause-only g c).After-signer_stage
@@ -39,11 +38,11 @@ loop-at-preserved g c =
       within = omega (arith, c.in-Some.ensures.1);
       so_far = λ t vouches attributes has.
           rw (c.further_for_signer-best.ensures) (best_of_found (LeftAt t c.args.signer.now attributes
-          c.args.moment.now) 3 c.trust-trust.result.now Signer
+          c.args.moment.now) 3 c.trust-trust.result Signer
           (sid_value c.sid.result.now) c.args.signer.now.sid c.sid.ensures
           (at_falls t c.args.signer.now attributes c.args.moment.now)
           (λ x p. (p.role, p.matches)) c.loop-at.from c.in-Some.at _ _ _
-          c.in-Some.ensures _ c.entries.ensures c.index-entries-at.is (h.so_far t vouches attributes has)
+          c.in-Some.ensures c.entry-entry.ensures.there (h.so_far t vouches attributes has)
           (c.in_ok-failed.ensures.stage t (vouches ∙ sym h.goes.same) attributes has));
       only = only g (goal.at.loop-at-preserved g c).After-signer_stage;
       goes = goes_further h.goes c.in_ok-failed.ensures.same c.in_ok-failed.ensures.count c.in_ok-failed.ensures.stays;
@@ -55,7 +54,7 @@ returns-clause-stage g c = λ t vouches attributes has.
     subst (λ (es : List EntryValue).
     Best (LeftAt t c.args.signer.now attributes c.args.moment.now) 3 es (passed_for_signer c.loop-at.best))
     c.trust-trust.ensures (best_of_rest (LeftAt t c.args.signer.now attributes c.args.moment.now) 3
-    c.trust-trust.result.now Signer (sid_value c.sid.result.now)
+    c.trust-trust.result Signer (sid_value c.sid.result.now)
     c.args.signer.now.sid c.sid.ensures (at_falls t c.args.signer.now attributes c.args.moment.now)
     (λ x p. (p.role, p.matches))
     c.loop-at.from _ h.within c.in_default.ensures (h.so_far t vouches attributes has))

@@ -1,0 +1,9 @@
+mod Mapped
+mod Terms
+mod Tokens
+mod Questions
+mod Suffices
+mod Accepted
+mod InTime
+mod Verdicts
+mod Rows

@@ -13,7 +13,7 @@ use Rattle.der_core.specs.Faults.{Faults}
 use Rattle.der_core.specs.Form.{filled}
 use Rattle.der_core.specs.Grammar.{one, opt, list, is_of, version, algorithm, file}
 use Rattle.der_core.specs.Reading.{Spot, spot, within, maybe, maybe_filled, ◌then◌, whole_of, oid_in, opaque_at}
-use Rattle.der_core.specs.Reading.{version_in}
+use Rattle.der_core.specs.Reading.{version_in, any_at}
 use Rattle.der_core.specs.Values.{HasLength, IsOid, IsOpaque, optional_whole, AlgorithmValue, algorithm_parts}
 use Rattle.der_core.specs.Values.{GoodAlgorithm}
 use Rattle.der_core.proofs.AlgorithmReader.{AlgorithmParts, algorithm_body}
@@ -33,8 +33,8 @@ use Rattle.cms_types.specs.SignerValue.{IsVersion}
 use Rattle.cms_types.proofs.SignerReaders.{version_reader}
 use Rattle.evidence_types.specs.EvidenceTable.{archive_time_stamp, chain, encryption_info, evidence_record}
 use Rattle.evidence_types.specs.FilledReading.{within_filled}
-use Rattle.evidence_types.specs.StampValue.{StampValue, stamp_parts, GoodStamp}
-use Rattle.evidence_types.specs.StampReading.{stamp_in}
+use Rattle.evidence_types.specs.StampValue.{StampValue, stamp_parts, GoodStamp, hash_list_parts}
+use Rattle.evidence_types.specs.StampReading.{stamp_in, values_in}
 use Rattle.evidence_types.specs.EvidenceValue.{chain_parts, GoodChain, chains_parts, GoodChains, EncryptionValue}
 use Rattle.evidence_types.specs.EvidenceValue.{encryption_parts, GoodEncryption, optional_encryption, EvidenceValue}
 use Rattle.evidence_types.specs.EvidenceValue.{evidence_parts, encoding, GoodEvidence, EncodesEvidence}
@@ -42,7 +42,7 @@ use Rattle.evidence_types.specs.EvidenceReading.{stamps_in, chains_in, encryptio
 use Rattle.evidence_types.specs.EvidenceReading.{evidence_from, evidence_in, evidence_at}
 use Rattle.evidence_types.proofs.FilledLists.{some_octets, Inside, filled_many_body, within_filled_reader}
 use Rattle.evidence_types.proofs.AttributeParts.{list_reader}
-use Rattle.evidence_types.proofs.StampReaders.{GoodTuple, stamp_body}
+use Rattle.evidence_types.proofs.StampReaders.{GoodTuple, stamp_body, values_body}
 
 -- ---- the algorithms
 
@@ -263,7 +263,13 @@ evidence_unique bytes v w h k = ok_is v w (sym (evidence_again bytes v h) ∙ ev
 
 -- ---- lists that were read
 
--- the time-stamps of a chain are those of its octets
+-- the hash values of a list are those of its octets
+pub values_there : (s : Spot) → IsBytes s.rest → IsList (within 0x04 any_at) s
+    → s.rest ≡ hash_list_parts (all_in (within 0x04 any_at) s)
+values_there s fits h =
+    (values_body.takes s (all_in (within 0x04 any_at) s) fits (ok_items (values_in s) h)).1
+
+-- and the time-stamps of a chain
 pub stamps_there : (s : Spot) → IsBytes s.rest → IsList (within 0x30 stamp_in) s
     → (s.rest ≡ chain_parts (all_in (within 0x30 stamp_in) s))
     × AllByRecursion GoodStamp (all_in (within 0x30 stamp_in) s)

@@ -1,6 +1,7 @@
 ghost use Rattle.std.specs.Prelude.{◌≡◌, ◌==◌, ◌∷◌, [], length, MatchOption};
 ghost use Rattle.der_core.specs.Reading.{Gives};
 ghost use Rattle.evidence_types.specs.StampReading.{values_in};
+ghost use Rattle.evidence_types.specs.StampValue.{hash_list_parts};
 
 use der_core::tags::{OCTET_STRING, SEQUENCE};
 use der_core::{Cursor, Fault, Kind};
@@ -75,6 +76,14 @@ impl<'a> HashList<'a> {
     {
         let count = scan_items::<HashValue>(&list)?;
         Ok(HashList { list, count })
+    }
+
+    /// The octets of the hash values, one after the other, as in the contents of their list (RFC 4998 4.1).
+    pub fn bytes(&self) -> &'a [u8]
+        // Returns the encodings of the hash values, one after the other.
+        ensures { result.now ≡ hash_list_parts self.now }
+    {
+        self.list.rest()
     }
 
     /// The first hash value and the others, or `None` if there is none.

@@ -3,6 +3,8 @@ mod Ascending
 pub mod Joining
 mod Sorted
 mod Tests
+mod Strides
+mod Searching
 mod Going
 mod Climbing
 mod OneDigest

@@ -1,7 +1,8 @@
 -- Tests of lists of hash values.
-use Rattle.std.specs.Prelude.{ℕ, Bool, List, ◌==◌, length}
+use Rattle.std.specs.Prelude.{◌≡◌, ℕ, Bool, List, ◌==◌, length, All}
 use Rattle.std.specs.List.{list_all, list_any}
 use Rattle.der_core.specs.Lists.{is_same}
+use Rattle.check_evidence.specs.Roots.{IsAscending}
 
 -- whether a value stands among these
 abbrev pub is_among : List (List ℕ) → List ℕ → Bool
@@ -10,3 +11,7 @@ is_among values v = list_any (is_same v) values
 -- whether each has this many octets
 abbrev pub are_long : ℕ → List (List ℕ) → Bool
 are_long count values = list_all (λ v. length v == count) values
+
+-- each has this many octets, and they stand in ascending order, so that one can be searched for
+abbrev pub IsSearchable : ℕ → List (List ℕ) → Type 0
+IsSearchable size values = All (λ v. length v ≡ size) values × IsAscending values

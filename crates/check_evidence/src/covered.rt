@@ -38,6 +38,16 @@ fn value_of(alg: Alg, chains: Option<Digest>, data_object: &WantedDigests) -> Di
 }
 
 impl<'d> Covered<'d> {
+    // How many there are.
+    pub(crate) fn len(&self) -> usize
+        ensures { result ≡ how_many self.now }
+    {
+        match self {
+            Covered::One(_) => 1,
+            Covered::Each { chains: _, digests } => digests.len(),
+        }
+    }
+
     /// The first value and the others, or `None` if there is none. It allocates nothing.
     pub fn next(&self, alg: Alg) -> Option<(Digest, Covered<'d>)>
         requires { AreGiven alg self.now }

@@ -9,6 +9,7 @@ mod laws;
 mod list_root;
 mod list_tests;
 mod rules;
+mod search;
 mod sorting;
 
 pub use covered::Covered;

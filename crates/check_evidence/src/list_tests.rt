@@ -1,18 +1,23 @@
-ghost use Rattle.std.specs.Prelude.{◌≡◌, ◌≢◌, ◌↔◌, ℕ, List, [], IsTrue, IfSome, MatchOption};
+ghost use Rattle.std.specs.Prelude.{◌≡◌, ◌≢◌, ◌↔◌, ◌<◌, ℕ, List, [], true, IsTrue, IfSome, MatchOption};
 ghost use Rattle.std.specs.List.{list_all};
 ghost use Rattle.std.specs.Option.{option_copied};
 ghost use Rattle.der_core.specs.Lists.{is_same};
 ghost use Rattle.digests.specs.Digests.{alg_of, octets_of};
 ghost use Rattle.check_evidence.specs.CoveredValues.{AreValues, AreGiven};
 ghost use Rattle.check_evidence.specs.FirstValues.{HasFirst};
-ghost use Rattle.check_evidence.specs.ListTests.{is_among, are_long};
+ghost use Rattle.check_evidence.specs.ListTests.{is_among, are_long, IsSearchable};
 ghost use Rattle.check_evidence.specs.Roots.{AreOne, IsCovered, HasNoOthers};
 ghost use Rattle.check_evidence.specs.Standing.{HasLengths};
 
 use crate::covered::Covered;
+use crate::hashing::is_ascending;
+use crate::search::is_found;
 use der_core::octets::is_same;
 use digests::{Alg, Digest};
 use evidence_types::{HashList, HashLists};
+
+// For so many values a list is only walked.
+const FEW: usize = 4;
 
 // Whether the value is one of these.
 fn is_among(values: &HashList, value: &[u8]) -> bool
@@ -28,14 +33,45 @@ fn is_among(values: &HashList, value: &[u8]) -> bool
     false
 }
 
+// Whether a list is searched for this many values: it has values with so many octets in ascending order, and the two
+// walks that tell this take less than a walk for each value.
+#[tactic(auto, using(crate::proofs::Tests::long_says))]
+fn is_searched(values: &HashList, size: usize, count: usize) -> bool
+    ensures { IsTrue result ↔ (4 < count) × IsSearchable size values.now }
+{
+    if count <= FEW {
+        return false;
+    }
+    if !are_long(values, size) {
+        return false;
+    }
+    is_ascending(values)
+}
+
+// Whether the value is one of these, which are searched if they can be.
+fn is_listed(values: &HashList, size: usize, searched: bool, value: &[u8]) -> bool
+    requires short { size < 128 }
+    requires searchable { searched ≡ true → IsSearchable size values.now }
+    ensures { result ≡ is_among values.now value.now }
+{
+    if searched {
+        is_found(values, size, value)
+    } else {
+        is_among(values, value)
+    }
+}
+
 // Whether each value that must be covered is one of these.
+#[tactic(auto, using(crate::proofs::Strides::digests_are_short))]
 fn are_among(alg: Alg, covered: &Covered, values: &HashList) -> bool
     requires { AreGiven alg covered.now }
     ensures { (due : List (List ℕ)) → AreValues alg covered.now due → result ≡ list_all (is_among values.now) due }
 {
+    let size = alg.length();
+    let searched = is_searched(values, size, covered.len());
     let mut left = *covered;
     while let Some((value, others)) = left.next(alg) {
-        if !is_among(values, value.bytes()) {
+        if !is_listed(values, size, searched, value.bytes()) {
             return false;
         }
         left = others;
@@ -143,8 +179,9 @@ pub fn have_lengths(lists: Option<&HashLists>, alg: Alg) -> bool
 }
 
 /// Whether an archive time-stamp with these lists covers what it must (RFC 4998 4.3, step 2, and 5.3; rule W3): each
-/// value stands in the first list; without lists they are one, which may occur more than once. It allocates nothing,
-/// and goes through the first list once for each value.
+/// value stands in the first list; without lists they are one, which may occur more than once. It allocates nothing.
+/// For many values a first list in ascending order is searched by bisection; one in another order is gone through once
+/// for each value.
 pub fn are_covered(lists: Option<&HashLists>, alg: Alg, covered: &Covered) -> bool
     // The values can be computed by this algorithm.
     requires { AreGiven alg covered.now }

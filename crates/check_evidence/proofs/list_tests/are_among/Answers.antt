@@ -22,8 +22,8 @@ loop-value-preserved c =
           c.in-Some.others c.in-Some.ensures.values (all_on (is_among c.args.values.now) v on);
     }
 
-pub returns-then-not-is_among : goal.returns-then-not-is_among
-returns-then-not-is_among c =
+pub returns-then-not-is_listed : goal.returns-then-not-is_listed
+returns-then-not-is_listed c =
     let v : List ℕ = octets_of c.in-Some.value in
     let off : (is_among c.args.values.now) v ≡ false = search rules in
     settled c.args.alg c.args.covered.now c.loop-value.left

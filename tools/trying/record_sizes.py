@@ -99,9 +99,14 @@ def chains(count, **rest):
     return of(growing, **rest)
 
 
-def group(count):
-    """A record of a group of so many data, whose hash values stand in the other order."""
-    return in_lists(lambda covered: [covered[::-1]], *(b"%d" % number for number in range(count)), policy=WHOLE)
+def group(count, put=lambda covered: covered[::-1], policy=WHOLE):
+    """A record of a group of so many data, whose hash values stand in the other order, or as `put` has them."""
+    return in_lists(lambda covered: [put(covered)], *(b"%d" % number for number in range(count)), policy=policy)
+
+
+def group_in_order(count):
+    """A record of a group of so many data, whose hash values stand in order, and between them twenty-five times as many others."""
+    return group(count, lambda covered: sorted([*covered, *values(26 * count)[count:]]), UNSAID)
 
 
 def rising_and_falling(first, hashes):
@@ -168,6 +173,7 @@ ROWS = [
     ("chains, asked", lambda n: chains(n, questions=True), STAMPS, IN_ORDER),
     # (each is looked for among all)
     ("data of a group", group, 2 * STAMPS, SQUARED),
+    ("data of a group, in order", group_in_order, 4 * STAMPS, IN_ORDER),
     ("certificates of a token", lambda n: small(certificates=b"\x30\0" * n), VALUES, IN_ORDER),
     ("extensions of a TSTInfo", lambda n: small(extensions=building.extension(OTHER, b"", False) * n), VALUES, IN_ORDER),
     ("attributes of a time-stamp", lambda n: small(attributes=SMALL * n), VALUES, IN_ORDER),

@@ -6,6 +6,7 @@ use Rattle.std.specs.declared.cmp.Ordering.{Ordering}
 use Rattle.std.specs.declared.cmp.Ordering.TheVariants.{Less, Equal, Greater}
 use Rattle.std.specs.Ordering.{nat_cmp, is_eq, ordering_then}
 use Rattle.std.specs.Cmp.Lexicographic.{slice_cmp}
+use Rattle.std.specs.List.{list_all}
 use Rattle.std.specs.BTreeSet.{BTreeSet, contains, Updates}
 use Rattle.std.proofs.lemmas.Cmp.{same_from_slice_cmp}
 use Rattle.std.proofs.lemmas.Bool.Decides.{nat_tests}
@@ -14,9 +15,10 @@ use Rattle.der_core.proofs.Encoded.{same}
 use Rattle.digests.specs.declared.algorithm.Alg.{Alg}
 use Rattle.evidence_sums.specs.Marks.{mark_of}
 use Rattle.evidence_sums.specs.Names.{is_escaped, unescaped}
-use Rattle.evidence_sums.specs.SumLines.{escaped_in, name_in}
+use Rattle.evidence_sums.specs.SumLines.{escaped_in, is_sum_line, name_in}
 use Rattle.evidence_sums.specs.Sums.{is_among, first_again}
-use Rattle.evidence_sums.proofs.Escapes.{same_names}
+use Rattle.evidence_sums.proofs.Escapes.{and_first, and_second, same_names}
+use Rattle.evidence_sums.proofs.GoodLines.{good}
 
 -- a mark and a name as it stands, and their order
 abbrev pub Marked : Type 0
@@ -107,3 +109,23 @@ passed_found alg passed lines others number line stands is there old =
     let again : is_among passed (name_in alg line) ≡ true =
     sym (ap (λ (w : List ℕ). is_among passed (unescaped w)) there) ∙ old in
     ap (λ (ls : List (List ℕ)). first_again passed number (map (name_in alg) ls)) is ∙ rw again refl
+
+-- ---- a name, as it stands in the first line of those that are left
+
+module _ (alg : Alg) (lines others : List (List ℕ)) (line : List ℕ) (name : Bor (List ℕ)) (cut : lines ≡ line ∷ others)
+    (sums : list_all (is_sum_line alg) lines ≡ true) (is : name.now ≡ escaped_in alg line) where
+  all : list_all (is_sum_line alg) (line ∷ others) ≡ true
+  all = sym (ap (list_all (is_sum_line alg)) cut) ∙ sums
+
+  pub sums_behind : list_all (is_sum_line alg) others ≡ true
+  sums_behind = and_second (is_sum_line alg line) (list_all (is_sum_line alg) others) all
+
+  pub name_stands : is_escaped name.now ≡ true
+  name_stands = ap is_escaped is
+      ∙ (good alg line (and_first (is_sum_line alg line) (list_all (is_sum_line alg) others) all)).stands
+
+  -- the set says whether it was passed
+  pub name_among : (passed : List (List ℕ)) (kept : BTreeSet Marked) (mark : ℕ) → Keeps passed kept
+      → mark ≡ mark_of name.now → is_among passed (unescaped name.now) ≡ contains marked_cmp kept (mark, name)
+  name_among passed kept mark keeps its =
+      sym (keeps name name_stands) ∙ ap (λ (m : ℕ). contains marked_cmp kept (m, name)) (sym its)

@@ -1,11 +1,11 @@
-ghost use Rattle.std.specs.Prelude.{◌≡◌, ℕ, Bool, MatchBool, MatchResult, IfErr, IfOk, IfSome, length};
+ghost use Rattle.std.specs.Prelude.{◌≡◌, Bool, MatchBool, MatchResult, IfErr, IfOk, IfSome, length};
 ghost use Rattle.trust_lists.specs.Asking.{Asked, is_among};
 ghost use Rattle.check_verdict.specs.Checking.{ChecksStream};
 ghost use Rattle.check_verdict.specs.Checkers.{terms_for};
 ghost use Rattle.cli_commands.specs.Checking.{ShowsAccepted, ShowsRefused, TellsAccepted};
 ghost use Rattle.cli_commands.specs.Fit.{TellsUnfit};
 ghost use Rattle.cli_commands.specs.Lists.{IsAnswersOf, IsCheckerOf};
-ghost use Rattle.cli_commands.specs.Rereading.{IsLimitFor, OfReading};
+ghost use Rattle.cli_commands.specs.Rereading.{OfReading};
 ghost use Rattle.check_fit.specs.FileFitting.{facts_of};
 ghost use Rattle.check_stream.specs.StreamVerdicts.{IsTooLong};
 ghost use Rattle.lines_report.specs.VerdictLine.{IsVerdictLine};
@@ -81,46 +81,19 @@ where
         file: files::open(rt, words.file)?,
         failed: 0,
     };
-    let verdict = verdict_as_stated(
+    let stated = file.stated();
+    let limit = limit_of(words.buffer, stated.is_some());
+    let verdict = verdict_within(
         rt.alloc(),
         &mut file,
         &mut content,
-        words.buffer,
+        stated,
+        limit,
         answers,
         passing,
         checker,
     )?;
     line_of(rt.alloc(), verdict)
-}
-
-/// The verdict about a file from which nothing was read, and of which no more octets may be kept than the words say, if
-/// they do. What the file says of itself decides otherwise, and only that.
-///
-/// Errors: those of `verdict_within`.
-fn verdict_as_stated<F: Read + Seek + Describes, S: Source>(
-    alloc: Global,
-    file: &mut Rereadable<F>,
-    content: &mut Option<S>,
-    said: Option<u64>,
-    answers: &mut Answers,
-    passing: &mut Pass,
-    checker: &mut Checker,
-) -> Result<Result<Accepted, Refused>, AllocError>
-    // The verdict is that of one pass with as much room as the limit of this file.
-    ensures judged { IfOk result (λ verdict. (limit : ℕ) × IsLimitFor F.says file.old.file said limit
-        × OfReading F.stream_position F.remaining (λ octets. ChecksStream
-        (facts_of S.tells S.rest S.failures) (terms_for checker.old (λ q. is_among answers.old q)) octets
-        content.old content.new) file.old.file limit file.old.failed file.new.failed content.old content.new verdict) }
-    // What the answers list vouches for stays the same.
-    ensures same { ◌≡◌ {A = Asked → Bool} (λ q. is_among answers.new q) (λ q. is_among answers.old q) }
-    // What the check goes by stays the same.
-    ensures stays { checker.new ≡ checker.old }
-{
-    let stated = file.stated();
-    let limit = limit_of(said, stated.is_some());
-    verdict_within(
-        alloc, file, content, stated, limit, answers, passing, checker,
-    )
 }
 
 /// The verdict about a file from which nothing was read, which says that it is this long if it can be read again, and

@@ -15,10 +15,7 @@ pub fn trust_in<'p, R: Files + AllocGlobal>(rt: &R, path: &'p str) -> Result<Tru
     ensures refused { IfErr result (IsFailureOfTrust R.File.remaining path.entry) }
 {
     let text = files::read_whole(rt, path)?;
-    match Trust::read(rt.alloc(), text.as_slice()) {
-        Ok(trust) => Ok(trust),
-        Err(fault) => Err(Failure::from(fault)),
-    }
+    Ok(Trust::read(rt.alloc(), text.as_slice())?)
 }
 
 /// The answers list that the file of this path holds.
@@ -30,8 +27,5 @@ pub fn answers_in<'p, R: Files + AllocGlobal>(rt: &R, path: &'p str) -> Result<A
     ensures refused { IfErr result (IsFailureOfAnswers R.File.remaining path.entry) }
 {
     let text = files::read_whole(rt, path)?;
-    match Answers::read(rt.alloc(), text.as_slice()) {
-        Ok(answers) => Ok(answers),
-        Err(fault) => Err(Failure::from(fault)),
-    }
+    Ok(Answers::read(rt.alloc(), text.as_slice())?)
 }

@@ -1,5 +1,4 @@
 use crate::commands::{ALL, EVIDENCE, Named, STAMPS, command};
-use crate::group::Group;
 use crate::help::{EVIDENCE_LINES, STAMP_LINES, STATUSES};
 use clap::Command;
 use std::alloc::{AllocError, Global};
@@ -29,21 +28,10 @@ pub const ABOUT_EVIDENCE: &str =
     "Says by when files existed, by an evidence record that stands beside them (RFC 4998); and makes and renews such \
      records.";
 
-/// What the program takes behind the word that names a group of commands, or behind its own name, where this word
-/// stands.
-#[inline(never)]
-pub fn group_line<'a>(alloc: Global, group: Group, word: &str) -> Result<Command<'a>, AllocError> {
-    match group {
-        Group::Program => command_line(alloc, word),
-        Group::Stamps => stamp_line(alloc),
-        Group::Evidence => evidence_line(alloc),
-    }
-}
-
 /// What the program takes on its command line, where this word stands behind its name. If that is a command, no other
 /// one is made, and none if it asks for the version: each takes thousands of instructions.
 #[inline(never)]
-fn command_line<'a>(alloc: Global, word: &str) -> Result<Command<'a>, AllocError> {
+pub fn command_line<'a>(alloc: Global, word: &str) -> Result<Command<'a>, AllocError> {
     let mut line = program(alloc);
     if word == VERSION_WORD {
         return Ok(line);
@@ -59,13 +47,13 @@ fn command_line<'a>(alloc: Global, word: &str) -> Result<Command<'a>, AllocError
 
 /// What the program takes behind `stamp`.
 #[inline(never)]
-fn stamp_line<'a>(alloc: Global) -> Result<Command<'a>, AllocError> {
+pub fn stamp_line<'a>(alloc: Global) -> Result<Command<'a>, AllocError> {
     with_commands(alloc, stamps(alloc)?, STAMPS.as_slice())
 }
 
 /// What the program takes behind `evidence`.
 #[inline(never)]
-fn evidence_line<'a>(alloc: Global) -> Result<Command<'a>, AllocError> {
+pub fn evidence_line<'a>(alloc: Global) -> Result<Command<'a>, AllocError> {
     with_commands(alloc, records(alloc)?, EVIDENCE.as_slice())
 }
 

@@ -13,7 +13,7 @@ ghost use Rattle.cli_words.specs.Records.{IsEvidenceTaskIn, evidence_command_of}
 ghost use Rattle.cli_words.specs.Meanings.{AsksFor, IsMeaningIn};
 ghost use Rattle.cli_words.specs.Inputs.{evidence_paths, inputs_among, task_paths, IsReadAgain};
 
-use crate::grammar::group_line;
+use crate::grammar::{command_line, evidence_line, stamp_line};
 use crate::group::{Group, group_named, place_of};
 use crate::inputs::{STANDARD_INPUT, is_evidence_read_twice, is_read_again, is_read_twice};
 use crate::several::{each_of, several_in};
@@ -245,13 +245,6 @@ fn rehash_in<'a>(given: &ArgMatches<'a>) -> Result<EvidenceTask<'a>, Failure<'a>
     }
 }
 
-/// Whether what the parser says in this kind of error was requested.
-fn asks_for_help(kind: ErrorKind) -> bool
-    ensures { result ≡ asks_for_help kind }
-{
-    matches!(kind, ErrorKind::DisplayHelp | ErrorKind::DisplayVersion)
-}
-
 /// What the parser's error means: help and the version if they were requested; all others are faults of the words.
 fn meaning_of_error<'a>(alloc: Global, error: &clap::Error) -> Result<Meaning<'a>, Failure<'a>>
     ensures help { IfOk result (λ meaning. IsHelp meaning × (asks_for_help (kind_of error.now) ≡ true)) }
@@ -259,11 +252,12 @@ fn meaning_of_error<'a>(alloc: Global, error: &clap::Error) -> Result<Meaning<'a
         ⊎ (IsWords f × (asks_for_help (kind_of error.now) ≡ false))) }
     ensures memory { kind_of error.now ≡ ErrorKind.OutOfMemory → result ≡ Err Failure.Memory }
 {
-    if error.kind() == ErrorKind::OutOfMemory {
+    let kind = error.kind();
+    if kind == ErrorKind::OutOfMemory {
         return Err(Failure::Memory);
     }
     let text = format!(in alloc; "{error}")?;
-    if asks_for_help(error.kind()) {
+    if matches!(kind, ErrorKind::DisplayHelp | ErrorKind::DisplayVersion) {
         Ok(Meaning::Help(text))
     } else {
         Err(Failure::Words(text))
@@ -275,13 +269,21 @@ fn meaning_of_error<'a>(alloc: Global, error: &clap::Error) -> Result<Meaning<'a
 /// lies below the other, or below the command.)
 #[inline(never)]
 pub fn meaning_of<'a, S: AsStr>(alloc: Global, words: &'a [S]) -> Result<Meaning<'a>, Failure<'a>> {
-    let word = command_word(words);
+    let word = match words {
+        [_, word, ..] => word.as_str(),
+        _ => "",
+    };
     let group = group_named(word);
-    let line = group_line(alloc, group, word)?;
+    let line = match group {
+        Group::Program => command_line(alloc, word)?,
+        Group::Stamps => stamp_line(alloc)?,
+        Group::Evidence => evidence_line(alloc)?,
+    };
     meaning_by(alloc, group, line, words)
 }
 
-/// The same by this grammar, which is that of this group.
+/// The same by this grammar, which is that of this group: for the words behind the program's name, or behind the word
+/// that names the group.
 #[inline(never)]
 fn meaning_by<'a, S: AsStr>(
     alloc: Global,
@@ -289,25 +291,13 @@ fn meaning_by<'a, S: AsStr>(
     line: Command<'a>,
     words: &'a [S],
 ) -> Result<Meaning<'a>, Failure<'a>> {
-    match line.try_get_matches_from(words_of(group, words)) {
-        Ok(matches) => meaning_in(alloc, group, &matches),
-        Err(error) => meaning_of_error(alloc, &error),
-    }
-}
-
-/// The word behind the program's name, or an empty one.
-fn command_word<S: AsStr>(words: &[S]) -> &str {
-    match words {
-        [_, word, ..] => word.as_str(),
-        _ => "",
-    }
-}
-
-/// The words that the grammar of this group is for: behind the program's name, or behind the word that names the group.
-fn words_of<S>(group: Group, words: &[S]) -> &[S] {
-    match (group, words) {
+    let behind = match (group, words) {
         (Group::Stamps | Group::Evidence, [_, behind @ ..]) => behind,
         _ => words,
+    };
+    match line.try_get_matches_from(behind) {
+        Ok(matches) => meaning_in(alloc, group, &matches),
+        Err(error) => meaning_of_error(alloc, &error),
     }
 }
 

@@ -9,11 +9,10 @@ ghost use Rattle.std.specs.Prelude.{◌≡◌};
 ghost use Rattle.std.specs.Process.{exit_status};
 ghost use Rattle.cli_failures.specs.Statuses.{code_of};
 
-mod asking;
 mod run;
 
 use cli_failures::{Failure, Status};
-use std::io::{BufWriter, Write};
+use std::io::BufWriter;
 use std::process::ExitCode;
 
 /// The standard output is written in large pieces. Each command flushes it before it ends, and reports it if that
@@ -21,7 +20,10 @@ use std::process::ExitCode;
 fn main(rt: HostRuntime) -> ExitCode {
     let err = &mut rt.stderr();
     let status = match BufWriter::new(rt.alloc(), rt.stdout()) {
-        Ok(mut out) => done(&rt, &mut out, err),
+        Ok(mut out) => match run::words(&rt) {
+            Ok(words) => run::run(&rt, words.as_slice(), &mut out, err),
+            Err(failure) => failure.report(&mut out, err),
+        },
         Err(_) => Failure::Memory.report_error(err),
     };
     ended(status)
@@ -32,12 +34,4 @@ fn ended(status: Status) -> ExitCode
     ensures { exit_status result ≡ code_of status }
 {
     ExitCode::from(status.code())
-}
-
-/// Does what the words of the process ask for.
-fn done<O: Write, E: Write>(rt: &HostRuntime, out: &mut O, err: &mut E) -> Status {
-    match run::words(rt) {
-        Ok(words) => run::run(rt, words.as_slice(), out, err),
-        Err(failure) => failure.report(out, err),
-    }
 }

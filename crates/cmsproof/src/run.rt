@@ -6,14 +6,13 @@ ghost use Rattle.cli_failures.specs.Output.{Begins};
 ghost use Rattle.cli_words.specs.declared.meaning.Meaning.{Meaning};
 ghost use Rattle.cmsproof.specs.Telling.{IsStoppedBy, IsToldBy, TellsFaults, TellsRefusals};
 
-use crate::asking::asked;
 use cli_commands::Describes;
 use cli_failures::{Failure, Status};
-use cli_words::Meaning;
+use cli_words::{Meaning, meaning_of};
 use std::convert::AsStr;
-use std::env;
-use std::io::{self, Write};
+use std::io::Write;
 use std::rt::{Env, Files};
+use std::{env, fs};
 
 /// Does what the words ask for, the first of which is the program's name, and returns how it ended.
 ///
@@ -42,7 +41,13 @@ where
         → TellsRefusals R.File.remaining R.File.says (O.contents out.old) (O.contents out.new) }
     ensures quiet { (result ≡ Status.Usage) ⊎ ((result ≡ Status.Failed) ⊎ (err.new ≡ err.old)) }
 {
-    match asked(rt, words) {
+    // An option that is the name of a file too can have been put by a shell in the place of `*`: a file called `--sha1`
+    // would choose what is allowed.
+    let meaning = match file_as_option(rt, words) {
+        Some(word) => Err(Failure::Usage(word)),
+        None => meaning_of(rt.alloc(), words),
+    };
+    match meaning {
         Ok(meaning) => tell(rt, meaning, out, err),
         Err(failure) => failure.report(out, err),
     }
@@ -76,10 +81,28 @@ where
 
 /// The words of the process, the first of which is the program's name.
 pub fn words<R: Env + AllocGlobal>(rt: &R) -> Result<Vec<String>, Failure<'static>> {
-    collected(rt).map_err(|error| Failure::of_words(&error))
+    let words = env::args(rt).map_err(|error| Failure::of_words(&error))?;
+    Ok(words.collect(rt.alloc())?)
 }
 
-fn collected<R: Env + AllocGlobal>(rt: &R) -> io::Result<Vec<String>> {
-    let words: Vec<String> = env::args(rt)?.collect(rt.alloc())?;
-    Ok(words)
+/// What ends the options.
+const END: &str = "--";
+
+/// The first word up to `--` that begins with `-` and is the name of a file. If there are two words `--`, the first one
+/// was typed.
+fn file_as_option<'a, R: Files, S: AsStr>(rt: &R, words: &'a [S]) -> Option<&'a str> {
+    let typed = words.iter().filter(|word| word.as_str() == END).count() > 1;
+    for word in words {
+        let word = word.as_str();
+        if word == END && typed {
+            return None;
+        }
+        if word.starts_with('-') && fs::symlink_metadata(rt, word).is_ok() {
+            return Some(word);
+        }
+        if word == END {
+            return None;
+        }
+    }
+    None
 }

@@ -1,4 +1,4 @@
-use Rattle.std.proofs.Common.{inl, inr, refl, sym, subst}
+use Rattle.std.proofs.Common.{inl, inr, sym, subst}
 use Rattle.std.proofs.lemmas.Result.{err_from_is_err_and}
 use Rattle.check_verdict.specs.Checkers.{CheckerValue}
 use Rattle.cli_commands.specs.Lists.{IsCheckerOf}
@@ -12,9 +12,9 @@ returns-in_err-answers-clause-refused g c =
 pub returns-clause-accepted : goal.returns-clause-accepted
 returns-clause-accepted g c = c.check_by.ensures.accepted
     (subst (λ (k : CheckerValue). IsCheckerOf g.R.File.Read.remaining c.args.words.now.sha1 k)
-    (sym c.of-checker.ensures) (c.in_ok-trust.ensures.found, refl)) c.in_ok-answers.ensures.found
+    (sym c.of-checker.ensures) (c.in_ok-trust.ensures.found, c.with_sha1.ensures)) c.in_ok-answers.ensures.found
 
 pub returns-clause-refused : goal.returns-clause-refused
 returns-clause-refused g c = c.check_by.ensures.refused
     (subst (λ (k : CheckerValue). IsCheckerOf g.R.File.Read.remaining c.args.words.now.sha1 k)
-    (sym c.of-checker.ensures) (c.in_ok-trust.ensures.found, refl)) c.in_ok-answers.ensures.found
+    (sym c.of-checker.ensures) (c.in_ok-trust.ensures.found, c.with_sha1.ensures)) c.in_ok-answers.ensures.found

@@ -1,4 +1,4 @@
-use Rattle.std.proofs.Common.{Err, inl, inr, refl}
+use Rattle.std.proofs.Common.{Err, inl, inr}
 use Rattle.std.proofs.lemmas.Result.{err_from_is_err_and}
 use Rattle.trust_lists.specs.Asking.{is_among}
 use Rattle.check_verdict.specs.Passing.{Terms}
@@ -11,7 +11,6 @@ use Rattle.cli_commands.proofs.StampsChecked.{accepts, fails, refuses, states_no
 use Rattle.cli_commands.proofs.stamping.check_stamp.Given.{Over}
 use Rattle.cli_commands.proofs.stamping.check_stamp.Goals.{After-read}
 use Rattle.cli_commands.proofs.stamping.check_stamp.Goals as goal
-use Rattle.check_fit.specs.Fitting.{with_sha1}
 
 pub returns-in_err-answers-clause-refused : goal.returns-in_err-answers-clause-refused
 returns-in_err-answers-clause-refused g c =
@@ -35,10 +34,11 @@ returns-in_err-open-clause-refused g c =
 -- what the lists say
 by_lists : (g : Over) (c : After-read g)
     → IsTerms g.R.File.Read.remaining c.args.words.now.sha1
-    (terms_of (with_sha1 c.args.words.now.sha1) c.in_ok-trust.trust
+    (terms_of c.with_sha1-policy.result c.in_ok-trust.trust
     (λ q. is_among c.in_ok-answers.answers q))
-by_lists g c = terms g.R.File.Read.remaining c.args.words.now.sha1 (with_sha1 c.args.words.now.sha1)
-    c.in_ok-trust.trust c.in_ok-answers.answers refl c.in_ok-trust.ensures.found c.in_ok-answers.ensures.found
+by_lists g c = terms g.R.File.Read.remaining c.args.words.now.sha1 c.with_sha1-policy.result
+    c.in_ok-trust.trust c.in_ok-answers.answers c.with_sha1-policy.ensures c.in_ok-trust.ensures.found
+    c.in_ok-answers.ensures.found
 
 -- the token of the stamp's file
 held : (g : Over) (c : After-read g) → IsTokenHeld g.R.File.Read.remaining c.in_ok-token.token.now

@@ -65,6 +65,8 @@ complete -c cmsproof-archive -n '__cmsproof_archive_at report' -l html -r -F -d 
 complete -c cmsproof-archive -n '__cmsproof_archive_at report' -l csv -r -F -d 'Write a table, a line for each row'
 complete -c cmsproof-archive -n '__cmsproof_archive_at report' -l json -r -F -d 'Write a line of JSON for each row'
 complete -c cmsproof-archive -n '__cmsproof_archive_at report' -l known -r -F -d 'A text of refusals that are known'
+complete -c cmsproof-archive -n '__cmsproof_archive_at report' -l records -r -F -d 'The folder of evidence records'
+complete -c cmsproof-archive -n '__cmsproof_archive_at report' -l under -r -F -d 'The archive’s folder, with --records'
 complete -c cmsproof-archive -n '__cmsproof_archive_at report' -l only -x -a 'accepted stamped evidenced refused malformed failed' -d 'Only rows of this verdict'
 complete -c cmsproof-archive -n '__cmsproof_archive_at evidence' -l help -d 'Show this help message and exit'
 complete -c cmsproof-archive -n '__cmsproof_archive_at evidence' -l version -d 'Show program’s version number and exit'

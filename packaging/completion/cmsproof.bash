@@ -21,7 +21,7 @@ _cmsproof_options() {
     'cmsproof-extract') echo '--help --version --to --partial --mend' ;;
     'cmsproof-trust') echo '--help --version --signer --tsa --issuer --tsa-issuer --intermediate --crl --crl-dir --ocsp --trusted-list --scheme-operator --from-files --files-from --null --sha1 --explain --diff --merge --all --from --until' ;;
     'cmsproof-verify') echo '--help --version' ;;
-    'cmsproof-archive report') echo '--help --version --html --csv --json --known --only' ;;
+    'cmsproof-archive report') echo '--help --version --html --csv --json --known --records --under --only' ;;
     'cmsproof-archive evidence') echo '--help --version --trust --content --sha1 --record --end --at --whole --part --without-content --to --verify --list-of-the-bundle' ;;
     'cmsproof-archive due') echo '--help --version --trust --months --by --end --jobs --json --files-from --null --progress' ;;
     'cmsproof-archive stamp') echo '--help --version --into --tsa --state --policy --timeout --program --progress --trust --end --alg --jobs' ;;
@@ -125,6 +125,8 @@ _cmsproof_values() {
     'cmsproof-archive report --csv') echo files ;;
     'cmsproof-archive report --json') echo files ;;
     'cmsproof-archive report --known') echo files ;;
+    'cmsproof-archive report --records') echo files ;;
+    'cmsproof-archive report --under') echo files ;;
     'cmsproof-archive report --only') echo 'accepted stamped evidenced refused malformed failed' ;;
     'cmsproof-archive evidence --trust') echo files ;;
     'cmsproof-archive evidence --content') echo files ;;

@@ -759,7 +759,8 @@ class Drawn(WithFolder):
         for name in ("c", "b"):
             tally.add(row(name, 0, name * 64), 1, None)
         tally.add(row("b2", 0, "b" * 64), 1, None), tally.add(row("d", 0, "b" * 64)._replace(grounds=rows.NOTHING[5]), 1, None)
-        said = page.renewals(tally, {("tsa", name): page.Known(name, until) for name, until in ends.items()}, {})
+        known = {("tsa", name): page.Known(name, until) for name, until in ends.items()}
+        said = page.renewals(tally, page.renewals_in(tally, known, {}), {})
         titles = [title.partition(":")[0] for title in re.findall(r"<h3>([^<]*)", said)]
         self.assertEqual(titles, ["b and 1 more", "c", *(f"a{at:05}" for at in range(page.MOST_PICTURES - 2))])
         self.assertIn(f"<p>And {page.MOST_KINDS + 4 - page.MOST_PICTURES:,} files more. Of 1 of them the time-stamps", said)

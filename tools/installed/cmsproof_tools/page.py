@@ -7,11 +7,12 @@ import html
 import json
 from collections import Counter
 from pathlib import Path
-from typing import Any, NamedTuple, Tuple
+from typing import Any, NamedTuple, Optional, Tuple
 
-from cmsproof_tools import plots, timelines
+from cmsproof_tools import plots, timelines, trees_of_rows
 from cmsproof_tools.certificates import Certificate
 from cmsproof_tools.cures import known_cures, plain
+from cmsproof_tools.evidenced import Records
 from cmsproof_tools.known import Known as Acknowledged
 from cmsproof_tools.lines import parts_of
 from cmsproof_tools.report import is_new
@@ -230,27 +231,49 @@ def rules(tally: Tally) -> str:
     return "\n".join(found)
 
 
-def renewals(tally: Tally, known: dict[Place, Known], bases: dict[int, Basis]) -> str:
-    """The evidence records that must be renewed first, each with its time-stamps on a line of time."""
+class Renewal(NamedTuple):
+    """Files whose records have the same time-stamps: what these serve for, how many files they are, one of them, and what tells them from others."""
+
+    uses: list[timelines.Use]
+    files: int
+    row: Row
+    kind: tuple[str, int]
+
+
+def renewals_in(tally: Tally, known: dict[Place, Known], bases: dict[int, Basis]) -> list[Renewal]:
+    """The evidence records that must be renewed first."""
     authorities = {name: (about.subject, about.until) for (role, name), about in known.items() if role == "tsa"}
-    kinds = []
+    found = []
     for (grounds, basis), count in tally.evidenced.items():
         policy = timelines.policy_of(bases[basis].policy if basis in bases else "")
         if uses := timelines.uses_of(grounds_in(grounds).chains, policy, authorities):
-            kinds.append((uses[-1].due, uses, count, tally.examples[grounds, basis]))
-    kinds.sort(key=lambda kind: (timelines.in_turn(kind[0]), kind[3]))
+            found.append(Renewal(uses, count, tally.examples[grounds, basis], (grounds, basis)))
+    return sorted(found, key=lambda one: (timelines.in_turn(one.uses[-1].due), one.row))[:MOST_PICTURES]
+
+
+def renewals(tally: Tally, first: list[Renewal], trees: dict[tuple[str, int], str]) -> str:
+    """The evidence records that must be renewed first, each with its time-stamps on a line of time, and its hash tree if there is a picture of it."""
     found = []
-    for due, uses, count, row in kinds[:MOST_PICTURES]:
-        others = f" and {count - 1:,} more" if count > 1 else ""
+    for uses, count, row, kind in first:
+        due, others = uses[-1].due, f" and {count - 1:,} more" if count > 1 else ""
         title = f"{shown(row.name)}{others}: existed by {day_of(uses[0].time)}"
         last = f"renew before {day_of(due)}" if due else "no end of the last time-stamp is known"
         found.append(f"<h3>{html.escape(title)} <small>{html.escape(last)}</small></h3>")
         found.append(f'<div class="scroll">{timelines.timeline(uses, title)}</div>')
         found.append(f"<p>{html.escape(timelines.last_text(uses))}</p>")
-    left = sum(tally.shown_times.values()) - sum(count for _, _, count, _ in kinds[:MOST_PICTURES])
+        found += [trees[kind]] if kind in trees else []
+    left = sum(tally.shown_times.values()) - sum(one.files for one in first)
     unkept = f" Of {tally.unkept:,} of them the time-stamps are not kept: when to renew these is not known."
     more = f"<p>And {left:,} files more.{unkept if tally.unkept else ''}</p>"
     return "\n".join([*found, *([more] if left else [])])
+
+
+def trees_of(state: State, only: str, records: Optional[Records], first: list[Renewal]) -> dict[tuple[str, int], str]:
+    """The hash trees of the evidence records that must be renewed first, if their folder is named."""
+    if records is None or not first:
+        return {}
+    rows = trees_of_rows.rows_of(state, only, {one.kind: one.row for one in first})
+    return {one.kind: trees_of_rows.drawn(records, rows[one.kind], one.uses[0]) for one in first}
 
 
 def bases_table(tally: Tally, bases: dict[int, Basis]) -> str:
@@ -272,8 +295,8 @@ def bases_table(tally: Tally, bases: dict[int, Basis]) -> str:
     return table(head, rows)
 
 
-def sections(tally: Tally, hanging: Hanging, known: dict[Place, Known], bases: dict[int, Basis]) -> str:
-    """All that stands before the table of files."""
+def sections(tally: Tally, hanging: Hanging, known: dict[Place, Known], bases: dict[int, Basis], renewed: str) -> str:
+    """All that stands before the table of files. `renewed` is what is said of evidence records that must be renewed."""
     found = [section("totals", "In all", totals(tally))]
     if tally.years:
         what = "Counted are the accepted files with a valid stamp of the authority. What lasts "
@@ -297,7 +320,7 @@ def sections(tally: Tally, hanging: Hanging, known: dict[Place, Known], bases: d
         what = "A time-stamp serves until the next one takes over; the last one must be renewed before its authority or its algorithm ends. "
         what += "Dark is how long it serves, light how long it could."
         found.append(section("evidenced", "With evidence records: by which year", f'<div class="scroll">{plot}</div>'))
-        found.append(section("renewals", "What of them must be renewed first", f"<p>{what}</p>{renewals(tally, known, bases)}"))
+        found.append(section("renewals", "What of them must be renewed first", f"<p>{what}</p>{renewed}"))
     if tally.codes:
         found.append(section("rules", "Not accepted: by which rule, and what helps", rules(tally)))
     return "\n".join([*found, section("bases", "By what they were judged", bases_table(tally, bases))])
@@ -366,14 +389,16 @@ def codes_in(tally: Tally) -> str:
     return "".join(f"<option>{html.escape(code)}</option>" for code in sorted(tally.codes))
 
 
-def page(state: State, only: str, acknowledged: Acknowledged | None = None) -> str:
-    """The page of all rows, or of those of one verdict; with what is acknowledged it tells what is new."""
+def page(state: State, only: str, acknowledged: Acknowledged | None = None, records: Optional[Records] = None) -> str:
+    """The page of all rows, or of those of one verdict; with what is acknowledged it tells what is new, with records it has their hash trees."""
     tally, rows, bad = read_all(state, only, acknowledged)
     bases = state.bases()
     hanging = Hanging(tally.grounds)
     chained = {("tsa", name) for text, _ in tally.evidenced for link in grounds_in(text).chains for name in link.authorities}
     wanted = chained.union(hanging.files)
     known = known_certificates(state, [bases[number] for number in tally.bases if number in bases], wanted)
+    first = renewals_in(tally, known, bases)
+    renewed = renewals(tally, first, trees_of(state, only, records, first))
     folder = Path(__file__).parent
     script = (folder / "page.js").read_text(encoding="utf-8")
     said = f"The state {html.escape(shown(state.path))}" + (f", of which only what is {only} is counted" if only else "")
@@ -382,7 +407,7 @@ def page(state: State, only: str, acknowledged: Acknowledged | None = None) -> s
     parts = {
         "@STYLE@": (folder / "page.css").read_text(encoding="utf-8"),
         "@INTRODUCTION@": f"{said} to {day_of(time_text(tally.judged[1]))}.{several}" if rows else "The state has no rows.",
-        "@SECTIONS@": sections(tally, hanging, known, bases),
+        "@SECTIONS@": sections(tally, hanging, known, bases, renewed),
         "@LEFT_OUT@": left_out(tally, rows, bad),
         "@FOOTER@": "A record and no evidence: it says what the state says, also of files that are gone or changed since. <code>cmsproof-archive evidence</code> makes a bundle "
         "that shows a verdict again.",

@@ -7,6 +7,7 @@ import json
 import re
 from typing import Any, Iterator
 
+from cmsproof_tools.evidenced import records_in
 from cmsproof_tools.known import Known
 from cmsproof_tools.outcomes import named
 from cmsproof_tools.lines import parts_of
@@ -19,7 +20,7 @@ ABOUT = """Shows what a state of cmsproof-archive holds.
     cmsproof-archive --trust trust.txt --state archive.state --files-from names.txt
     cmsproof-archive report archive.state --html archive.html
 
-With --known it tells what is new: what is not accepted, and not acknowledged in this text, as cmsproof-archive --known reads it. The page needs no other file and no network. OUT may be `-`, standard output. A state is a record and no evidence: it says what
+With --records it has the hash trees of evidence records, which are read again. With --known it tells what is new: what is not accepted, and not acknowledged in this text, as cmsproof-archive --known reads it. The page needs no other file and no network. OUT may be `-`, standard output. A state is a record and no evidence: it says what
 its writer put there. `cmsproof-archive evidence` makes a bundle that shows a verdict again.
 
 Exit status: 0 done; 3 wrong words; 4 the state is none or is damaged, or OUT cannot be written.
@@ -142,11 +143,16 @@ def main(tool: str, words: list[str]) -> int:
             parser.error(f"two of --html, --csv and --json are written into {shown(out)}")
     if given.known == "-":
         parser.error("- is no name for --known: write ./-")
+    if given.under is not None and given.records is None:
+        parser.error("--under goes with --records")
+    if given.records is not None and given.html is None:
+        parser.error("--records goes with --html")
     known = None if given.known is None else Known(given.known)
+    records = None if given.records is None else records_in(given.records, given.under or "")
     with State(given.state, is_new=False) as state:
         for name, out in asked:
             if name == "html":
-                text = module("page").page(state, given.only or "", known)
+                text = module("page").page(state, given.only or "", known, records)
             else:
                 text = "".join((csv_text if name == "csv" else json_text)(state, given.only or "", known))
             write(out, text.encode("utf-8", "backslashreplace"))
@@ -163,5 +169,9 @@ def parser_of(tool: str) -> Words:
     parser.add_argument("--csv", metavar="OUT", help="write a table, a line for each row")
     parser.add_argument("--json", metavar="OUT", help="write a line of JSON for each row")
     parser.add_argument("--known", metavar="FILE", help="a text of refusals that are known: it is told what is new beside them")
+    records = "the folder of evidence records: the page has the hash trees of those that must be renewed first"
+    parser.add_argument("--records", metavar="DIR", help=records)
+    under = "the archive's folder, with --records: by default the one where the tool runs"
+    parser.add_argument("--under", metavar="DIR", help=under)
     parser.add_argument("--only", choices=VERDICTS, metavar="VERDICT", help="only rows of this verdict: " + ", ".join(VERDICTS))
     return parser

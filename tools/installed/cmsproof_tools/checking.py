@@ -61,16 +61,18 @@ class Work(NamedTuple):
 
 
 class Judge(Vouching):
-    """A verifier that keeps count: how many questions there were, the lines that it vouched for, and why not for the others."""
+    """A verifier that keeps count: how many questions there were, the lines that it vouched for, and why not for the others. Of evidence records
+    it keeps the last questions with what was said of them: very many records can have the same time-stamp."""
 
-    def __init__(self) -> None:
-        self.asked = 0
+    def __init__(self, of_record: bool = False) -> None:
+        self.of_record, self.asked = of_record, 0
         self.faults: list[str] = []
         self.vouched: list[bytes] = []
 
     def answers(self, text: bytes) -> bytes:
         """The answers list for a questions text."""
-        fault_in, vouched = module("verifying").fault_in, self.vouched
+        verifying, vouched = module("verifying"), self.vouched
+        fault_in = verifying.fault_kept if self.of_record else verifying.fault_in
         for line in lines_asked(text):
             self.asked += 1
             fault = fault_in(line)
@@ -318,7 +320,7 @@ def outcome_of(work: Work, reading: Reading, found: Union[Found, Unfound], name:
         # (which of the two is meant nobody can know)
         reason = f"the content is in the file, and {shown(beside.name)} is named as the content"
         return outcome_of(work, reading, Unfound(found.part, "F14", reason, found.container), name)
-    judge, content = Judge(), found.content if beside is None else beside.octets
+    judge, content = Judge(found.kind == RECORD), found.content if beside is None else beside.octets
     return outcome_by(work, reading, found, judge, verdict_of(work, found, content, judge), name)
 
 

@@ -17,7 +17,7 @@ from cmsproof.octets import Buffer, octets_of, of_bytes
 from cmsproof_tools import der
 from cmsproof_tools.periods import Period
 from cmsproof_tools.rows import digest_of
-from cmsproof_tools.running import MALFORMED, REFUSED, kept_if_short, module
+from cmsproof_tools.running import MALFORMED, REFUSED, SHORT, kept_if_short, module
 from cmsproof_tools.signed_parts import CONTEXT_0, Span, header, parts_of, some, spans, time_in, tst_fields
 from cmsproof_tools.texts import Question, answers_of, in_order, read_questions, trust_entries
 from cmsproof_tools.timelines import NAMES, earliest
@@ -33,6 +33,8 @@ NOT_NAMED, PURPOSE, PERIOD = "K11 NotNamed", "K12 Purpose", "K13 Period"
 # the rules of a token that come before its imprint
 BEFORE_IMPRINT = tuple(f"K{number}" for number in range(1, 9))
 NO_ANSWERS = answers_of([])
+# of how many tokens is kept what is said of them
+MOST_KEPT = 64
 Item = TypeVar("Item")
 
 
@@ -46,7 +48,7 @@ class Unjudged(Exception):
 
 class Last(NamedTuple):
     """The last archive time-stamp of a record: its time, the identifiers of the digest algorithms of its lists and of its imprint, its token,
-    and a record that has it alone."""
+    and a record that has that token alone, and no lists."""
 
     time: str
     algorithms: tuple[str, ...]
@@ -56,6 +58,13 @@ class Last(NamedTuple):
     def failing(self, rule: str) -> Unjudged:
         """That it fails a rule, in the words of a check."""
         return Unjudged(REFUSED, f"{rule}, its last time-stamp, of {self.time}")
+
+
+class Passed(NamedTuple):
+    """What is said of a token that passes: until when the last of its entries lasts, and the identifier of the digest algorithm of its signature."""
+
+    lasts: str
+    digest: str
 
 
 def last_in(items: Iterator[Item]) -> Item:
@@ -83,20 +92,27 @@ def algorithms_of(octets: Buffer, fields: list[Span], imprint: bytes) -> tuple[s
     return tuple(dict.fromkeys(map(named_in, (named, imprint))))
 
 
+@kept_if_short(64)
+def stated_in(token: bytes) -> tuple[str, bytes]:
+    """The time that a token says, and the AlgorithmIdentifier of its imprint without its head. Raises ValueError or IndexError where it cannot be
+    read."""
+    stated = tst_fields(token, parts_of(token, len(token)))
+    time = time_in(stated)
+    if time is None:
+        raise ValueError("it says no time")
+    return time, der.elements(stated[2].contents, 1)[0].contents
+
+
 def last_of(octets: Buffer) -> Last:
     """The last archive time-stamp of octets in which the library found a record. Raises ValueError or IndexError where its token cannot be
     read."""
     (_, _, begin, end) = next(spans(octets, 0, len(octets)))
     parts = some(octets, begin, end, IN_RECORD)
-    _, first, begin, end = last_in(spans(octets, *last_in(spans(octets, *parts[-1][2:]))[2:]))
+    _, _, begin, end = last_in(spans(octets, *last_in(spans(octets, *parts[-1][2:]))[2:]))
     fields = some(octets, begin, end, IN_STAMP)
     token = bytes(octets[fields[-1][1] : fields[-1][3]])
-    stated = tst_fields(token, parts_of(token, len(token)))
-    time, imprint = time_in(stated), der.elements(stated[2].contents, 1)[0].contents
-    if time is None:
-        raise ValueError("it says no time")
-    chains = sequence(sequence(bytes(octets[first:end])))
-    alone = sequence(VERSION_1, bytes(octets[parts[1][1] : parts[1][3]]), chains)
+    time, imprint = stated_in(token)
+    alone = sequence(VERSION_1, bytes(octets[parts[1][1] : parts[1][3]]), sequence(sequence(sequence(token))))
     return Last(time, algorithms_of(octets, fields, imprint), token, alone)
 
 
@@ -133,6 +149,7 @@ class By:
 
     def __init__(self, trust: cmsproof.TrustList, ends: dict[str, str], moment: str) -> None:
         self.trust, self.ends, self.moment = trust, ends, moment
+        self.kept: dict[bytes, Passed] = {}
         self.entries: dict[bytes, list[Entry]] = {}
         for one in trust_entries(trust.text):
             if one.role == "tsa":
@@ -149,6 +166,30 @@ class By:
             # (of several the one counts that comes furthest, as in a check)
             raise last.failing("W4 " + max(faults, key=lambda one: int(one[1:].split(" ")[0]), default="K10 UnknownTsa"))
         return [entry for entry, fault in zip(found, faults) if not fault]
+
+    def passed(self, last: Last) -> Passed:
+        """What is said of the token of a last time-stamp, by its octets and the trust list alone. Raises Unjudged where it fails."""
+        # (whatever is stamped, these octets are read as it behind those rules alone)
+        said = tokens.said_of(of_bytes(last.token), of_bytes(b""), self.trust, NO_ANSWERS, True)
+        line = tokens.line_of(said)
+        if line.split(" ")[1] in BEFORE_IMPRINT:
+            raise last.failing("W4 " + line.removeprefix("refused "))
+        asked = tuple(read_questions(asked_of(last.alone, self.trust)))
+        periods = [entry.period.last for entry in self.under(last, asked)]
+        lasts = periods[0]
+        for one in periods:
+            lasts = one if in_order(lasts, one) else lasts
+        return Passed(lasts, digest_of(asked[0].digest))
+
+    def passed_or_kept(self, last: Last) -> Passed:
+        """As `passed`, which is kept of the last ones: very many records can have the same token, and a verifier is asked about it once."""
+        if len(last.alone) > SHORT:
+            return self.passed(last)
+        found = self.kept.pop(last.alone, None) or self.passed(last)
+        self.kept[last.alone] = found
+        while len(self.kept) > MOST_KEPT:
+            del self.kept[next(iter(self.kept))]
+        return found
 
     def holds(self, last: Last, algorithm: str) -> str:
         """The last moment at which a digest algorithm holds, "" without an end. Raises Unjudged where it holds at none."""
@@ -175,35 +216,19 @@ def asked_of(octets: Buffer, trust: cmsproof.TrustList) -> bytes:
     raise Unjudged(MALFORMED if code == "V1" else REFUSED, line)
 
 
-def opened(octets: Buffer, by: By) -> tuple[Last, tuple[Question, ...]]:
-    """The last time-stamp of a record, and what a verifier is asked of it. Raises Unjudged where octets are none, or where its token fails a
-    rule that comes before its imprint."""
-    text = asked_of(octets, by.trust)
+def last_and_end(octets: Buffer, by: By) -> tuple[Last, str]:
+    """The last time-stamp of a record, and the last moment at which it serves. Raises Unjudged where octets are none, where nobody can say it, or
+    where it is made later than the moment up to which it is to serve, which a check does not accept."""
+    asked_of(octets, by.trust)
     try:
         last = last_of(octets)
     except (ValueError, IndexError) as error:
         raise Unjudged(REFUSED, "its last time-stamp is no token that can be read") from error
-    # (whatever is stamped, these octets are read as it behind those rules alone)
-    said = tokens.said_of(of_bytes(last.token), of_bytes(b""), by.trust, NO_ANSWERS, True)
-    line = tokens.line_of(said)
-    if line.split(" ")[1] in BEFORE_IMPRINT:
-        raise last.failing("W4 " + line.removeprefix("refused "))
-    asked = read_questions(text if last.alone == octets else asked_of(last.alone, by.trust))
-    return last, tuple(asked)
-
-
-def last_and_end(octets: Buffer, by: By) -> tuple[Last, str]:
-    """The last time-stamp of a record, and the last moment at which it serves. Raises Unjudged where nobody can say it, or where it is made later
-    than the moment up to which it is to serve, which a check does not accept."""
-    last, asked = opened(octets, by)
-    found = by.under(last, asked)
+    found = by.passed_or_kept(last)
     if not in_order(last.time, by.moment):
         raise last.failing(f"W5 Order by {by.moment}")
-    ends = [by.holds(last, one) for one in dict.fromkeys((*last.algorithms, digest_of(asked[0].digest)))]
-    lasts = found[0].period.last
-    for entry in found:
-        lasts = entry.period.last if in_order(lasts, entry.period.last) else lasts
-    return last, earliest([lasts, *ends])
+    ends = [by.holds(last, one) for one in dict.fromkeys((*last.algorithms, found.digest))]
+    return last, earliest([found.lasts, *ends])
 
 
 def end_of(octets: Buffer, by: By) -> str:

@@ -21,6 +21,7 @@ from cryptography.hazmat.primitives.serialization import Encoding, PublicFormat,
 from cryptography.utils import CryptographyDeprecationWarning
 
 from cmsproof_tools import der
+from cmsproof_tools.running import kept_if_short
 from cmsproof_tools.texts import UNHOLDING, Question, octets_of_fields, question_of
 
 # (old versions of the library read it with the first key: in each process by itself, if it is not read here)
@@ -396,3 +397,7 @@ def fault_in(line: bytes) -> str | None:
         return None if holds_in(line) else UNHOLDING
     except Unjudged as reason:
         return f"not judged: {reason}"
+
+
+# (by the whole line: what holds of it holds of it again)
+fault_kept = kept_if_short(64)(fault_in)

@@ -1,6 +1,6 @@
 #!/usr/bin/env python3
-"""Runs each command of the built program with the Nth growth of memory refused, the Nth open, read, write or seek failing, or moving
-one octet alone, N from 1 until a run meets none of it. Commands over several files are among them: there each file's lines must be
+"""Runs each command of the built program with the Nth growth of memory refused, the Nth open, read, write, seek, sync, link, rename or removal, or
+the Nth new folder failing, or moving one octet alone, N from 1 until a run meets none of it. Commands over several files are among them: there each file's lines must be
 those of the whole run, or say what failed, and a run that stops has a beginning of that. So are files over 1 MiB, made here, which
 `check` and `questions` read in two, three and four passes, each with more memory.
 
@@ -20,6 +20,7 @@ import argparse
 import functools
 import os
 import re
+import shutil
 import subprocess
 import sys
 import tempfile
@@ -28,7 +29,7 @@ from pathlib import Path
 sys.path.insert(0, str(Path(__file__).resolve().parent.parent))
 from oracle.der import octets  # noqa: E402
 from samples.building import attribute  # noqa: E402
-from trying import hostile_devices  # noqa: E402
+from trying import hostile_devices, record_inputs  # noqa: E402
 from trying.hostile_inputs import CHECK, QUESTIONS, write  # noqa: E402
 from trying.hostile_runs import octets_in  # noqa: E402
 from trying.hostile_sizes import OTHER, stamped_with  # noqa: E402
@@ -41,6 +42,7 @@ LIBRARY = r"""
 #include <stdarg.h>
 #include <stdlib.h>
 #include <string.h>
+#include <sys/stat.h>
 #include <sys/syscall.h>
 #include <sys/uio.h>
 #include <unistd.h>
@@ -78,6 +80,19 @@ ssize_t writev(int fd, const struct iovec *parts, int count) {
 }
 off_t lseek(int fd, off_t to, int whence) { return fails("seek", EIO) ? -1 : syscall(SYS_lseek, fd, to, whence); }
 off_t lseek64(int fd, off_t to, int whence) { return lseek(fd, to, whence); }
+int fsync(int fd) { return fails("sync", EIO) ? -1 : syscall(SYS_fsync, fd); }
+int fdatasync(int fd) { return fails("sync", EIO) ? -1 : syscall(SYS_fdatasync, fd); }
+int link(const char *from, const char *to) {
+    return fails("link", ENOSPC) ? -1 : syscall(SYS_linkat, AT_FDCWD, from, AT_FDCWD, to, 0);
+}
+int linkat(int at, const char *from, int by, const char *to, int flags) {
+    return fails("link", ENOSPC) ? -1 : syscall(SYS_linkat, at, from, by, to, flags);
+}
+int rename(const char *from, const char *to) {
+    return fails("rename", ENOSPC) ? -1 : syscall(SYS_renameat2, AT_FDCWD, from, AT_FDCWD, to, 0);
+}
+int unlink(const char *path) { return fails("remove", EIO) ? -1 : syscall(SYS_unlinkat, AT_FDCWD, path, 0); }
+int mkdir(const char *path, mode_t mode) { return fails("folder", ENOSPC) ? -1 : syscall(SYS_mkdirat, AT_FDCWD, path, mode); }
 static int opens(int at, const char *path, int flags, va_list more) {
     int mode = va_arg(more, int);
     va_end(more);
@@ -89,9 +104,25 @@ int open64(const char *path, int flags, ...) { va_list more; va_start(more, flag
 int openat(int at, const char *path, int flags, ...) { va_list more; va_start(more, flags); return opens(at, path, flags, more); }
 int openat64(int at, const char *path, int flags, ...) { va_list more; va_start(more, flags); return opens(at, path, flags, more); }
 """
-FAULTS = ["memory", "open", "read", "read interrupted", "write", "write interrupted", "seek", "short read", "short write"]
-# the files that commands make, each of them one
-MADE = ("out", "out.ers")
+FAULTS = [
+    "memory",
+    "open",
+    "read",
+    "read interrupted",
+    "write",
+    "write interrupted",
+    "seek",
+    "short read",
+    "short write",
+    "sync",
+    "link",
+    "rename",
+    "remove",
+    "folder",
+]
+# the files that commands make, one of them or several in this order; and the records that they replace, which are as they were before each run
+MADE = ("out", "out.ers", "a/b.ers", "c\\\n.ers")
+REPLACED = record_inputs.CHANGED
 MORE = [
     CHECK + ["--content", "content", "detached"],
     ["fit", "--content", "content", "detached"],
@@ -111,6 +142,10 @@ MORE = [
     ["evidence", "make", "--token", "token", "--into", "missing", "sums"],
     ["evidence", "renew", "--request", "out", "tree", "of-group"],
     ["evidence", "renew", "--token", "token", "tree"],
+    ["evidence", "make", "--token", "of-sums", "--into", ".", "sums-two"],
+    ["evidence", "renew", "--token", "renewing", "again"],
+    ["evidence", "renew", "--token", "renewing", "again", "again.ers"],
+    hostile_devices.REHASH + ["--token", "rehashing", "sums-again"],
     hostile_devices.REHASH + ["--token", "token", "sums-tree"],
     hostile_devices.REHASH + ["--request", "out", "sums"],
 ]
@@ -147,10 +182,14 @@ class Failing:
         self.environment = {"LD_PRELOAD": library}
 
     def run(self, words, fault, call):
-        """Whether the fault was met, the exit status, both streams and the output file."""
+        """Whether the fault was met, the exit status, both streams, what was made, and what is in the place of what is replaced."""
         for name in ("met", *MADE):
             if os.path.exists(os.path.join(self.folder, name)):
                 os.unlink(os.path.join(self.folder, name))
+        shutil.rmtree(os.path.join(self.folder, "a"), ignore_errors=True)
+        for name, contents in REPLACED.items():
+            with open(os.path.join(self.folder, name), "wb") as file:
+                file.write(contents)
         done = subprocess.run(
             [self.program, *words],
             cwd=self.folder,
@@ -160,7 +199,9 @@ class Failing:
             env={**self.environment, "FAULT": fault, "CALL": str(call)},
         )
         met, *made = (octets_in(self.folder, name) for name in ("met", *MADE))
-        return met is not None, done.returncode, done.stdout, done.stderr, next((one for one in made if one is not None), None)
+        there = [one for one in made if one is not None]
+        replaced = [octets_in(self.folder, name) for name in REPLACED]
+        return met is not None, done.returncode, done.stdout, done.stderr, b"".join(there) if there else None, replaced
 
     def sweep(self, words, fault, fault_of):
         """How many calls met the fault, how many of those runs ended with each status, and what is wrong with them."""
@@ -180,14 +221,14 @@ class Failing:
 
 
 def fault_of(fault, whole, answer, memory=NO_MEMORY[:1]):
-    """What is wrong with an answer, each being status, standard output, standard error and output file, where `memory` is what may be told
-    of a want of it; or None."""
-    status, out, err, file = answer
+    """What is wrong with an answer, each being status, standard output, standard error, what was made and what is in the place of what is
+    replaced, where `memory` is what may be told of a want of it; or None."""
+    status, out, err, file, replaced = answer
     if answer == whole:
         return None
     if fault.startswith("short"):
         return "a short move changes the answer"
-    if status != 4 and (status, out, file) != (whole[0], whole[1], whole[3]):
+    if status != 4 and (status, out, file, replaced) != (whole[0], whole[1], whole[3], whole[4]):
         return "another answer in place of a failure"
     if status == 4 and fault == "memory" and err not in (*memory, b""):
         return "want of memory is told as something else"
@@ -195,6 +236,8 @@ def fault_of(fault, whole, answer, memory=NO_MEMORY[:1]):
         return "what was printed is no beginning"
     if file is not None and (whole[3] is None or not whole[3].startswith(file)):
         return "what was written is no beginning"
+    if any(one not in (old, due) for one, old, due in zip(replaced, REPLACED.values(), whole[4])):
+        return "a record is neither the old one nor the new one"
     if status == 4 and not err and "write" not in fault:
         return "nothing is told"
     return None
@@ -215,7 +258,7 @@ def lines_of_several(printed, names):
 
 def fault_of_several(names, fault, whole, answer):
     """The same for a command over these files."""
-    status, out, err, _ = answer
+    status, out, err, *_ = answer
     if answer == whole or fault.startswith("short") or status != whole[0] == 4 or status != 4:
         return fault_of(fault, whole, answer)
     *before, last = lines_of_several(out, names)

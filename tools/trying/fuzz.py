@@ -20,6 +20,7 @@ is one. A run with the same seed and files makes the same inputs in the same ord
 from __future__ import annotations
 
 import argparse
+import hashlib
 import os
 import random
 import sys
@@ -28,14 +29,18 @@ import time
 from pathlib import Path
 
 sys.path.insert(0, str(Path(__file__).resolve().parent.parent))
-from oracle import der, evidence, expected, forms, lists, openssl_judge, records, rules  # noqa: E402
-from trying.hostile_runs import Runs, fault_of_form  # noqa: E402
+from oracle import der, evidence, expected, forms, lists, openssl_judge, records, renewals, rules, sums  # noqa: E402
+from samples.building import Token  # noqa: E402
+from trying.hostile_runs import MADE, Runs, fault_of_form  # noqa: E402
 
 TOP = Path(__file__).resolve().parent.parent.parent
 FOLDERS = "data/real", "crates/real_files/data"
 RECORDS = TOP / "data" / "records"
 OCTETS = bytes.fromhex("00017f80818283848586feff0203040506080a0c0d131617181e1f30313680a0a1a2a3a4a5")
 STAMP_CHECK = ["stamp", "check", "--trust", "trust", "--answers", "answers", "in", "data"]
+# a moment later than each time-stamp of the records
+LATER = "20300101000000Z"
+REHASH = ["evidence", "rehash", "--alg", "sha256", "--into", "."]
 RECORD_CHECK = ["evidence", "check", "--trust", "trust-records", "--answers", "answers-records"]
 # whose questions are asked of files of a kind
 ASKED = {
@@ -218,10 +223,33 @@ def elements(octets):
 # ---- trying
 
 
+def sums_line(octets, name):
+    """The line of a file as sha256sum writes it."""
+    return f"{hashlib.sha256(octets).hexdigest()}  {name}\n".encode()
+
+
+SUMS = sums_line(b"one", "a/b") + sums_line(b"two", "c") + b"\\" + sums_line(b"three", "d\\n")
+
+
+def tokens_for(octets, data):
+    """Tokens over what the renewals of a record stand on, one in its last chain and one of a new chain; any others where it has none."""
+    found = []
+    for stands in (
+        lambda record: renewals.renewal_of(record, None),
+        lambda record: renewals.rehash_of(record, None, hashlib.sha256(data).digest()),
+    ):
+        try:
+            standing = stands(renewals.record_in(octets))
+            found.append(Token(LATER, imprint=standing.leaf, alg=standing.alg).octets)
+        except sums.Refused:
+            found.append(Token(LATER).octets)
+    return found
+
+
 class Fuzz:
     def __init__(self, program, folder, files, keep):
         self.runs, self.keep, self.records, self.row = Runs(program, folder), keep, Records(RECORDS), (b"", [])
-        files = files + self.records.all
+        files = files + self.records.all + [("a list of digests", "sums", SUMS)]
         self.runs.put("trust-records", self.records.trust)
         self.runs.put("answers-records", self.records.answers)
         self.content = ([octets for _, kind, octets in files if kind == "bin"] or [b""])[0]
@@ -229,12 +257,13 @@ class Fuzz:
         self.files = files = [file for file in files if file[1] != "bin"]
         self.kinds = {
             "p7s": self.signed,
-            "tok": self.signed,
+            "tok": self.token,
             "tsr": self.response,
             "tsq": self.request,
             "der": self.certificate,
             "trust": self.list,
             "ers": self.record,
+            "sums": self.sums,
         }
         self.donors = sorted({e for _, kind, octets in files if kind != "trust" for e in elements(octets) if len(e) < 400})
         self.known = set()
@@ -308,6 +337,32 @@ class Fuzz:
         yield ["show", "evidence", "in"], expected.reads(octets, records.evidence_record)
         yield RECORD_CHECK + options + ["in", "data"], evidence.check(octets, [data], terms, policy)
         yield ["evidence", "questions", "--trust", "trust-records", "in"], evidence.questions(octets, terms)
+        yield from self.renewals(octets)
+
+    def renewals(self, octets):
+        """What is said of octets as a record that is renewed, by tokens over what the unchanged record stood on; and of a list of digests, and a
+        token, of which a record is made."""
+        renewing, rehashing = self.tokens
+        line = sums_line(self.data, "in")
+        yield ["evidence", "renew", "--request", "out", "in"], renewals.renew(octets, None, "out")
+        yield ["evidence", "renew", "--token", "renewing", "in"], renewals.renew(octets, renewing, "in")
+        yield REHASH + ["--request", "out", "sums"], renewals.rehash(line, octets, None, "out")
+        yield REHASH + ["--token", "rehashing", "sums"], renewals.rehash(line, octets, rehashing, "in.ers")
+
+    def token(self, octets):
+        """What is said of octets as a token: as a stamp, and as that of a record which is made."""
+        yield from self.signed(octets)
+        line = sums_line(self.data, "in")
+        yield ["evidence", "make", "--token", "in", "--into", MADE, "sums"], renewals.made(line, octets, MADE)
+
+    def sums(self, octets):
+        """What is said of octets as a list of digests."""
+        try:
+            root = sums.tree([one.digest for one in sums.read(octets)])[0]
+            said = "", 0, {"out": renewals.request(root, "sha256")}
+        except sums.Refused as error:
+            said = *error.said, {}
+        yield ["evidence", "request", "in", "out"], said
 
     def one(self, chance, number):
         name, kind, octets = chance.choice(self.files)
@@ -315,10 +370,18 @@ class Fuzz:
         if kind == "ers":
             self.row = chance.choice(self.records.asked[octets])
             self.data = self.row[0]
-        octets = mutated_octets(chance, octets) if kind == "trust" else mutated(chance, octets, self.donors)
-        self.runs.put("in", octets)
+            self.tokens = tokens_for(octets, self.data)
+            self.runs.put("renewing", self.tokens[0])
+            self.runs.put("rehashing", self.tokens[1])
+        octets = mutated_octets(chance, octets) if kind in ("trust", "sums") else mutated(chance, octets, self.donors)
         self.runs.put("data", self.data)
-        for words, (line, status) in self.kinds[kind](octets):
+        self.runs.put("sums", sums_line(self.data, "in"))
+        for words, (line, status, *files) in self.kinds[kind](octets):
+            # (a command may have replaced them)
+            for name in ("in", "in.ers"):
+                self.runs.put(name, octets)
+            self.runs.remove("out")
+            self.runs.empty()
             answer = self.runs.run(words)
             self.tried += 1
             self.read += words[0] in ("show", "cert") and answer[0] == 0
@@ -327,6 +390,8 @@ class Fuzz:
             said = answer[1] if status < 3 else answer[2]
             if what is None and answer[0] != status or line is not None and said != line:
                 what = what or "status %d and %r are expected" % (status, (line or "")[:200])
+            if what is None and files and self.runs.differs(words, files[0]):
+                what = "the files that are there differ"
             if what is None and words[:2] == ["show", "signed"]:
                 what = openssl_judge.differs(octets, answer[1], self.known)
             if what is not None:

@@ -20,7 +20,7 @@ from pathlib import Path
 
 sys.path.insert(0, str(Path(__file__).resolve().parent.parent))
 from oracle import der, expected, openssl_judge  # noqa: E402
-from trying import hostile_devices, hostile_sizes, record_sizes  # noqa: E402
+from trying import hostile_devices, hostile_sizes, record_inputs, record_sizes  # noqa: E402
 from trying.hostile_inputs import CHECK, COMMANDS, FILE, TERMS, TOKEN, UNSTAMPED, WITH_ALL, write  # noqa: E402
 from trying.hostile_runs import Runs  # noqa: E402
 
@@ -29,9 +29,10 @@ MEMORY = 64 << 20
 
 
 def tried(runs, octets, words, expect, limit=None):
-    """The status of a command with this input, in the file `in`."""
+    """The status of a command with this input, in the file `in`, which is a record's too."""
     line, status, *out = expect(octets)
-    runs.put("in", octets)
+    for name, contents in {"in": octets, "in.ers": octets, **record_inputs.CHANGED}.items():
+        runs.put(name, contents)
     return runs.case(words, line, status, out=out[0] if out else False, limit=limit)
 
 

@@ -2,15 +2,19 @@
 import os
 import re
 import resource
+import shutil
 import subprocess
+from pathlib import Path
 
 MALFORMED = re.compile(r"malformed (?:(?:request|response|first|second) )?M\d+ \w+ at \d+\n")
 REFUSED = re.compile(
     r"(?:refused (?:(?:first|second) )?(?:signer \d+ |chain \d+ stamp \d+ )?(?:token 1 )?(?:[A-Z]\d+ )*(?:\w+|M\d+ \w+ at \d+)"
     r"|different|collision)\n"
 )
-LIST = re.compile(r"(?:trust|answers) [LB]\d \w+ at line \d+\n")
-FAILED = re.compile(r"(?:failed (?:(?:open|read|size|write) [^\n]*|memory|X\d \w+))\n")
+LIST = re.compile(r"(?:(?:trust|answers) [LB]\d \w+ at line \d+|sums U1 Line at line \d+|sums U2 Empty)\n")
+FAILED = re.compile(r"(?:failed (?:(?:open|read|size|write|replace) [^\n]*|memory|X\d \w+))\n")
+# the folder into which records are made
+MADE = "made"
 
 
 def fault_of_form(status, out, err):
@@ -73,11 +77,29 @@ class Runs:
             self.differences.append((self.family, what, words, answer))
             print("DIFFERS", self.family, " ".join(words), "|", what, "| answered", repr(answer)[:300], flush=True)
 
+    def made(self):
+        """The files in the folder into which records are made, by their paths."""
+        top = Path(self.folder, MADE)
+        return {str(path.relative_to(self.folder)): path.read_bytes() for path in top.rglob("*") if path.is_file()}
+
+    def empty(self):
+        """Makes the folder into which records are made anew."""
+        shutil.rmtree(Path(self.folder, MADE), ignore_errors=True)
+        os.mkdir(Path(self.folder, MADE))
+
+    def differs(self, words, due):
+        """Whether files have something else after a command than what is due by their names, or another one was made."""
+        there = {**(self.made() if MADE in words else {}), **{name: self.get(name) for name in {"out", *due}}}
+        return {name: octets for name, octets in there.items() if octets is not None} != due
+
     def case(self, words, line, status, out=False, limit=None):
         """One run that is to print this line, None for any, and end with this status. `out` is what the file `out` then has to
-        hold, None where it must not be there, False where the command makes none. Gives the status."""
+        hold, None where it must not be there, False where the command makes none, or what files have that are there then, and no other one
+        in the folder into which records are made. Gives the status."""
         if out is not False:
             self.remove("out")
+        if MADE in words:
+            self.empty()
         answer = self.run(words, **({"preexec_fn": limit} if limit else {}))
         what = fault_of_form(*answer)
         printed = answer[2] if status in (3, 4) else answer[1]
@@ -85,7 +107,11 @@ class Runs:
             what = "status %d is expected" % status
         if what is None and line is not None and printed != line:
             what = "%r is expected" % line
-        if what is None and out is not False and self.get("out") != out:
+        if isinstance(out, dict):
+            differs = self.differs(words, out)
+        else:
+            differs = out is not False and self.get("out") != out
+        if what is None and differs:
             what = "the output file differs"
         self.note(what, words, answer)
         return answer[0]

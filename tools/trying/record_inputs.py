@@ -3,11 +3,11 @@ their place: a tree over two documents, a group of two, and a record by SHA-1 th
 have."""
 from __future__ import annotations
 
-from oracle import evidence, lists, rules
+from oracle import evidence, lists, renewals, rules, sums
 from oracle.der import element, oid
 from oracle.evidence import Policy
 from samples import building
-from samples.building import CT, sha
+from samples.building import CT, Token, sha
 from samples.recorded import Growing
 
 DATA, OTHER = b"abc", b"another document"
@@ -51,6 +51,29 @@ def unread(octets):
     return said if said[1] == 2 or said[0].startswith("refused V") else ("failed open missing\n", 4)
 
 
+# digests of two files, one in a folder, one with an escaped name, and the token over their root
+SUMS = f"{sha(DATA).hex()}  a/b\n\\{sha(OTHER).hex().upper()} *c\\\\\\n\n".encode()
+OF_SUMS = Token(imprint=sums.tree([sha(DATA), sha(OTHER)])[0]).octets
+# what renews the first record: another archive time-stamp, and another chain
+LATER = "20240118100000Z"
+RENEWING = Token(LATER, imprint=sha(SMALL.tokens[-1].octets)).octets
+REHASHING = Token(LATER, imprint=sha(sha(DATA) + sha(SMALL.archive_sequence()))).octets
+SUMS_IN, SUMS_AGAIN = (f"{sha(DATA).hex()}  {name}\n".encode() for name in ("in", "again"))
+MAKE = ["evidence", "make", "--into", "made", "--token"]
+REHASH_HERE = ["evidence", "rehash", "--alg", "sha256", "--into", "."]
+
+
+def rehashed(text):
+    """What `evidence rehash` says of a list of digests where the records stand that are named `again`: of another name that there is none."""
+    try:
+        names = [one.name for one in sums.read(text)]
+    except sums.Refused:
+        names = [b"again"]
+    if names != [b"again"]:
+        return None, 4, {"again.ers": TREE}
+    return renewals.rehash(text, TREE, REHASHING, "again.ers")
+
+
 EVIDENCE_CHECK = ["evidence", "check", "--trust", "trust-tsa", "--answers", "answers-tsa"]
 EVIDENCE_QUESTIONS = ["evidence", "questions", "--trust", "trust-tsa"]
 SAID = [word for name, last in ENDS for word in ("--end", f"{name}={last.decode()}")] + ["--at", AT.decode()]
@@ -84,7 +107,48 @@ COMMANDS = [
         lambda o: with_lists(TRUST, o),
     ),
     ("evidence questions", OF_OLD, EVIDENCE_QUESTIONS + ["in"], lambda o: evidence.questions(o, TERMS)),
+    ("evidence make, sums", SUMS, MAKE + ["of-sums", "in"], lambda o: renewals.made(o, OF_SUMS, "made")),
+    ("evidence make, token", OF_SUMS, MAKE + ["in", "sums-two"], lambda o: renewals.made(SUMS, o, "made")),
+    (
+        "evidence renew --request",
+        OF_OLD,
+        ["evidence", "renew", "--request", "out", "in"],
+        lambda o: renewals.renew(o, None, "out"),
+    ),
+    (
+        "evidence renew, record",
+        TREE,
+        ["evidence", "renew", "--token", "renewing", "in"],
+        lambda o: renewals.renew(o, RENEWING, "in"),
+    ),
+    (
+        "evidence renew, token",
+        RENEWING,
+        ["evidence", "renew", "--token", "in", "again.ers"],
+        lambda o: renewals.renew(TREE, o, "again.ers"),
+    ),
+    (
+        "evidence rehash --request",
+        OF_OLD,
+        REHASH_HERE + ["--request", "out", "sums-in"],
+        lambda o: renewals.rehash(SUMS_IN, o, None, "out"),
+    ),
+    (
+        "evidence rehash, record",
+        TREE,
+        REHASH_HERE + ["--token", "rehashing", "sums-in"],
+        lambda o: renewals.rehash(SUMS_IN, o, REHASHING, "in.ers"),
+    ),
+    (
+        "evidence rehash, token",
+        REHASHING,
+        REHASH_HERE + ["--token", "in", "sums-again"],
+        lambda o: renewals.rehash(SUMS_AGAIN, TREE, o, "again.ers"),
+    ),
+    ("evidence rehash, sums", SUMS_AGAIN, REHASH_HERE + ["--token", "rehashing", "in"], rehashed),
 ]
+# what commands change, which is as it was before each
+CHANGED = {"again": TREE, "again.ers": TREE}
 # what stands beside the input
 BESIDE = {
     "trust-tsa": TRUST,
@@ -96,4 +160,11 @@ BESIDE = {
     "of-group": OF_GROUP,
     "of-old": OF_OLD,
     "encrypted": ENCRYPTED,
+    "of-sums": OF_SUMS,
+    "sums-two": SUMS,
+    "renewing": RENEWING,
+    "rehashing": REHASHING,
+    "sums-in": SUMS_IN,
+    "sums-again": SUMS_AGAIN,
+    **CHANGED,
 }

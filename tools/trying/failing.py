@@ -1,7 +1,7 @@
 #!/usr/bin/env python3
 """Runs each command of the built program with the Nth growth of memory refused, the Nth open, read, write, seek, sync, link, rename or removal, or
-the Nth new folder failing, or moving one octet alone, N from 1 until a run meets none of it. Commands over several files are among them: there each file's lines must be
-those of the whole run, or say what failed, and a run that stops has a beginning of that. So are files over 1 MiB, made here, which
+the Nth new folder failing, or moving one octet alone, N from 1 until a run meets none of it. Commands over several files are among them:
+there each file's lines must be those of the whole run, or say what failed, and a run that stops has a beginning of that. So are files over 1 MiB, made here, which
 `check` and `questions` read in two, three and four passes, each with more memory.
 
     python3 tools/trying/failing.py [PROGRAM] [--test NAME]

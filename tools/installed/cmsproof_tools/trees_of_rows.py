@@ -1,5 +1,5 @@
-"""The hash trees of evidence records that a state has rows of, for a report: the records are read anew, and one that is another than was judged is not
-drawn."""
+"""The hash trees of evidence records that a state has rows of, for a report: the records are read anew, and one that is another than was
+judged is not drawn."""
 from __future__ import annotations
 
 import hashlib
@@ -18,9 +18,9 @@ from cmsproof_tools.trees import MOST_LEAVES, Picture, Tree, Undrawn, Way, diges
 Kind = Tuple[str, int]
 # how long a line is at most in the box of a time-stamp
 LONGEST_LINE = 26
-ABOUT = "Each dot is a digest: that of a file, or of all digests that lead to it from the left, in ascending order. Whoever changes a file changes each dot "
-ABOUT += "to its right, and the root, the last one, is what the time-stamp is over. Thick is the way of {name}; the rings beside it are what its record has, so "
-ABOUT += "that nobody needs the other files."
+ABOUT = "Each dot is a digest: that of a file, or of all digests that lead to it from the left, in ascending order. Whoever changes a "
+ABOUT += "file changes each dot to its right, and the root, the last one, is what the time-stamp is over. Thick is the way of {name}; "
+ABOUT += "the rings beside it are what its record has, so that nobody needs the other files."
 
 
 class Leaf(NamedTuple):

@@ -372,5 +372,21 @@ class Large(WithRecords):
         self.assertEqual(self.due("records", timeout=300)[:2], (0, []))
 
 
+class Kept(unittest.TestCase):
+    def test_a_token_is_judged_once(self):
+        """What is said of a token that passes is kept, by all its octets; one that fails is judged each time."""
+        by = lasting.By(cmsproof.TrustList((DATA / "trust.txt").read_bytes()), {}, "20261231000000Z")
+        record, asked, judge = (DATA / "records" / "bouncy_castle_one_document.ers").read_bytes(), [], by.passed
+        by.passed = lambda last: asked.append(last.token) or judge(last)
+        ends = {lasting.end_of(record, by) for _ in range(3)}
+        self.assertEqual((len(ends), len(asked)), (1, 1))
+        changed = record[:-1] + bytes([record[-1] ^ 1])
+        for _ in range(2):
+            with self.assertRaises(lasting.Unjudged) as raised:
+                lasting.end_of(changed, by)
+            self.assertIn("W4 K14 SignatureFails", str(raised.exception))
+        self.assertEqual((len(asked), len(set(asked)), len(by.kept)), (3, 2, 1))
+
+
 if __name__ == "__main__":
     unittest.main()

@@ -6,10 +6,11 @@ use Rattle.std.proofs.lemmas.List.Concat.{flat_map-cons}
 use Rattle.devices.specs.Device.{Wrote}
 use Rattle.devices.specs.declared.sink.SinkFault.{SinkFault}
 use Rattle.trust_lists.specs.Asking.{Asked}
-use Rattle.devices.proofs.Putting.{TwoPuts, FirstPut, SecondPut, BothPut, wrote_next, wrote_both, wrote_first}
+use Rattle.devices.proofs.Putting.{TwoPuts, FirstPut, SecondPut, BothPut, wrote_next, wrote_part, wrote_both}
+use Rattle.devices.proofs.Putting.{wrote_first}
 use Rattle.list_answers.proofs.Puts.{wrote_none}
 use Rattle.check_questions.specs.FileQuestions.{Joined, InOrder, OneOrNone}
-use Rattle.check_questions.specs.QuestionsText.{ended, question_line, question_lines}
+use Rattle.check_questions.specs.QuestionsText.{ended, question_line, question_lines, questions_text}
 use Rattle.check_questions.specs.AskingSteps.{PutsLines}
 
 abbrev pub first_line : List ℕ
@@ -89,3 +90,16 @@ pub last_put : {A : Type 0} (Has : A → List Asked → Type 0) (u : Unit {0}) (
     → PutsLines (InOrder Has left) (Ok u) tells t t c c
 last_put {A} Has u tells t c left is = subst (λ (l : List A). PutsLines (InOrder Has l) (Ok u) tells t t c c) (sym is)
     (none_put (InOrder Has []) u tells t c (λ qs are. are))
+
+-- ---- a text
+
+-- the first line was put, and then the lines of all questions that are these, or some of them
+pub text_put : (Are : List Asked → Type 0) (p : TwoPuts) → FirstPut p first_line → SecondLines Are p
+    → (qs : List Asked) → Are qs → BothPut p (questions_text qs)
+text_put Are p first second qs are = wrote_next p first_line (question_lines qs) first (second qs are)
+
+-- the first line was not put whole
+pub text_part : (Are : List Asked → Type 0) (f : SinkFault) (tells : Type 0) (t0 t1 : List ℕ) (c0 c1 : ℕ)
+    → Wrote (Err f) tells t0 t1 c0 c1 first_line
+    → (qs : List Asked) → Are qs → Wrote (Err f) tells t0 t1 c0 c1 (questions_text qs)
+text_part Are f tells t0 t1 c0 c1 put qs are = wrote_part f tells t0 t1 c0 c1 first_line (question_lines qs) put

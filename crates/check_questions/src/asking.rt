@@ -77,14 +77,17 @@ pub(crate) fn signed_of<'a>(octets: &'a [u8]) -> Result<SignedData<'a>, Question
     }
 }
 
-/// Writes the lines of the questions about the one signer of a token, in the order of the entries.
-pub(crate) fn put_under_token<S: Sink>(
-    sink: &mut S,
-    trust: &Trust,
-    token: &[u8],
-) -> Result<(), SinkFault>
+/// Writes the lines of the questions about the one signer of a time-stamp token, under the entries of the role `tsa`
+/// that match it, in the list's order, as `token_questions` does below its first line. What is no token, or has no
+/// signer, or two, has none.
+///
+/// Errors: `SinkFault`, at the first failure of the sink. A beginning of the lines was then written.
+pub fn put_under_token<S: Sink>(sink: &mut S, trust: &Trust, token: &[u8]) -> Result<(), SinkFault>
+    // The lines of its questions were written and the count of failures is unchanged, or a beginning of them was
+    // written and the count is raised by one.
     ensures wrote { PutsLines (OfToken trust.now token.now) result (S.tells sink.old) (S.taken sink.old)
         (S.taken sink.new) (S.failures sink.old) (S.failures sink.new) }
+    // If it was known what the sink took, it still is.
     ensures telling { S.tells sink.old → S.tells sink.new }
 {
     let Ok(signed) = opened(token) else {

@@ -10,6 +10,7 @@ mod laws;
 mod written;
 
 pub use alone::token_questions;
+pub use asking::put_under_token;
 pub use fault::QuestionsFault;
 pub use file_questions::{put_text, questions};
 pub use laws::{questions_are_those_asked, rows_hold};

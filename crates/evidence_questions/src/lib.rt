@@ -2,11 +2,9 @@
 //! be judged, and their text.
 #![tactic(auto)]
 
-mod asking;
 mod fault;
 mod laws;
 mod record_questions;
-mod written;
 
 pub use fault::RecordQuestionsFault;
 pub use laws::{

@@ -9,9 +9,9 @@ ghost use Rattle.evidence_questions.specs.RecordQuestions.{OfStamps, AreQuestion
 ghost use Rattle.evidence_questions.specs.RecordWritten.{IsOpenRecord, EncodesNoRecord, IsMalformed, IsRecordWritten};
 ghost use Rattle.evidence_questions.specs.RecordWritten.{IsRecordWrittenWith, CountsRecordWrites};
 
-use crate::asking::put_under_token;
 use crate::fault::RecordQuestionsFault;
 use check_evidence::RecordRule;
+use check_questions::put_under_token;
 use der_core::ReadFault;
 use devices::{Sink, SinkFault, put_all};
 use evidence_types::{Chain, Chains, EvidenceRecord};

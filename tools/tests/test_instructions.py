@@ -14,7 +14,7 @@ from linking import Stopped
 from samples import measured_files
 
 # the SHA-256 of all names and digests of files
-FILES = "9c3a4525d4460bf70aeb5ab84c1db9b32f52fa6dda40bbd66f87d9284b0ed5f0"
+FILES = "ab3692c65c049dac0dc3702d5cb103b38b3dc713bcc0b265ac0fe8d6500fd758"
 MISSING = instructions.missing
 # of callgrind, without what it says of itself: a cost, calls whose cost is that of others, and a position without a cost
 CALLGRIND = """events: Ir

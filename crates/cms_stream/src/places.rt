@@ -1,4 +1,5 @@
-ghost use Rattle.std.specs.Prelude.{◌≡◌, ◌≤◌};
+ghost use Rattle.std.specs.Prelude.{◌≡◌, ◌+◌, ◌^◌, ◌<◌, ◌≤◌, length, drop};
+ghost use Rattle.cms_stream_laws.specs.OpenReading.{heading};
 ghost use Rattle.cms_stream.specs.Calls.{IsInBody, IsCall};
 ghost use Rattle.cms_stream.specs.Parts.{EntersFile, EntersNext, EntersTag, FindsEnd, FindsLast, FindsNothing};
 ghost use Rattle.cms_stream.specs.Parts.{LooksForTag};
@@ -11,6 +12,21 @@ use der_core::{Fault, Kind};
 use devices::Source;
 
 impl Reader {
+    /// Passes the header here, of an element whose contents have `len` octets, and returns where they end.
+    fn pass_header(&mut self, len: u64) -> u64
+        requires small { len < 2 ^ 32 }
+        requires there { heading len ≤ length self.old.window }
+        requires near { self.old.at + heading len + len < 2 ^ 64 }
+        ensures window { self.new.window ≡ drop (heading len) self.old.window }
+        ensures at { self.new.at ≡ self.old.at + heading len }
+        ensures end { result ≡ self.new.at + len }
+    {
+        let count = heading(len);
+        self.window.pass(count);
+        self.at += count as u64;
+        self.at + len
+    }
+
     /// Enters the element here, which must have this tag and end by `end`, the end of the body, and returns where its
     /// contents end.
     ///
@@ -29,10 +45,7 @@ impl Reader {
             Ok(len) => len,
             Err(fault) => return Err(StreamFault::Malformed(fault)),
         };
-        let count = heading(len);
-        self.window.pass(count);
-        self.at += count as u64;
-        Ok(self.at + len)
+        Ok(self.pass_header(len))
     }
 
     /// Enters the element here, with any tag, as `enter` does.
@@ -47,10 +60,7 @@ impl Reader {
             Ok(len) => len,
             Err(fault) => return Err(StreamFault::Malformed(fault)),
         };
-        let count = heading(len);
-        self.window.pass(count);
-        self.at += count as u64;
-        Ok(self.at + len)
+        Ok(self.pass_header(len))
     }
 
     /// Whether there is an element with this tag here, before the end of the body.
@@ -118,10 +128,7 @@ impl Reader {
             Ok(len) => len,
             Err(fault) => return Err(StreamFault::Malformed(fault)),
         };
-        let count = heading(len);
-        self.window.pass(count);
-        self.at += count as u64;
-        Ok(self.at + len)
+        Ok(self.pass_header(len))
     }
 
     /// The source must end here.

@@ -1,12 +1,14 @@
 -- A list that was read is gone through by the headings of its items.
-use Rattle.std.proofs.Common.{◌≡◌, ℕ, false, eqb, ◌∷◌, length, Result, Ok, Err, refl, ap, ◌∙◌}
+use Rattle.std.proofs.Common.{◌≡◌, ℕ, false, eqb, [], ◌∷◌, length, Some, None, Result, Ok, Err, refl, ap, ◌∙◌, inl}
+use Rattle.std.proofs.Common.{inr}
 use Rattle.der_core.specs.declared.fault.Fault.{Fault}
 use Rattle.der_core.specs.Element.{IsBytes}
 use Rattle.der_core.specs.Reading.{Spot, within, enter_at}
 use Rattle.der_core.specs.Results.{◌>>=◌}
 use Rattle.der_lists.specs.Items.{all_in, IsList}
 use Rattle.der_lists.specs.Shorter.{within_shorter}
-use Rattle.der_lists.proofs.Items.{first_item, no_item_faulty}
+use Rattle.der_lists.proofs.Items.{first_item, no_items, no_item_faulty}
+use Rattle.cms_types.specs.Entering.{EntersFront}
 
 module _ {A : Type 0} (tag : ℕ) (inside : Spot → Result A Fault) where
   abbrev Item : Spot → Result (A × Spot) Fault
@@ -44,3 +46,14 @@ module _ {A : Type 0} (tag : ℕ) (inside : Spot → Result A Fault) where
           record { value = a; read = k; items = first.1; list = first.0 }
       go (Err f) k = absurd (no_item_faulty (within tag inside) (within_shorter tag inside) s f fits some
           (step ∙ ap (λ (r : Result A Fault). r >>= λ b. Ok (b, after)) k) h)
+
+-- the same of what was found at the front of a list of SEQUENCEs
+module _ {A : Type 0} (inside : Spot → Result A Fault) where
+  pub none_at_front : (s : Spot) → IsBytes s.rest → EntersFront s None → IsList (within 0x30 inside) s
+      → all_in (within 0x30 inside) s ≡ []
+  none_at_front s fits (inl none) h = no_items (within 0x30 inside) (within_shorter 0x30 inside) s none
+  none_at_front s fits (inr e) h = absurd (not_entered 0x30 inside s e.1.0 fits e.0 e.1.1 h)
+
+  pub first_at_front : (s : Spot) (x : Spot × Spot) → IsBytes s.rest → EntersFront s (Some x)
+      → IsList (within 0x30 inside) s → Entered 0x30 inside s x.0 x.1
+  first_at_front s x fits e h = entered 0x30 inside s x.0 x.1 fits e.0 e.1 h

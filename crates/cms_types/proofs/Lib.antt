@@ -3,7 +3,6 @@ pub mod SignerReaders
 pub mod SignedDataReaders
 pub mod FewerTokens
 pub mod Entering
-pub mod SignersAgain
 pub mod OnlyValue
 pub mod OfType
 pub mod DigestAlgorithm

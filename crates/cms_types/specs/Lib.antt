@@ -3,6 +3,7 @@ pub mod SignerValue
 pub mod SignedDataValue
 pub mod AttributeReading
 pub mod OfType
+pub mod Entering
 pub mod SignerReading
 pub mod SignedDataReading
 pub mod Fields

@@ -6,6 +6,7 @@ ghost use Rattle.cms_types.specs.AttributeReading.{attribute_in};
 ghost use Rattle.cms_types.specs.AttributeValue.{AttributeValue};
 ghost use Rattle.cms_types.specs.OfType.{EntersFirst, IsAtValues};
 
+use crate::front::enter_front;
 use der_core::octets::is_same;
 use der_core::tags::{OBJECT_IDENTIFIER, SEQUENCE, SET};
 use der_core::{Cursor, Fault, Oid};
@@ -39,16 +40,7 @@ pub(crate) fn enter_first<'a>(list: &Cursor<'a>) -> Option<(Cursor<'a>, Cursor<'
         → IfSome result (λ x. IsList (within 0x30 attribute_in) x.1) }
     ensures shorter { IfSome result (λ x. length x.1.rest < length list.now.rest) }
 {
-    // Named for the proof.
-    let _rest = list.rest();
-    if list.is_empty() {
-        return None;
-    }
-    let mut ahead = list.again();
-    let Ok(parts) = ahead.enter(SEQUENCE) else {
-        return None;
-    };
-    Some((parts, ahead))
+    enter_front(list)
 }
 
 // How many attributes a list has that was tested before. They are counted by their headings.

@@ -65,6 +65,26 @@ impl<'a> Attributes<'a> {
         Ok(Attributes { list, count })
     }
 
+    /// The attributes from the cursor to the end of its body, in any order. Each of them is read.
+    ///
+    /// Faults: at each element those of `Cursor::expect` for a SEQUENCE, and in it those of its parts.
+    pub fn read_list(list: Cursor<'a>) -> Result<Attributes<'a>, Fault>
+        // Returns the attributes or the fault that the reading of attributes in any order gives.
+        ensures { Gives (λ a. a) result (attributes_in list.entry) }
+    {
+        Attributes::read::<false>(list)
+    }
+
+    /// As `read_list`, but the attributes, and the values of each, must also be in ascending order (X.690 11.6).
+    ///
+    /// Faults: also `Order` at an element that is less than the one before it.
+    pub fn read_set(list: Cursor<'a>) -> Result<Attributes<'a>, Fault>
+        // Returns the attributes or the fault that the reading of attributes in ascending order gives.
+        ensures { Gives (λ a. a) result (signed_attributes_in list.entry) }
+    {
+        Attributes::read_signed::<false>(list)
+    }
+
     // The empty list.
     pub(crate) fn empty() -> Attributes<'a>
         ensures { result ≡ [] }

@@ -8,6 +8,7 @@ mod attributes;
 mod content_info;
 mod fault;
 mod finding;
+mod front;
 mod laws;
 pub mod oids;
 mod signed_attribute;

@@ -5,8 +5,8 @@ ghost use Rattle.der_lists.specs.Items.{all_in, IsList};
 ghost use Rattle.cms_types.specs.SignerReading.{signer_in};
 ghost use Rattle.cms_types.specs.SignerValue.{BeginsBy};
 
+use crate::front::enter_front;
 use crate::signer::{Signer, digest_algorithm_of};
-use der_core::tags::SEQUENCE;
 use der_core::{AlgorithmIdentifier, Cursor};
 
 // The first signer of a list that was read before, and a cursor at the others.
@@ -16,15 +16,7 @@ pub(crate) fn first_signer<'a>(list: &Cursor<'a>) -> Option<(Signer<'a>, Cursor<
         (λ x. all_in (within 0x30 signer_in) list.now ≡ x.0 ∷ all_in (within 0x30 signer_in) x.1) }
     ensures list { IfSome result (λ x. IsList (within 0x30 signer_in) x.1) }
 {
-    // Named for the proof.
-    let _rest = list.rest();
-    if list.is_empty() {
-        return None;
-    }
-    let mut ahead = list.again();
-    let Ok(parts) = ahead.enter(SEQUENCE) else {
-        return None;
-    };
+    let (parts, ahead) = enter_front(list)?;
     let Ok(signer) = Signer::read_again(parts) else {
         return None;
     };
@@ -40,15 +32,7 @@ pub(crate) fn first_digest_algorithm<'a>(
         (λ x. BeginsBy (all_in (within 0x30 signer_in) list.now) x.0 (all_in (within 0x30 signer_in) x.1)) }
     ensures list { IfSome result (λ x. IsList (within 0x30 signer_in) x.1) }
 {
-    // Named for the proof.
-    let _rest = list.rest();
-    if list.is_empty() {
-        return None;
-    }
-    let mut ahead = list.again();
-    let Ok(parts) = ahead.enter(SEQUENCE) else {
-        return None;
-    };
+    let (parts, ahead) = enter_front(list)?;
     let Ok(algorithm) = digest_algorithm_of(parts) else {
         return None;
     };

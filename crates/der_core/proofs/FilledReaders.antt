@@ -50,9 +50,9 @@ module _ {A : Type 0} (tag : ℕ) (id : is_tag tag ≡ true) (read : Body A) (en
         | inr h ↦ (h.1, λ nil. eqb-false _ _ h.0 (ap length nil))
       ]
 
-  filled_within : (n : ℕ) (s : Spot) (y : A × Spot) → IsBytes s.rest → within tag (filled_in n read) s ≡ Ok y
+  pub entered_filled : (n : ℕ) (s : Spot) (y : A × Spot) → IsBytes s.rest → within tag (filled_in n read) s ≡ Ok y
       → (c : Spot) × Enters tag s c y.1 × Good y.0 × (c.rest ≡ enc y.0) × (c.rest ≡ [] → ⊥)
-  filled_within n s y fits e =
+  entered_filled n s y fits e =
       let a = bind_ok (enter_at tag s) (λ x. filled_in n read x.0 >>= λ v. Ok (v, x.1)) y e in
       let b = bind_ok (filled_in n read a.0.0) (λ v. Ok (v, a.0.1)) y a.2 in
       let k = enter_ok tag s a.0 fits a.1 in
@@ -67,7 +67,7 @@ module _ {A : Type 0} (tag : ℕ) (id : is_tag tag ≡ true) (read : Body A) (en
   filled_takes s y fits e =
       elim (maybe_gives tag (filled_in s.pos read) s y e) [
         | inl h ↦
-            let w = filled_within s.pos s (h.0, y.1) fits h.1 in
+            let w = entered_filled s.pos s (h.0, y.1) fits h.1 in
             let some : enc h.0 ≡ [] → ⊥ = λ nil. w.4 (w.3 ∙ nil) in
             let good : GoodFilled (Some h.0) =
             ((w.2, subst (λ (b : List ℕ). length b < 2 ^ 32) w.3 w.1.element.size), some) in
@@ -78,9 +78,9 @@ module _ {A : Type 0} (tag : ℕ) (id : is_tag tag ≡ true) (read : Body A) (en
             (tt, record { parts = refl; moved = omega arith })
       ]
 
-  filled_again : (x : A) (n : ℕ) (r : List ℕ) → GoodFilled (Some x)
+  pub filled_there : (x : A) (n : ℕ) (r : List ℕ) → GoodFilled (Some x)
       → within tag (filled_in n read) (spot n (el tag (enc x) ++ r)) ≡ Ok (x, spot (n + length (el tag (enc x))) r)
-  filled_again x n r h =
+  filled_there x n r h =
       let some : eqb (length (enc x)) 0 ≡ false = ne_eqb _ _ (λ z. h.1 (nil_from_length (enc x) z)) in
       rw (
         enter_again tag n (enc x) r (record { identifier = id; size = h.0.1 }),
@@ -91,7 +91,7 @@ module _ {A : Type 0} (tag : ℕ) (id : is_tag tag ≡ true) (read : Body A) (en
   maybe_again : (x : Option A) (n : ℕ) (r : List ℕ) → GoodFilled x → has_tag tag r ≡ false
       → maybe_filled tag read (spot n (enc_filled x ++ r)) ≡ Ok (x, spot (n + length (enc_filled x)) r)
   maybe_again None n r h l = let e : n + 0 ≡ n = omega arith in rw (l, e) refl
-  maybe_again (Some x) n r h l = let e : eqb tag tag ≡ true = eq-eqb tag tag refl in rw (e, filled_again x n r h) refl
+  maybe_again (Some x) n r h l = let e : eqb tag tag ≡ true = eq-eqb tag tag refl in rw (e, filled_there x n r h) refl
 
   -- a fault of such an element that is present
   filled_fault : (s : Spot) (f : Fault) → IsBytes s.rest → has_tag tag s.rest ≡ true
@@ -142,7 +142,7 @@ module _ {A : Type 0} (tag : ℕ) (id : is_tag tag ≡ true) (read : Body A) (en
   filled_goes s y fits e after f q =
       elim (maybe_gives tag (filled_in s.pos read) s y e) [
         | inl h ↦
-            let k = filled_within s.pos s (h.0, y.1) fits h.1 in
+            let k = entered_filled s.pos s (h.0, y.1) fits h.1 in
             fault_behind Optional tag s k.0 y.1 (filled form) after [] f k.1 q
         | inr h ↦
             let p = subst (λ (z : Option A × Spot). FaultFrom (place z.1.pos z.1.rest after []) f) h.1 q in
@@ -173,7 +173,7 @@ module _ {A : Type 0} (tag : ℕ) (id : is_tag tag ≡ true) (read : Body A) (en
       → last_filled tag read (spot n (enc_filled x ++ r)) ≡ Ok (x, spot (n + length (enc_filled x)) r)
   unfolding none_at
   last_again None n r h l = let e : n + 0 ≡ n = omega arith in rw (l, e) refl
-  last_again (Some x) n r h l = let e : eqb tag tag ≡ true = eq-eqb tag tag refl in rw (e, filled_again x n r h) refl
+  last_again (Some x) n r h l = let e : eqb tag tag ≡ true = eq-eqb tag tag refl in rw (e, filled_there x n r h) refl
 
   last_fault : (s : Spot) (f : Fault) → IsBytes s.rest → last_filled tag read s ≡ Err f
       → FaultFrom (place s.pos s.rest (due full) []) f

@@ -8,7 +8,7 @@ use Rattle.std.proofs.lemmas.List.{nil_from_length, length-append}
 use Rattle.std.proofs.lemmas.List.Concat.{flat_map-cons}
 use Rattle.der_core.specs.declared.fault.Fault.{Fault}
 use Rattle.der_core.specs.declared.fault.Kind.TheVariants.{Tag}
-use Rattle.der_core.specs.Element.{is_tag, el, IsBytes}
+use Rattle.der_core.specs.Element.{is_tag, el, IsElement, IsBytes}
 use Rattle.der_core.specs.Form.{Many, Form, full, may_stand, Element}
 use Rattle.der_core.specs.Encoding.{Encodes, ended, next, absent}
 use Rattle.der_core.specs.Faults.{Place, place, stays, Fact, FaultFrom}
@@ -55,6 +55,109 @@ list_enter_fault tag s f fits some e form ps =
       ]
     ]
 
+-- how one reads such an element at the front of a list of them: what it does with the identifier and the contents
+pub record ReadsMember {A : Type 0} (tag : ℕ) (item : Reader A) (enc : A → List ℕ) (Inside : A → Type 0)
+    (form : Form) : Type 0 where
+  pub takes : (s : Spot) (y : A × Spot) → IsBytes s.rest → item s ≡ Ok y
+      → (c : Spot) × Enters tag s c y.1 × Inside y.0 × (c.rest ≡ enc y.0)
+  pub again : (x : A) (n : ℕ) (r : List ℕ) → Inside x
+      → item (spot n (el tag (enc x) ++ r)) ≡ Ok (x, spot (n + length (el tag (enc x))) r)
+  pub faults : (s : Spot) (f : Fault) (ps : List Element) → IsBytes s.rest → (s.rest ≡ [] → ⊥) → item s ≡ Err f
+      → FaultFrom (at_list tag form s ps) f
+  pub encodes : (x : A) → Inside x → IsElement tag (enc x) × Encodes [] form (enc x)
+
+module _ {A : Type 0} (tag : ℕ) (item : Reader A) (enc : A → List ℕ) (Inside : A → Type 0) (form : Form)
+    (law : ReadsMember tag item enc Inside form) where
+  abbrev members : List A → List ℕ
+  members xs = flat_map (λ x. el tag (enc x)) xs
+
+  abbrev Items : Type 0
+  Items = Result (List A) Fault
+
+  abbrev done : List A → Items
+  done xs = Ok xs
+
+  abbrev some_of : ℕ → Spot → Items
+  some_of k s = item s >>= λ x. many_from item k x.1 >>= λ xs. Ok (x.0 ∷ xs)
+
+  many_ok : (k : ℕ) (s : Spot) (xs : List A) → IsBytes s.rest → length s.rest ≤ k → many_from item k s ≡ Ok xs
+      → AllByRecursion Inside xs × (s.rest ≡ members xs)
+  unfolding many_from
+  many_ok zero s xs fits le e = subst (λ (v : List A). AllByRecursion Inside v × (s.rest ≡ members v)) (ok_is [] xs e)
+      (tt, nil_from_length s.rest (omega arith))
+  many_ok (suc k) s xs fits le e =
+      elim (chosen (eqb (length s.rest) 0) (done []) (some_of k s) (Ok xs) e) [
+        | inl h ↦ subst (λ (v : List A). AllByRecursion Inside v × (s.rest ≡ members v)) (ok_is [] xs h.1)
+            (tt, nil_from_length s.rest (eqb-true _ _ h.0))
+        | inr h ↦
+            let a = bind_ok (item s) (λ x. many_from item k x.1 >>= λ ys. Ok (x.0 ∷ ys)) xs h.1 in
+            let b = bind_ok (many_from item k a.0.1) (λ ys. Ok (a.0.0 ∷ ys)) xs a.2 in
+            let w = law.takes s a.0 fits a.1 in
+            let parts : s.rest ≡ el tag (enc a.0.0) ++ a.0.1.rest =
+            subst (λ (c : List ℕ). s.rest ≡ el tag c ++ a.0.1.rest) w.3 w.1.parts in
+            let shorter : length a.0.1.rest ≤ k =
+            omega (arith, ap length parts, length-append (el tag (enc a.0.0)) a.0.1.rest) in
+            let ih = many_ok k a.0.1 b.0 w.1.fits_rest shorter b.1 in
+            let all : s.rest ≡ members (a.0.0 ∷ b.0) = parts ∙ ap (λ (r : List ℕ). el tag (enc a.0.0) ++ r) ih.1
+            ∙ sym (flat_map-cons (λ x. el tag (enc x)) a.0.0 b.0) in
+            subst (λ (v : List A). AllByRecursion Inside v × (s.rest ≡ members v)) (ok_is (a.0.0 ∷ b.0) xs b.2)
+            ((w.2, ih.0), all)
+      ]
+
+  many_again : (k : ℕ) (xs : List A) (n : ℕ) → AllByRecursion Inside xs → length (members xs) ≤ k
+      → many_from item k (spot n (members xs)) ≡ Ok xs
+  unfolding many_from
+  many_again zero [] n h le = refl
+  many_again (suc k) [] n h le = refl
+  many_again zero (x ∷ xs) n h le = absurd (omega (arith, ap length (flat_map-cons (λ x. el tag (enc x)) x xs)))
+  many_again (suc k) (x ∷ xs) n h le =
+      let is : members (x ∷ xs) ≡ el tag (enc x) ++ members xs = flat_map-cons (λ x. el tag (enc x)) x xs in
+      let size = length-append (el tag (enc x)) (members xs) in
+      let some : eqb (length (el tag (enc x) ++ members xs)) 0 ≡ false = ne_eqb _ _ (λ z. omega (arith, z)) in
+      let shorter : length (members xs) ≤ k = omega (arith, ap length is, size) in
+      ap (λ (t : List ℕ). many_from item (suc k) (spot n t)) is
+      ∙ rw (
+        some,
+        law.again x n (members xs) h.0,
+        many_again k xs (n + length (el tag (enc x))) h.1 shorter,
+      ) refl
+
+  many_fault : (k : ℕ) (s : Spot) (f : Fault) (ps : List Element) → IsBytes s.rest → many_from item k s ≡ Err f
+      → FaultFrom (at_list tag form s ps) f
+  unfolding many_from
+  many_fault zero s f ps fits e = absurd (let z = e in cc)
+  many_fault (suc k) s f ps fits e =
+      elim (chosen (eqb (length s.rest) 0) (done []) (some_of k s) (fails f) e) [
+        | inl h ↦ absurd (let z = h.1 in cc)
+        | inr h ↦ elim (bind_err (item s) (λ x. many_from item k x.1 >>= λ ys. Ok (x.0 ∷ ys)) f h.1) [
+          | inl a ↦ law.faults s f ps fits (λ none. eqb-false _ _ h.0 (ap length none)) a
+          | inr a ↦ elim (bind_err (many_from item k a.0.1) (λ ys. Ok (a.0.0 ∷ ys)) f a.2) [
+            | inr b ↦ absurd (let z = b.2 in cc)
+            | inl b ↦
+                let w = law.takes s a.0 fits a.1 in
+                fault_behind Many tag s w.0 a.0.1 form full ps f w.1
+                (many_fault k a.0.1 f (ps ++ (tag, w.0.rest) ∷ []) w.1.fits_rest b)
+          ]
+        ]
+      ]
+
+  many_encodes : (ps : List Element) (xs : List A) → AllByRecursion Inside xs → Encodes ps (list tag form) (members xs)
+  many_encodes ps [] h = absent refl (ended refl)
+  many_encodes ps (x ∷ xs) h =
+      let here = law.encodes x h.0 in
+      next tag (enc x) (members xs) (flat_map-cons (λ y. el tag (enc y)) x xs) here.0 (took tag form full) refl refl
+      here.1 (many_encodes (ps ++ (tag, enc x) ∷ []) xs h.1)
+
+  -- a body that is a list of such elements
+  pub members_body : IsBody (many_in item) members (AllByRecursion Inside) (list tag form)
+  unfolding many_in
+  members_body = record {
+    takes = λ s xs fits e. many_ok (length s.rest) s xs fits (omega arith) e;
+    again = λ xs n h. many_again (length (members xs)) xs n h (omega arith);
+    faults = λ s f fits e. many_fault (length s.rest) s f [] fits e;
+    encodes = λ xs h. many_encodes [] xs h;
+  }
+
 module _ {A : Type 0} (tag : ℕ) (id : is_tag tag ≡ true) (read : Body A) (enc : A → List ℕ) (Good : A → Type 0)
     (form : Form)
     (law : IsBody read enc Good form) where
@@ -64,103 +167,34 @@ module _ {A : Type 0} (tag : ℕ) (id : is_tag tag ≡ true) (read : Body A) (en
   abbrev Inside : A → Type 0
   Inside x = Good x × (length (enc x) < 2 ^ 32)
 
-  abbrev Item : Reader A
-  Item s = within tag read s
+  one_takes : (s : Spot) (y : A × Spot) → IsBytes s.rest → within tag read s ≡ Ok y
+      → (c : Spot) × Enters tag s c y.1 × Inside y.0 × (c.rest ≡ enc y.0)
+  one_takes s y fits e =
+      let w = within_ok tag id read enc Good form law s y fits e in
+      (w.0, w.1, (w.2, subst (λ (c : List ℕ). length c < 2 ^ 32) w.3 w.1.element.size), w.3)
 
-  abbrev Items : Type 0
-  Items = Result (List A) Fault
-
-  abbrev done : List A → Items
-  done xs = Ok xs
-
-  abbrev some_of : ℕ → Spot → Items
-  some_of k s = Item s >>= λ x. many_from Item k x.1 >>= λ xs. Ok (x.0 ∷ xs)
-
-  many_ok : (k : ℕ) (s : Spot) (xs : List A) → IsBytes s.rest → length s.rest ≤ k → many_from Item k s ≡ Ok xs
-      → AllByRecursion Inside xs × (s.rest ≡ items xs)
-  unfolding many_from
-  many_ok zero s xs fits le e = subst (λ (v : List A). AllByRecursion Inside v × (s.rest ≡ items v)) (ok_is [] xs e)
-      (tt, nil_from_length s.rest (omega arith))
-  many_ok (suc k) s xs fits le e =
-      elim (chosen (eqb (length s.rest) 0) (done []) (some_of k s) (Ok xs) e) [
-        | inl h ↦ subst (λ (v : List A). AllByRecursion Inside v × (s.rest ≡ items v)) (ok_is [] xs h.1)
-            (tt, nil_from_length s.rest (eqb-true _ _ h.0))
-        | inr h ↦
-            let a = bind_ok (Item s) (λ x. many_from Item k x.1 >>= λ ys. Ok (x.0 ∷ ys)) xs h.1 in
-            let b = bind_ok (many_from Item k a.0.1) (λ ys. Ok (a.0.0 ∷ ys)) xs a.2 in
-            let w = within_ok tag id read enc Good form law s a.0 fits a.1 in
-            let parts : s.rest ≡ el tag (enc a.0.0) ++ a.0.1.rest =
-            subst (λ (c : List ℕ). s.rest ≡ el tag c ++ a.0.1.rest) w.3 w.1.parts in
-            let shorter : length a.0.1.rest ≤ k =
-            omega (arith, ap length parts, length-append (el tag (enc a.0.0)) a.0.1.rest) in
-            let ih = many_ok k a.0.1 b.0 w.1.fits_rest shorter b.1 in
-            let good : Inside a.0.0 = (w.2, subst (λ (c : List ℕ). length c < 2 ^ 32) w.3 w.1.element.size) in
-            let all : s.rest ≡ items (a.0.0 ∷ b.0) = parts ∙ ap (λ (r : List ℕ). el tag (enc a.0.0) ++ r) ih.1
-            ∙ sym (flat_map-cons (λ x. el tag (enc x)) a.0.0 b.0) in
-            subst (λ (v : List A). AllByRecursion Inside v × (s.rest ≡ items v)) (ok_is (a.0.0 ∷ b.0) xs b.2)
-            ((good, ih.0), all)
-      ]
-
-  many_again : (k : ℕ) (xs : List A) (n : ℕ) → AllByRecursion Inside xs → length (items xs) ≤ k
-      → many_from Item k (spot n (items xs)) ≡ Ok xs
-  unfolding many_from
-  many_again zero [] n h le = refl
-  many_again (suc k) [] n h le = refl
-  many_again zero (x ∷ xs) n h le = absurd (omega (arith, ap length (flat_map-cons (λ x. el tag (enc x)) x xs)))
-  many_again (suc k) (x ∷ xs) n h le =
-      let is : items (x ∷ xs) ≡ el tag (enc x) ++ items xs = flat_map-cons (λ x. el tag (enc x)) x xs in
-      let size = length-append (el tag (enc x)) (items xs) in
-      let some : eqb (length (el tag (enc x) ++ items xs)) 0 ≡ false = ne_eqb _ _ (λ z. omega (arith, z)) in
-      let shorter : length (items xs) ≤ k = omega (arith, ap length is, size) in
-      ap (λ (t : List ℕ). many_from Item (suc k) (spot n t)) is
-      ∙ rw (
-        some,
-        within_again tag id read enc Good form law x n (items xs) h.0,
-        many_again k xs (n + length (el tag (enc x))) h.1 shorter,
-      ) refl
-
-  many_fault : (k : ℕ) (s : Spot) (f : Fault) (ps : List Element) → IsBytes s.rest → many_from Item k s ≡ Err f
+  one_fault : (s : Spot) (f : Fault) (ps : List Element) → IsBytes s.rest → (s.rest ≡ [] → ⊥)
+      → within tag read s ≡ Err f
       → FaultFrom (at_list tag form s ps) f
-  unfolding many_from
-  many_fault zero s f ps fits e = absurd (let z = e in cc)
-  many_fault (suc k) s f ps fits e =
-      elim (chosen (eqb (length s.rest) 0) (done []) (some_of k s) (fails f) e) [
-        | inl h ↦ absurd (let z = h.1 in cc)
-        | inr h ↦ elim (bind_err (Item s) (λ x. many_from Item k x.1 >>= λ ys. Ok (x.0 ∷ ys)) f h.1) [
-          | inl a ↦ elim (bind_err (enter_at tag s) (λ x. read x.0 >>= λ v. Ok (v, x.1)) f a) [
-            | inl b ↦ list_enter_fault tag s f fits (λ none. eqb-false _ _ h.0 (ap length none)) b form ps
-            | inr b ↦
-                let w = enter_ok tag s b.0 fits b.1 in
-                elim (bind_err (read b.0.0) (λ v. Ok (v, b.0.1)) f b.2) [
-                  | inl c ↦ fault_inside Many tag s b.0.0 b.0.1 form full ps f w (law.faults b.0.0 f w.fits c)
-                  | inr c ↦ absurd (let z = c.2 in cc)
-                ]
-          ]
-          | inr a ↦ elim (bind_err (many_from Item k a.0.1) (λ ys. Ok (a.0.0 ∷ ys)) f a.2) [
-            | inr b ↦ absurd (let z = b.2 in cc)
-            | inl b ↦
-                let w = within_ok tag id read enc Good form law s a.0 fits a.1 in
-                fault_behind Many tag s w.0 a.0.1 form full ps f w.1
-                (many_fault k a.0.1 f (ps ++ (tag, w.0.rest) ∷ []) w.1.fits_rest b)
-          ]
-        ]
+  one_fault s f ps fits some e =
+      elim (bind_err (enter_at tag s) (λ x. read x.0 >>= λ v. Ok (v, x.1)) f e) [
+        | inl b ↦ list_enter_fault tag s f fits some b form ps
+        | inr b ↦
+            let w = enter_ok tag s b.0 fits b.1 in
+            elim (bind_err (read b.0.0) (λ v. Ok (v, b.0.1)) f b.2) [
+              | inl c ↦ fault_inside Many tag s b.0.0 b.0.1 form full ps f w (law.faults b.0.0 f w.fits c)
+              | inr c ↦ absurd (let z = c.2 in cc)
+            ]
       ]
 
-  many_encodes : (ps : List Element) (xs : List A) → AllByRecursion Inside xs → Encodes ps (list tag form) (items xs)
-  many_encodes ps [] h = absent refl (ended refl)
-  many_encodes ps (x ∷ xs) h =
-      next tag (enc x) (items xs) (flat_map-cons (λ y. el tag (enc y)) x xs) (record { identifier = id; size = h.0.1 })
-      (took tag form full) refl refl (law.encodes x h.0.0) (many_encodes (ps ++ (tag, enc x) ∷ []) xs h.1)
-
-  -- a body that is a list of such elements
+  -- a body that is a list of elements with these contents
   pub many_body : IsBody (many_in (within tag read)) items (AllByRecursion Inside) (list tag form)
-  unfolding many_in
-  many_body = record {
-    takes = λ s xs fits e. many_ok (length s.rest) s xs fits (omega arith) e;
-    again = λ xs n h. many_again (length (items xs)) xs n h (omega arith);
-    faults = λ s f fits e. many_fault (length s.rest) s f [] fits e;
-    encodes = λ xs h. many_encodes [] xs h;
-  }
+  many_body = members_body tag (within tag read) enc Inside form (record {
+    takes = one_takes;
+    again = within_again tag id read enc Good form law;
+    faults = one_fault;
+    encodes = λ x h. (record { identifier = id; size = h.1 }, law.encodes x h.0);
+  })
 
 -- ---- an element that is taken
 

@@ -1,6 +1,6 @@
 -- The readings of the parts that types are made of.
-use Rattle.std.proofs.Common.{◌≡◌, ℕ, zero, suc, ◌+◌, Bool, true, false, eqb, List, [], ◌∷◌, ◌++◌, length, Option, Some}
-use Rattle.std.proofs.Common.{None, Result, Ok, Err, refl, sym, ap}
+use Rattle.std.proofs.Common.{◌≡◌, ℕ, zero, suc, ◌+◌, Bool, true, false, ◌||◌, eqb, List, [], ◌∷◌, ◌++◌, length, Option}
+use Rattle.std.proofs.Common.{Some, None, Result, Ok, Err, refl, sym, ap}
 use Rattle.std.proofs.Common.{subst, ◌∙◌, arith, inl, inr, lit<}
 use Rattle.std.specs.Prelude.{IfSome}
 use Rattle.std.proofs.lemmas.Bool.{eqb-true, or_cases}
@@ -97,6 +97,16 @@ bits_body = formed_body kind.Bits is_bits (malformed kind.Bits is_bits any)
 pub version_body : (allowed : List ℕ)
     → IsBody (version_in allowed) Same (λ b. (is_integer b ≡ true) × (is_of allowed b ≡ true)) (version allowed)
 version_body allowed = integer_of_body (is_of allowed)
+
+-- the contents of the only version that is allowed
+pub only_version : (b : List ℕ) → is_of (1 ∷ []) b ≡ true → 1 ∷ [] ≡ b
+only_version [] h = absurd cc
+only_version (v ∷ []) h = ap (λ (n : ℕ). n ∷ []) (eqb-true 1 v (or_none (eqb 1 v) h))
+  where
+    or_none : (b : Bool) → (b || false) ≡ true → b ≡ true
+    or_none true h = refl
+    or_none false h = h
+only_version (v ∷ w ∷ ws) h = absurd cc
 
 -- ---- elements
 

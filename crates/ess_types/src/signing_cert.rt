@@ -126,6 +126,14 @@ impl<'a> SigningCert<'a> {
         })
     }
 
+    /// The first identifier, which is that of the signer's certificate. `None` if there is no identifier, which the
+    /// encoding allows and RFC 5035 3 doesn't.
+    pub fn first(&self) -> Option<CertId<'a>>
+        ensures { result ≡ first_id self.now.ids }
+    {
+        self.fields.ids.first()
+    }
+
     /// Writes the octets that encode the signing certificate.
     ///
     /// Errors: `SinkFault` if the sink fails; then only a beginning of the octets was written.
@@ -138,13 +146,5 @@ impl<'a> SigningCert<'a> {
         ensures telling { S.tells out.old → S.tells out.new }
     {
         put_all(out, self.whole)
-    }
-
-    /// The first identifier, which is that of the signer's certificate. `None` if there is no identifier, which the
-    /// encoding allows and RFC 5035 3 doesn't.
-    pub fn first(&self) -> Option<CertId<'a>>
-        ensures { result ≡ first_id self.now.ids }
-    {
-        self.fields.ids.first()
     }
 }

@@ -19,6 +19,7 @@ use Rattle.der_core.specs.Values.{GoodAlgorithm}
 use Rattle.der_core.proofs.AlgorithmReader.{AlgorithmParts, algorithm_body}
 use Rattle.der_core.proofs.Lists.{many_body}
 use Rattle.der_core.proofs.PartReaders.{Always, Not, alike_body, alike_reader, oid_reader, opaque_reader}
+use Rattle.der_core.proofs.PartReaders.{only_version}
 use Rattle.der_core.proofs.ReadLengths.{ok_is}
 use Rattle.der_core.proofs.Readers.{IsReader, IsBody, Anything, within_reader, maybe_reader, then_reader, whole_body}
 use Rattle.der_core.proofs.Readers.{made_body, enc_option, GoodOption}
@@ -173,15 +174,6 @@ encryption_front : (o : Option EncryptionValue) (cs : List (List StampValue)) (r
 encryption_front None cs r = refl
 encryption_front (Some e) cs r = refl
 
-one_back : (b : List ℕ) → is_of (1 ∷ []) b ≡ true → 1 ∷ [] ≡ b
-one_back [] h = absurd cc
-one_back (v ∷ []) h = ap (λ (n : ℕ). n ∷ []) (eqb-true 1 v (or_none (eqb 1 v) h))
-  where
-    or_none : (b : Bool) → (b || false) ≡ true → b ≡ true
-    or_none true h = refl
-    or_none false h = h
-one_back (v ∷ w ∷ ws) h = absurd cc
-
 abbrev spelled : EvidenceParts → List ℕ
 spelled p = el 0x02 p.0 ++ (el 0x30 (algorithms_parts p.1.0)
     ++ (optional_attributes 160 p.1.1.0 ++ (optional_encryption 161 p.1.1.1.0 ++ el 0x30 (chains_parts p.1.1.1.1))))
@@ -217,7 +209,7 @@ unfolding evidence_in
 evidence_body =
     made_body evidence_from parts_of (λ v. refl) _ spelled GoodParts evidence_record
     (whole_body _ _ _ _ _ _ parts_reader tt tt)
-    (λ p h. ap (λ (b : List ℕ). (b, p.1)) (one_back p.0 h.0.1))
+    (λ p h. ap (λ (b : List ℕ). (b, p.1)) (only_version p.0 h.0.1))
 
 file_body : IsBody (whole_of (within 0x30 evidence_in)) encoding GoodEvidence (file evidence_record)
 file_body = alike_body _ encoding _ GoodEvidence (λ v. refl)

@@ -14,7 +14,8 @@ use Rattle.cms_types.specs.AttributeValue.{GoodSignedAttribute}
 use Rattle.cms_types.specs.AttributeValue.{GoodUnsignedAttributes}
 use Rattle.cms_types.specs.SignedDataValue.{algorithms_parts}
 use Rattle.evidence_types.specs.EvidenceTable.{evidence_record}
-use Rattle.evidence_types.specs.StampValue.{StampValue, IsSequence, stamp_parts, GoodStamp}
+use Rattle.evidence_types.specs.StampValue.{StampValue, IsSequence, hash_list_parts, GoodHashLists, hash_lists_parts}
+use Rattle.evidence_types.specs.StampValue.{stamp_parts, GoodStamp}
 use Rattle.evidence_types.specs.EvidenceValue.{chain_parts, GoodChain, chains_parts, GoodChains, GoodEncryption}
 use Rattle.evidence_types.specs.EvidenceValue.{EvidenceValue, evidence_parts, encoding, EncodesEvidence}
 use Rattle.evidence_types.specs.EvidenceVectors.{token}
@@ -39,6 +40,19 @@ good_bare x is size = record { algorithm = tt; attributes = tt; lists = tt; stam
 is_empty : IsSequence empty
 unfolding len
 is_empty = ([], record { identifier = refl; size = lit< tt }, refl)
+
+-- a list of two hash values, and one of another
+good_lists : (a b c : List ℕ) → HasLength a → HasLength b → HasLength c → HasLength (hash_list_parts (a ∷ b ∷ []))
+    → HasLength (hash_list_parts (c ∷ [])) → HasLength (hash_lists_parts ((a ∷ b ∷ []) ∷ (c ∷ []) ∷ []))
+    → GoodHashLists ((a ∷ b ∷ []) ∷ (c ∷ []) ∷ [])
+good_lists a b c first second third two one all = record {
+  each = (
+    record { each = (first, (second, tt)); some = some _ _; size = two },
+    (record { each = (third, tt); some = some _ _; size = one }, tt),
+  );
+  some = some _ _;
+  size = all;
+}
 
 -- a chain of one
 one_of : (s : StampValue) → GoodStamp s → HasLength (chain_parts (s ∷ [])) → GoodChain (s ∷ [])
@@ -91,14 +105,7 @@ evidence_rows = record {
       (chain_of _ (one_of _ (record {
         algorithm = good_alone _ (refl, lit< tt) (lit< tt);
         attributes = tt;
-        lists = record {
-          each = (
-            record { each = (lit< tt, (lit< tt, tt)); some = some _ _; size = lit< tt },
-            (record { each = (lit< tt, tt); some = some _ _; size = lit< tt }, tt),
-          );
-          some = some _ _;
-          size = lit< tt;
-        };
+        lists = good_lists _ _ _ (lit< tt) (lit< tt) (lit< tt) (lit< tt) (lit< tt) (lit< tt);
         stamp = (drop 4 token, record { identifier = refl; size = lit< tt }, refl);
         size = lit< tt;
       }) (lit< tt)) (lit< tt)) (lit< tt);
@@ -171,14 +178,7 @@ evidence_rows = record {
           some = some _ _;
           size = lit< tt;
         };
-        lists = record {
-          each = (
-            record { each = (lit< tt, (lit< tt, tt)); some = some _ _; size = lit< tt },
-            (record { each = (lit< tt, tt); some = some _ _; size = lit< tt }, tt),
-          );
-          some = some _ _;
-          size = lit< tt;
-        };
+        lists = good_lists _ _ _ (lit< tt) (lit< tt) (lit< tt) (lit< tt) (lit< tt) (lit< tt);
         stamp = is_empty;
         size = lit< tt;
       }) (lit< tt)) (lit< tt)) (lit< tt);

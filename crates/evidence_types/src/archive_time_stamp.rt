@@ -3,9 +3,10 @@ ghost use Rattle.std.specs.Option.{option_copied};
 ghost use Rattle.der_core.specs.Reading.{Gives};
 ghost use Rattle.evidence_types.specs.StampReading.{stamp_in};
 
-use crate::evidence_attributes::EvidenceAttributes;
+use crate::evidence_attributes::optional_set;
 use crate::hash_lists::HashLists;
 use crate::stamp_algorithm::StampAlgorithm;
+use cms_types::Attributes;
 use der_core::tags::SEQUENCE;
 use der_core::{Cursor, Fault};
 use der_lists::Item;
@@ -24,7 +25,7 @@ const LISTS: u8 = 0xa2;
 #[derive(Debug, Drop)]
 pub struct ArchiveTimeStamp<'a> {
     algorithm: Option<StampAlgorithm<'a>>,
-    attributes: Option<EvidenceAttributes<'a>>,
+    attributes: Option<Attributes<'a>>,
     lists: Option<HashLists<'a>>,
     stamp: &'a [u8],
 }
@@ -53,7 +54,7 @@ fn fields_of<'a>(mut parts: Cursor<'a>) -> Result<ArchiveTimeStamp<'a>, Fault>
     } else {
         None
     };
-    let attributes = EvidenceAttributes::optional_set(&mut parts, ATTRIBUTES)?;
+    let attributes = optional_set(&mut parts, ATTRIBUTES)?;
     let lists = HashLists::optional(&mut parts, LISTS)?;
     let stamp = parts.element(SEQUENCE)?;
     parts.end()?;
@@ -74,7 +75,7 @@ impl<'a> ArchiveTimeStamp<'a> {
     }
 
     /// The attributes. `None` if the field is absent.
-    pub fn attributes(&self) -> Option<&EvidenceAttributes<'a>>
+    pub fn attributes(&self) -> Option<&Attributes<'a>>
         ensures { option_copied result ≡ self.now.attributes }
     {
         self.attributes.as_ref()

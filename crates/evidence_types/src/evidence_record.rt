@@ -11,7 +11,8 @@ ghost use Rattle.evidence_types.specs.EvidenceFields.{evidence_value};
 
 use crate::chains::Chains;
 use crate::encryption::Encryption;
-use crate::evidence_attributes::EvidenceAttributes;
+use crate::evidence_attributes::optional_list;
+use cms_types::Attributes;
 use der_core::tags::SEQUENCE;
 use der_core::{Cursor, Fault, ReadFault};
 use der_lists::AlgorithmIdentifiers;
@@ -30,7 +31,7 @@ const ENCRYPTION: u8 = 0xa1;
 #[derive(Debug, Drop)]
 struct RecordFields<'a> {
     algorithms: AlgorithmIdentifiers<'a>,
-    crypto_infos: Option<EvidenceAttributes<'a>>,
+    crypto_infos: Option<Attributes<'a>>,
     encryption: Option<Encryption<'a>>,
     chains: Chains<'a>,
 }
@@ -64,7 +65,7 @@ fn fields_of<'a>(mut parts: Cursor<'a>) -> Result<RecordFields<'a>, Fault>
 {
     let _ = parts.version(&VERSION)?;
     let algorithms = AlgorithmIdentifiers::read(parts.enter(SEQUENCE)?)?;
-    let crypto_infos = EvidenceAttributes::optional_list(&mut parts, CRYPTO_INFOS)?;
+    let crypto_infos = optional_list(&mut parts, CRYPTO_INFOS)?;
     let encryption = if parts.has(ENCRYPTION) {
         Some(Encryption::fields_of(parts.enter(ENCRYPTION)?)?)
     } else {
@@ -111,20 +112,6 @@ impl<'a> EvidenceRecord<'a> {
         })
     }
 
-    /// Writes the octets that encode the evidence record.
-    ///
-    /// Errors: `SinkFault` if the sink fails; then only a beginning of the octets was written.
-    pub fn write<S: Sink>(&self, out: &mut S) -> Result<(), SinkFault>
-        // The whole encoding, or after a fault a beginning of it; the count of failures rose exactly if there was a
-        // fault.
-        ensures wrote { Wrote result (S.tells out.old) (S.taken out.old) (S.taken out.new) (S.failures out.old)
-            (S.failures out.new) (encoding self.now) }
-        // If it was known what the sink took, it still is.
-        ensures telling { S.tells out.old → S.tells out.new }
-    {
-        put_all(out, self.whole)
-    }
-
     /// The digest algorithms (`digestAlgorithms`), in the order in which they occur. Nothing shows that all of those
     /// that are used are among them.
     pub fn algorithms(&self) -> &AlgorithmIdentifiers<'a>
@@ -134,7 +121,7 @@ impl<'a> EvidenceRecord<'a> {
     }
 
     /// The attributes of the record (`cryptoInfos`). `None` if the field is absent.
-    pub fn crypto_infos(&self) -> Option<&EvidenceAttributes<'a>>
+    pub fn crypto_infos(&self) -> Option<&Attributes<'a>>
         ensures { option_copied result ≡ self.now.crypto_infos }
     {
         self.fields.crypto_infos.as_ref()
@@ -152,5 +139,19 @@ impl<'a> EvidenceRecord<'a> {
         ensures { result.now ≡ self.now.chains }
     {
         &self.fields.chains
+    }
+
+    /// Writes the octets that encode the evidence record.
+    ///
+    /// Errors: `SinkFault` if the sink fails; then only a beginning of the octets was written.
+    pub fn write<S: Sink>(&self, out: &mut S) -> Result<(), SinkFault>
+        // The whole encoding, or after a fault a beginning of it; the count of failures rose exactly if there was a
+        // fault.
+        ensures wrote { Wrote result (S.tells out.old) (S.taken out.old) (S.taken out.new) (S.failures out.old)
+            (S.failures out.new) (encoding self.now) }
+        // If it was known what the sink took, it still is.
+        ensures telling { S.tells out.old → S.tells out.new }
+    {
+        put_all(out, self.whole)
     }
 }

@@ -13,14 +13,13 @@ mod evidence_record;
 mod hash_list;
 mod hash_lists;
 mod laws;
-mod ordered_attribute;
 mod stamp_algorithm;
 
 pub use archive_time_stamp::ArchiveTimeStamp;
 pub use chain::Chain;
 pub use chains::Chains;
+pub use cms_types::Attributes as EvidenceAttributes;
 pub use encryption::Encryption;
-pub use evidence_attributes::EvidenceAttributes;
 pub use evidence_record::EvidenceRecord;
 pub use hash_list::{HashList, HashValue};
 pub use hash_lists::HashLists;

@@ -20,7 +20,7 @@ use Rattle.der_core.proofs.Fronts.{Apart, Others, optional_apart, flags_apart, a
 use Rattle.der_core.proofs.Readers.{Anything, Nothing, IsReader, IsBody, within_reader, then_reader, whole_body}
 use Rattle.der_core.proofs.Readers.{made_body}
 use Rattle.der_core.proofs.PartReaders.{Always, Last, alike_body, alike_reader, oid_body, integer_body, version_body}
-use Rattle.der_core.proofs.PartReaders.{octets_reader, opt_reader, flag_reader}
+use Rattle.der_core.proofs.PartReaders.{octets_reader, opt_reader, flag_reader, only_version}
 use Rattle.der_core.proofs.AlgorithmReader.{algorithm_reader}
 use Rattle.cert_types.specs.ExtensionValue.{ExtensionValue, optional_extensions}
 use Rattle.cert_types.specs.ExtensionReading.{extensions_in}
@@ -99,20 +99,11 @@ parts_reader =
 abbrev RequestParts : RequestValue → Type 0
 RequestParts v = GoodParts (1 ∷ [], (v.imprint, (v.policy, (v.nonce, (v.cert_req, v.extensions)))))
 
-pub one_back : (b : List ℕ) → is_of (1 ∷ []) b ≡ true → 1 ∷ [] ≡ b
-one_back [] h = absurd cc
-one_back (v ∷ []) h = ap (λ (n : ℕ). n ∷ []) (eqb-true 1 v (or_none (eqb 1 v) h))
-  where
-    or_none : (b : Bool) → (b || false) ≡ true → b ≡ true
-    or_none true h = refl
-    or_none false h = h
-one_back (v ∷ w ∷ ws) h = absurd cc
-
 request_body : IsBody request_in request_parts RequestParts request
 unfolding request_in
 request_body = made_body request_from (λ v. (1 ∷ [], (v.imprint, (v.policy, (v.nonce, (v.cert_req, v.extensions))))))
     (λ v. refl) _ spelled GoodParts request
-    (whole_body _ _ _ _ _ _ parts_reader refl refl) (λ p h. ap (λ (b : List ℕ). (b, p.1)) (one_back p.0 h.0.0.1))
+    (whole_body _ _ _ _ _ _ parts_reader refl refl) (λ p h. ap (λ (b : List ℕ). (b, p.1)) (only_version p.0 h.0.0.1))
 
 file_body : IsBody (whole_of (within 0x30 request_in)) encoding GoodRequest (file request)
 file_body = alike_body _ encoding _ GoodRequest (λ v. refl)

@@ -21,7 +21,7 @@ use Rattle.der_core.proofs.Readers.{then_reader, whole_body, made_body}
 use Rattle.der_core.proofs.Readers.{enc_option, GoodOption}
 use Rattle.der_core.proofs.Fronts.{Apart, Others, front_apart, optional_apart, flags_apart, at_end_apart}
 use Rattle.der_core.proofs.PartReaders.{Not, Last, alike_body, alike_reader, integer_body, version_body, oid_reader}
-use Rattle.der_core.proofs.PartReaders.{opt_reader, opt_last_reader, flag_reader}
+use Rattle.der_core.proofs.PartReaders.{opt_reader, opt_last_reader, flag_reader, only_version}
 use Rattle.der_lists.specs.Items.{explicit_opaque_in}
 use Rattle.der_time.specs.TimeReading.{generalized_text_in}
 use Rattle.der_time.proofs.TimeReaders.{generalized_body}
@@ -34,7 +34,7 @@ use Rattle.tsp_types.specs.ImprintReading.{imprint_in}
 use Rattle.tsp_types.specs.TstValue.{AccuracyValue, accuracy_parts, optional_accuracy, GoodAccuracy, TstValue}
 use Rattle.tsp_types.specs.TstValue.{tst_parts, encoding, GoodTst, EncodesTst}
 use Rattle.tsp_types.specs.TstReading.{accuracy_from, accuracy_in, Parts, tst_from, tst_in, tst_at}
-use Rattle.tsp_types.proofs.RequestReaders.{imprint_reader, one_back}
+use Rattle.tsp_types.proofs.RequestReaders.{imprint_reader}
 
 abbrev Same : List ℕ → List ℕ
 Same b = b
@@ -219,7 +219,7 @@ tst_body : IsBody tst_in tst_parts (λ v. GoodParts (parts_of v)) tst_info
 unfolding tst_in
 tst_body =
     made_body tst_from parts_of (λ v. refl) _ spelled GoodParts tst_info (whole_body _ _ _ _ _ _ parts_reader refl refl)
-    (λ p h. ap (λ (b : List ℕ). (b, p.1)) (one_back p.0 h.0.0.1))
+    (λ p h. ap (λ (b : List ℕ). (b, p.1)) (only_version p.0 h.0.0.1))
 
 file_body : IsBody (whole_of (within 0x30 tst_in)) encoding GoodTst (file tst_info)
 file_body = alike_body _ encoding _ GoodTst (λ v. refl)

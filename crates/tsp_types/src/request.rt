@@ -111,20 +111,6 @@ impl<'a> Request<'a> {
         })
     }
 
-    /// Writes the octets that encode the request.
-    ///
-    /// Errors: `SinkFault` if the sink fails; then only a beginning of the octets was written.
-    pub fn write<S: Sink>(&self, out: &mut S) -> Result<(), SinkFault>
-        // The whole encoding, or after a fault a beginning of it; the count of failures rose exactly if there was a
-        // fault.
-        ensures wrote { Wrote result (S.tells out.old) (S.taken out.old) (S.taken out.new) (S.failures out.old)
-            (S.failures out.new) (encoding self.now) }
-        // If it was known what the sink took, it still is.
-        ensures telling { S.tells out.old → S.tells out.new }
-    {
-        put_all(out, self.whole)
-    }
-
     /// The hash algorithm of the imprint.
     pub fn algorithm(&self) -> &AlgorithmIdentifier<'a>
         ensures { result.now ≡ self.now.imprint.algorithm }
@@ -165,5 +151,19 @@ impl<'a> Request<'a> {
         ensures { option_copied result ≡ self.now.extensions }
     {
         self.fields.extensions.as_ref()
+    }
+
+    /// Writes the octets that encode the request.
+    ///
+    /// Errors: `SinkFault` if the sink fails; then only a beginning of the octets was written.
+    pub fn write<S: Sink>(&self, out: &mut S) -> Result<(), SinkFault>
+        // The whole encoding, or after a fault a beginning of it; the count of failures rose exactly if there was a
+        // fault.
+        ensures wrote { Wrote result (S.tells out.old) (S.taken out.old) (S.taken out.new) (S.failures out.old)
+            (S.failures out.new) (encoding self.now) }
+        // If it was known what the sink took, it still is.
+        ensures telling { S.tells out.old → S.tells out.new }
+    {
+        put_all(out, self.whole)
     }
 }

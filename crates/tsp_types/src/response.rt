@@ -121,20 +121,6 @@ impl<'a> Response<'a> {
         })
     }
 
-    /// Writes the octets that encode the response.
-    ///
-    /// Errors: `SinkFault` if the sink fails; then only a beginning of the octets was written.
-    pub fn write<S: Sink>(&self, out: &mut S) -> Result<(), SinkFault>
-        // The whole encoding, or after a fault a beginning of it; the count of failures rose exactly if there was a
-        // fault.
-        ensures wrote { Wrote result (S.tells out.old) (S.taken out.old) (S.taken out.new) (S.failures out.old)
-            (S.failures out.new) (encoding self.now) }
-        // If it was known what the sink took, it still is.
-        ensures telling { S.tells out.old → S.tells out.new }
-    {
-        put_all(out, self.whole)
-    }
-
     /// The number of the status; a stamp was granted by 0 and 1.
     pub fn status(&self) -> &Int<'a>
         ensures { result.now ≡ self.now.status.number }
@@ -171,5 +157,19 @@ impl<'a> Response<'a> {
         ensures { option_map (λ x. x.now) result ≡ self.now.token }
     {
         self.fields.token
+    }
+
+    /// Writes the octets that encode the response.
+    ///
+    /// Errors: `SinkFault` if the sink fails; then only a beginning of the octets was written.
+    pub fn write<S: Sink>(&self, out: &mut S) -> Result<(), SinkFault>
+        // The whole encoding, or after a fault a beginning of it; the count of failures rose exactly if there was a
+        // fault.
+        ensures wrote { Wrote result (S.tells out.old) (S.taken out.old) (S.taken out.new) (S.failures out.old)
+            (S.failures out.new) (encoding self.now) }
+        // If it was known what the sink took, it still is.
+        ensures telling { S.tells out.old → S.tells out.new }
+    {
+        put_all(out, self.whole)
     }
 }

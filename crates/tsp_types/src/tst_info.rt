@@ -139,20 +139,6 @@ impl<'a> TstInfo<'a> {
         })
     }
 
-    /// Writes the octets that encode the TSTInfo.
-    ///
-    /// Errors: `SinkFault` if the sink fails; then only a beginning of the octets was written.
-    pub fn write<S: Sink>(&self, out: &mut S) -> Result<(), SinkFault>
-        // The whole encoding, or after a fault a beginning of it; the count of failures rose exactly if there was a
-        // fault.
-        ensures wrote { Wrote result (S.tells out.old) (S.taken out.old) (S.taken out.new) (S.failures out.old)
-            (S.failures out.new) (encoding self.now) }
-        // If it was known what the sink took, it still is.
-        ensures telling { S.tells out.old → S.tells out.new }
-    {
-        put_all(out, self.whole)
-    }
-
     /// The policy under which the stamp was made.
     pub fn policy(&self) -> &Oid<'a>
         ensures { result.now ≡ self.now.policy }
@@ -224,5 +210,19 @@ impl<'a> TstInfo<'a> {
         ensures { option_copied result ≡ self.now.extensions }
     {
         self.fields.extensions.as_ref()
+    }
+
+    /// Writes the octets that encode the TSTInfo.
+    ///
+    /// Errors: `SinkFault` if the sink fails; then only a beginning of the octets was written.
+    pub fn write<S: Sink>(&self, out: &mut S) -> Result<(), SinkFault>
+        // The whole encoding, or after a fault a beginning of it; the count of failures rose exactly if there was a
+        // fault.
+        ensures wrote { Wrote result (S.tells out.old) (S.taken out.old) (S.taken out.new) (S.failures out.old)
+            (S.failures out.new) (encoding self.now) }
+        // If it was known what the sink took, it still is.
+        ensures telling { S.tells out.old → S.tells out.new }
+    {
+        put_all(out, self.whole)
     }
 }

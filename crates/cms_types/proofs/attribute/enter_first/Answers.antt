@@ -1,31 +1,28 @@
-use Rattle.std.proofs.Common.{◌≡◌, length, eqb, true, false}
-use Rattle.der_core.specs.Reading.{within}
-use Rattle.der_lists.specs.Shorter.{within_shorter}
-use Rattle.der_lists.proofs.Items.{no_items}
+use Rattle.std.proofs.Common.{◌≡◌, [], Option, Some, None}
+use Rattle.std.specs.Prelude.{MatchOption, IfSome}
+use Rattle.der_core.specs.Element.{IsBytes}
+use Rattle.der_core.specs.Reading.{Spot, within}
+use Rattle.der_lists.specs.Items.{all_in, IsList}
 use Rattle.cms_types.specs.AttributeReading.{attribute_in}
-use Rattle.cms_types.proofs.Entering.{entered, not_entered}
+use Rattle.cms_types.specs.Entering.{EntersFront}
+use Rattle.cms_types.specs.OfType.{EntersFirst}
+use Rattle.cms_types.proofs.Entering.{none_at_front, first_at_front}
 use Rattle.cms_types.proofs.attribute.enter_first.Goals as goal
 
-pub returns-then-is_empty-clause-front : goal.returns-then-is_empty-clause-front
-returns-then-is_empty-clause-front c = λ _.
-    let none : eqb (length c.args.list.now.rest) 0 ≡ true = cc in
-    no_items (within 0x30 attribute_in) (within_shorter 0x30 attribute_in) c.args.list.now none
-
-pub returns-in_default-clause-front : goal.returns-in_default-clause-front
-returns-in_default-clause-front c = λ is_list.
-    let some : eqb (length c.args.list.now.rest) 0 ≡ false = cc in
-    absurd (not_entered 0x30 attribute_in c.args.list.now c.in_default.field-0 c.rest-rest.ensures.octets some
-    (rw (← c.again-ahead.ensures) c.in_default.ensures.exact.0) is_list)
+-- what is at the front of attributes that were read before
+front_of : (s : Spot) (r : Option (Spot × Spot)) → IsBytes s.rest → EntersFront s r
+    → IsList (within 0x30 attribute_in) s
+    → MatchOption r (all_in (within 0x30 attribute_in) s ≡ [])
+    (λ x. EntersFirst (all_in (within 0x30 attribute_in) s) x.0 (all_in (within 0x30 attribute_in) x.1))
+    × IfSome r (λ x. IsList (within 0x30 attribute_in) x.1)
+front_of s None fits e h = (none_at_front attribute_in s fits e h, tt)
+front_of s (Some x) fits e h =
+    let first = first_at_front attribute_in s x fits e h in ((first.value, first.items, first.read), first.list)
 
 pub returns-clause-front : goal.returns-clause-front
 returns-clause-front c = λ is_list.
-    let some : eqb (length c.args.list.now.rest) 0 ≡ false = cc in
-    let first = entered 0x30 attribute_in c.args.list.now c.in-Ok.parts c.enter.new.self c.rest-rest.ensures.octets some
-    (rw (← c.again-ahead.ensures) c.in-Ok.ensures.exact) is_list in
-    (first.value, first.items, first.read)
+    (front_of c.args.list.now c.enter_front.result c.enter_front.ensures.octets c.enter_front.ensures.front is_list).0
 
 pub returns-clause-list : goal.returns-clause-list
 returns-clause-list c = λ is_list.
-    let some : eqb (length c.args.list.now.rest) 0 ≡ false = cc in
-    (entered 0x30 attribute_in c.args.list.now c.in-Ok.parts c.enter.new.self c.rest-rest.ensures.octets some
-    (rw (← c.again-ahead.ensures) c.in-Ok.ensures.exact) is_list).list
+    (front_of c.args.list.now c.enter_front.result c.enter_front.ensures.octets c.enter_front.ensures.front is_list).1

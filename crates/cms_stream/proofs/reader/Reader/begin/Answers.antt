@@ -1,5 +1,6 @@
-use Rattle.std.proofs.Common.{◌∙◌, arith}
+use Rattle.std.proofs.Common.{◌∙◌, refl, drop, arith}
 use Rattle.std.proofs.lemmas.Grind.{common_steps}
+use Rattle.cms_stream_laws.specs.OpenReading.{heading}
 use Rattle.cms_stream.proofs.Heading.{IsLooked, IsHeaded, begins_at, begin_fails}
 use Rattle.cms_stream.proofs.reader.Reader.begin.Goals as goal
 
@@ -17,10 +18,12 @@ returns g c = record {
         λ t.
             let front : IsLooked 6 c.look.new.self.at c.look.new.self.window c.bytes.result.now _ _ =
             record { looked = e.looked t; is = e.asks.moved t; same = c.bytes.ensures.octets } in
-            let header :
-            IsHeaded c.in-Ok.len c.heading-count.result c.look.new.self.window c.bytes.result.now c.pass.new.self =
-            record { there = c.in-Ok.ensures.there.0; size = c.heading-count.ensures.is; gone = c.pass.ensures } in
-            begins_at front (e.asks.at ∙ c.requires.first) c.in-Ok.ensures.gives header,
+            let header : IsHeaded c.in-Ok.len (heading c.in-Ok.len) c.look.new.self.window c.bytes.result.now
+            (drop (heading c.in-Ok.len) c.look.new.self.window) =
+            record { there = c.in-Ok.ensures.there.0; size = refl; gone = refl } in
+            let h = c.pass_header.ensures in
+            rw (h.end, h.at, h.window)
+            (begins_at front (e.asks.at ∙ c.requires.first) c.in-Ok.ensures.gives header),
       );
   telling = grind (arith, common_steps);
   at = grind (arith, common_steps);

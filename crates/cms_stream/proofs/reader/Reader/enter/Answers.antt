@@ -1,3 +1,4 @@
+use Rattle.std.proofs.Common.{refl}
 use Rattle.cms_stream_laws.specs.OpenReading.{enter_openly}
 use Rattle.cms_stream.specs.Passing.{header_in}
 use Rattle.cms_stream.proofs.Heading.{header_is, enter_fails, enter_gives}
@@ -12,6 +13,7 @@ returns-in-Err g c =
 pub returns : goal.returns
 returns g c =
     let e = c.in_ok-look.ensures in
-    enter_gives (enter_openly c.args.tag) (header_in c.args.tag) (header_is c.args.tag) g.S.Source c.look.new.self
-    c.look.new.source _ c.args.end e.asks e.looked c.bytes.ensures.octets c.in-Ok.ensures.gives
-    c.in-Ok.ensures.there c.heading-count.ensures.is c.pass.ensures c.requires.inside
+    let h = c.pass_header.ensures in
+    rw (h.end, h.at, h.window) (enter_gives (enter_openly c.args.tag) (header_in c.args.tag) (header_is c.args.tag)
+    g.S.Source c.look.new.self c.look.new.source _ c.args.end e.asks e.looked c.bytes.ensures.octets
+    c.in-Ok.ensures.gives c.in-Ok.ensures.there refl refl c.requires.inside)

@@ -1,3 +1,4 @@
+use Rattle.std.proofs.Common.{refl}
 use Rattle.cms_stream_laws.specs.OpenReading.{next_openly}
 use Rattle.cms_stream.specs.Passing.{next_header_in}
 use Rattle.cms_stream.proofs.Heading.{next_header_is, enter_fails, enter_gives}
@@ -12,6 +13,7 @@ returns-in-Err g c =
 pub returns : goal.returns
 returns g c =
     let e = c.in_ok-look.ensures in
-    enter_gives next_openly next_header_in next_header_is g.S.Source c.look.new.self c.look.new.source _ c.args.end
-    e.asks e.looked c.bytes.ensures.octets c.in-Ok.ensures.gives c.in-Ok.ensures.there c.heading-count.ensures.is
-    c.pass.ensures c.requires.inside
+    let h = c.pass_header.ensures in
+    rw (h.end, h.at, h.window) (enter_gives next_openly next_header_in next_header_is g.S.Source c.look.new.self
+    c.look.new.source _ c.args.end e.asks e.looked c.bytes.ensures.octets c.in-Ok.ensures.gives c.in-Ok.ensures.there
+    refl refl c.requires.inside)

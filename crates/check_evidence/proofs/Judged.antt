@@ -4,8 +4,6 @@ use Rattle.std.proofs.Common.{inl, inr}
 use Rattle.der_core.specs.Grammar.{file}
 use Rattle.der_core.proofs.Refuted.{refuted}
 use Rattle.digests.specs.declared.algorithm.Alg.{Alg}
-use Rattle.cms_types.specs.AttributeValue.{AttributeValue}
-use Rattle.cms_types.specs.SignerValue.{SignerValue}
 use Rattle.evidence_types.specs.EvidenceTable.{evidence_record}
 use Rattle.evidence_types.specs.StampValue.{StampValue}
 use Rattle.evidence_types.specs.EvidenceValue.{EncryptionValue, EvidenceValue}
@@ -18,13 +16,11 @@ use Rattle.check_evidence.specs.declared.rules.RecordRule.TheVariants as record_
 use Rattle.check_evidence.specs.declared.rules.StampRule.{StampRule}
 use Rattle.check_evidence.specs.declared.rules.StampRule.TheVariants as rule
 use Rattle.check_evidence.specs.declared.rules.EvidenceRefused.TheVariants as refused
-use Rattle.check_evidence.specs.Grounds.{AlgEnd, Grounds, terms_of, of_root}
+use Rattle.check_evidence.specs.Grounds.{Grounds, terms_of, of_root}
 use Rattle.check_evidence.specs.Roots.{IsRoot}
-use Rattle.check_evidence.specs.Places.{Place, IsIn, first_of, stamps_of, following}
+use Rattle.check_evidence.specs.Places.{Place, IsIn, first_of, stamps_of}
 use Rattle.check_evidence.specs.Covering.{covered_at}
-use Rattle.check_evidence.specs.Ends.{AlgHolds}
-use Rattle.check_evidence.specs.Standing.{IsAlgOf, HasLengths, Covers, Imprints, IsOrdered, FitsIn, AlgsHold, Lasts}
-use Rattle.check_evidence.specs.Standing.{Stands}
+use Rattle.check_evidence.specs.Standing.{IsAlgOf, HasLengths, Covers, IsOrdered, FitsIn, Stands}
 use Rattle.check_evidence.specs.StampStates.{HasTime}
 use Rattle.check_evidence.specs.Showing.{IsFirst, IsWhole}
 use Rattle.check_evidence.specs.Failing.{HasOtherLength, CoversNot, TokenFailsAt, TokenUnread, IsDisordered, IsWeak}
@@ -32,8 +28,8 @@ use Rattle.check_evidence.specs.Failing.{IsLapsed, FailsToFit}
 use Rattle.check_evidence.specs.Refusing.{StampFails}
 use Rattle.check_evidence.specs.Laws.{RecordsShowOneMoment, RecordsNeverBoth}
 use Rattle.check_evidence.proofs.Roots.{one_root}
-use Rattle.check_evidence.proofs.States.{some_is, one_time, one_alg, shows_alg, one_until, imprint_alg, same_signer}
-use Rattle.check_evidence.proofs.States.{same_attributes, same_alg}
+use Rattle.check_evidence.proofs.States.{some_is, one_time, one_alg, shows_alg}
+use Rattle.check_evidence.proofs.Uses.{moments_same, end_of, end_of_weak, end_of_lapsed, strong_too, lasting_too}
 
 -- ---- a stamp that fits fails none of W1 to W5
 
@@ -67,15 +63,10 @@ module _ (g : Grounds) (ds : List (List ℕ)) (p : Place) (alg : Alg) (m : ℕ) 
   never_unread : (failed : TokenRule) → TokenUnread g p failed → ⊥
   never_unread failed h = h.unread (shows_alg p.stamp.algorithm p.stamp alg f.is_alg.its)
 
-  moment_is : (b : Alg) (n : ℕ) → IsAlgOf p b → Imprints g ds p b n → m ≡ n
-  moment_is b n k h =
-      let e = alg_is b k in
-      token.one_moment (terms_of g) p.stamp.stamp (of_root b h.root) m n
-      (passes_by b h.root e (root_is b h.root e h.is_root)) h.passes
-
   never_disordered : IsDisordered g ds p → ⊥
   never_disordered h =
-      h.not (subst (λ (n : ℕ). IsOrdered g p n) (moment_is h.alg h.moment h.is_alg h.imprints) f.ordered)
+      h.not (subst (λ (n : ℕ). IsOrdered g p n)
+      (moments_same g ds p alg h.alg m h.moment f.imprints h.imprints) f.ordered)
 
   never_unfit : (failed : StampRule) → FailsToFit g ds p failed → ⊥
   never_unfit rule.Algorithm h = h.none alg f.is_alg
@@ -90,55 +81,11 @@ module _ (g : Grounds) (ds : List (List ℕ)) (p : Place) (alg : Alg) (m : ℕ) 
 
 -- ---- one that stands fails neither W6 nor W7
 
-still_holds : (ends : List AlgEnd) (a b : Alg) (u v : ℕ) → a ≡ b → u ≡ v → AlgHolds ends a u → AlgHolds ends b v
-still_holds ends a b u v e f h = subst (λ (n : ℕ). AlgHolds ends b n) f (subst (λ (x : Alg). AlgHolds ends x u) e h)
-
-still_lasts : (g : Grounds) (s t : SignerValue) (a b : List AttributeValue) (m n u v : ℕ) → s ≡ t → a ≡ b → m ≡ n
-    → u ≡ v → Lasts g s a m u → Lasts g t b n v
-still_lasts g s t a b m n u v is-s is-a is-m is-u h =
-    subst (λ (x : ℕ). Lasts g t b n x) is-u
-    (subst (λ (x : ℕ). Lasts g t b x u) is-m
-    (subst (λ (x : List AttributeValue). Lasts g t x m u) is-a
-    (subst (λ (x : SignerValue). Lasts g x a m u) is-s h)))
-
-module _ (g : Grounds) (ds : List (List ℕ)) (p : Place) (st : Stands g ds p) (alg : Alg) (m : ℕ)
-    (f : FitsIn g ds p alg m) where
-  algs_are : st.alg ≡ alg
-  algs_are = alg_is g ds p st.alg st.moment st.fits alg f.is_alg
-
-  moments_are : st.moment ≡ m
-  moments_are = moment_is g ds p st.alg st.moment st.fits alg m f.is_alg f.imprints
-
-  imprints_are : st.fits.imprints.passes.imprint.alg ≡ f.imprints.passes.imprint.alg
-  imprints_are =
-      imprint_alg (terms_of g).policy st.alg st.fits.imprints.root _ st.fits.imprints.passes.imprint ∙ algs_are
-      ∙ sym (imprint_alg (terms_of g).policy alg f.imprints.root _ f.imprints.passes.imprint)
-
-  still_strong : (u v : ℕ) → u ≡ v
-      → AlgsHold g.ends st.alg st.fits.imprints.passes.imprint.alg st.fits.imprints.passes.fits.alg u
-      → AlgsHold g.ends alg f.imprints.passes.imprint.alg f.imprints.passes.fits.alg v
-  still_strong u v e h = record {
-    by_lists = still_holds g.ends _ _ u v algs_are e h.by_lists;
-    by_imprint = still_holds g.ends _ _ u v imprints_are e h.by_imprint;
-    by_signer = still_holds g.ends _ _ u v
-        (same_alg (terms_of g) p.stamp.stamp _ _ st.moment m st.fits.imprints.passes f.imprints.passes) e h.by_signer;
-  }
-
-  lasts_still : (u v : ℕ) → u ≡ v
-      → Lasts g st.fits.imprints.passes.signer st.fits.imprints.passes.attributes st.moment u
-      → Lasts g f.imprints.passes.signer f.imprints.passes.attributes m v
-  lasts_still u v e h = still_lasts g _ _ _ _ st.moment m u v
-      (same_signer (terms_of g) p.stamp.stamp _ _ st.moment m st.fits.imprints.passes f.imprints.passes)
-      (same_attributes (terms_of g) p.stamp.stamp _ _ st.moment m st.fits.imprints.passes f.imprints.passes)
-      moments_are e h
-
 never_weak : (g : Grounds) (ds : List (List ℕ)) (p : Place) → Stands g ds p → IsWeak g ds p → ⊥
-never_weak g ds p st h = h.not (still_strong g ds p st h.alg h.moment h.fits st.until h.until
-    (one_until (following p) g.at p.stamp st.until h.until st.is_until h.is_until) st.algs)
+never_weak g ds p st h = h.not (strong_too g ds p (end_of g ds p st) (end_of_weak g ds p h) st.algs)
 
 never_lapsed : (g : Grounds) (ds : List (List ℕ)) (p : Place) → Stands g ds p → IsLapsed g ds p → ⊥
-never_lapsed g ds p st h = h.not (lasts_still g ds p st h.alg h.moment h.fits st.until h.until
-    (one_until (following p) g.at p.stamp st.until h.until st.is_until h.is_until) st.lasts)
+never_lapsed g ds p st h = h.not (lasting_too g ds p (end_of g ds p st) (end_of_lapsed g ds p h) st.lasts)
 
 -- ---- a record
 

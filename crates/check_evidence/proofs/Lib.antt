@@ -11,4 +11,6 @@ mod OneDigest
 mod Roots
 mod Rows
 pub mod States
+pub mod Uses
+pub mod Places
 mod Judged

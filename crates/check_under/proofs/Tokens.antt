@@ -9,6 +9,7 @@ use Rattle.check_verdict.specs.Beside.{beside}
 use Rattle.check_verdict.specs.Passing.{Terms, Due, StampedUnder, PassesFor}
 use Rattle.check_verdict.specs.TokenRules.{TokenClaim, LeftForToken, RunsOut}
 use Rattle.check_verdict.proofs.Beside.{authorities_beside}
+use Rattle.check_verdict.proofs.PassesBy.{passes_by}
 use Rattle.check_under.specs.TokensUnder.{beside_record, LastsUnder, PassesUnder, LeftUnder, RunsOutUnder}
 use Rattle.check_under.specs.TokensUnder.{TokensPassUnder, TokensRunOutUnder}
 use Rattle.check_under.proofs.Mapped.{any_of_map, any_in_map, all_of_map, all_in_map}
@@ -64,25 +65,9 @@ module _ (t : Terms) (k : ℕ) (token : List ℕ) (due : Due) (m : ℕ) where
       let any = lasting p.signer p.attributes p.entry in
       record {
         in_time = in_time (LastsUnder t p.signer p.attributes m k) any;
-        passes = record {
-          signed = p.signed;
-          encodes = p.encodes;
-          econtent_type = p.econtent_type;
-          content = p.content;
-          present = p.present;
-          signer = p.signer;
-          one_signer = p.one_signer;
-          attributes = p.attributes;
-          has = p.has;
-          fits = p.fits;
-          stamp = p.stamp;
-          encodes_stamp = p.encodes_stamp;
-          calm = p.calm;
-          imprint = p.imprint;
-          moment = p.moment;
-          entry = weaker (λ x. LastsUnder t p.signer p.attributes m k x × (m ≤ k))
-              (StampedUnder t p.signer p.attributes m) (λ x h. h.0.0) any;
-        };
+        passes = passes_by (beside_record k t) t.trust t.vouches token due m p
+            (weaker (λ x. LastsUnder t p.signer p.attributes m k x × (m ≤ k))
+            (StampedUnder t p.signer p.attributes m) (λ x h. h.0.0) any);
         lasts = weaker (λ x. LastsUnder t p.signer p.attributes m k x × (m ≤ k))
             (LastsUnder t p.signer p.attributes m k) (λ x h. h.0) any;
       }
@@ -90,25 +75,9 @@ module _ (t : Terms) (k : ℕ) (token : List ℕ) (due : Due) (m : ℕ) where
   passes_if : PassesUnder t k token due m → PassesFor (beside_record k t) token due m
   passes_if h =
       let p = h.passes in
-      record {
-        signed = p.signed;
-        encodes = p.encodes;
-        econtent_type = p.econtent_type;
-        content = p.content;
-        present = p.present;
-        signer = p.signer;
-        one_signer = p.one_signer;
-        attributes = p.attributes;
-        has = p.has;
-        fits = p.fits;
-        stamp = p.stamp;
-        encodes_stamp = p.encodes_stamp;
-        calm = p.calm;
-        imprint = p.imprint;
-        moment = p.moment;
-        entry = any_in_map k t.trust (StampedUnder (beside_record k t) p.signer p.attributes m)
-            (LastsUnder t p.signer p.attributes m k) (λ x c q. after t k m p.signer p.attributes x h.in_time q) h.lasts;
-      }
+      passes_by t (map (beside k) t.trust) t.vouches token due m p
+      (any_in_map k t.trust (StampedUnder (beside_record k t) p.signer p.attributes m)
+      (LastsUnder t p.signer p.attributes m k) (λ x c q. after t k m p.signer p.attributes x h.in_time q) h.lasts)
 
 pub tokens_pass_under : TokensPassUnder
 tokens_pass_under t k token due m = (passes_then t k token due m, passes_if t k token due m)

@@ -27,6 +27,7 @@ use Rattle.check_verdict.specs.Verdicts.{IsSigners}
 use Rattle.check_verdict.specs.Verdicts.{LeftForSigner, SignerFails, TokensFail, FirstBad, Judges}
 use Rattle.check_verdict.proofs.Lists.{along, all-along, from_get, from_take}
 use Rattle.check_verdict.proofs.Tokens.{passing_claim}
+use Rattle.check_verdict.proofs.PassesBy.{stamped_by, passes_by}
 
 -- two verifiers say the same of each question of a kind
 abbrev pub Agree : (Asked → Type 0) → (v w : Asked → Bool) → Type 0
@@ -83,39 +84,17 @@ states t token due m p =
 pub passes : (t : Terms) (w : Asked → Bool) (token : List ℕ) (due : Due) (m : ℕ)
     → Agree (IsAskedFor t.policy t.trust due token) t.vouches w
     → PassesFor t token due m → PassesFor (with_answers t w) token due m
-passes t w token due m same p = record {
-  signed = p.signed;
-  encodes = p.encodes;
-  econtent_type = p.econtent_type;
-  content = p.content;
-  present = p.present;
-  signer = p.signer;
-  one_signer = p.one_signer;
-  attributes = p.attributes;
-  has = p.has;
-  fits = p.fits;
-  stamp = p.stamp;
-  encodes_stamp = p.encodes_stamp;
-  calm = p.calm;
-  imprint = p.imprint;
-  moment = p.moment;
-  entry = along (StampedUnder t p.signer p.attributes m)
-      (StampedUnder (with_answers t w) p.signer p.attributes m) t.trust (λ e c s. record {
-        role = s.role;
-        matches = s.matches;
-        named = s.named;
-        purpose = s.purpose;
-        period = s.period;
-        vouched = sym (same (asked e.certificate p.signer p.attributes) (record {
-          claim = claim_of t token due m p;
-          is_claim = (Ok p.signed, Ok p.stamp, reads_of t token due m p, sym (states t token due m p));
-          entry = e;
-          trusted = c;
-          passed = ((((s.role, s.matches), s.named), s.purpose), s.period);
-          is = refl;
-        })) ∙ s.vouched;
-      }) p.entry;
-}
+passes t w token due m same p = passes_by t t.trust w token due m p
+    (along (StampedUnder t p.signer p.attributes m) (StampedUnder (with_answers t w) p.signer p.attributes m) t.trust
+    (λ e c s. stamped_by t t.trust w p.signer p.attributes m e s
+    (sym (same (asked e.certificate p.signer p.attributes) (record {
+      claim = claim_of t token due m p;
+      is_claim = (Ok p.signed, Ok p.stamp, reads_of t token due m p, sym (states t token due m p));
+      entry = e;
+      trusted = c;
+      passed = ((((s.role, s.matches), s.named), s.purpose), s.period);
+      is = refl;
+    })) ∙ s.vouched)) p.entry)
 
 stops-along : {E : Type 0} (Left Left' : ℕ → E → Type 0) (total : ℕ) (es : List E) (n : ℕ)
     → ((k : ℕ) (e : E) → Contains es e → Left k e → Left' k e)

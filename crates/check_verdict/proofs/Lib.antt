@@ -1,5 +1,6 @@
 pub mod Claims
 pub mod Lists
+pub mod PassesBy
 pub mod Answered
 pub mod Sufficiency
 pub mod Readings

@@ -23,7 +23,7 @@ use Rattle.check_evidence.specs.Failing.{FailsToFit, FailsToLast}
 use Rattle.check_evidence.specs.Refusing.{Fits, RecordFails, FirstUnfit, FirstLapsed, HasOthers, StampFails, RefusedAt}
 use Rattle.evidence_laws.specs.Alone.{record_alone, stamp_alone, evidence_alone}
 use Rattle.evidence_laws.specs.Laws.{RecordsHaveOneRefusal}
-use Rattle.evidence_laws.proofs.Places.{same_place, places_ordered}
+use Rattle.check_evidence.proofs.Places.{same_place, places_ordered}
 use Rattle.evidence_laws.proofs.Stages.{never_unfit, one_unfit}
 use Rattle.evidence_laws.proofs.EndsOfUse.{never_ended, one_end}
 

@@ -20,7 +20,8 @@ use Rattle.check_evidence.specs.Failing.{HasNoAlg, HasOtherLength, CoversNot, To
 use Rattle.check_evidence.specs.Failing.{FailsToFit}
 use Rattle.check_evidence.specs.Refusing.{Fits}
 use Rattle.check_evidence.specs.Laws.{RootsAreUnique}
-use Rattle.check_evidence.proofs.States.{one_time, one_alg, shows_alg, passing_time}
+use Rattle.check_evidence.proofs.States.{one_alg, shows_alg}
+use Rattle.check_evidence.proofs.Uses.{moments_same}
 use Rattle.evidence_laws.specs.Alone.{stamp_alone}
 
 -- its algorithm is this one, its lists have the lengths, cover what they must, and it passes with this moment
@@ -94,12 +95,6 @@ module _ (one_root : RootsAreUnique) (g : Grounds) (ds : List (List ℕ)) (p : P
   fails_too failed fails =
       subst (λ (r : List ℕ). TokenFailsFor (terms_of g) p.stamp.stamp (of_root b r) failed) roots_same
       (subst (λ (c : Alg). TokenFailsFor (terms_of g) p.stamp.stamp (of_root c x) failed) same_algs fails)
-
-pub moments_same : (g : Grounds) (ds : List (List ℕ)) (p : Place) (a b : Alg) (m n : ℕ) → Imprints g ds p a m
-    → Imprints g ds p b n → m ≡ n
-moments_same g ds p a b m n i j = one_time p.stamp m n
-    (passing_time (terms_of g) p.stamp (of_root a i.root) m i.passes)
-    (passing_time (terms_of g) p.stamp (of_root b j.root) n j.passes)
 
 -- ---- where it stops
 

@@ -25,7 +25,7 @@ use Rattle.check_evidence.specs.Standing.{HasLengths}
 use Rattle.check_evidence.specs.Laws.{RootsAreUnique}
 use Rattle.check_evidence.proofs.States.{one_alg, one_time, some_is}
 use Rattle.judge_evidence.specs.Going.{IsLastPlace}
-use Rattle.judge_evidence.proofs.Splitting.{SameSplit}
+use Rattle.check_evidence.proofs.Places.{SameSplit}
 use Rattle.evidence_making.specs.declared.leaves.LastStamp.{LastStamp}
 use Rattle.evidence_making.specs.Done.{AreRehashed, AreRenewed, FitsOver, IsRootOver, StampsAfter}
 use Rattle.evidence_making.specs.DoneSteps.{AreLastTwo, AreTwo, EndsAlone}
@@ -35,7 +35,8 @@ use Rattle.evidence_making.specs.Leaves.{OfOpen}
 use Rattle.evidence_making.specs.LeafSteps.{IsOpened}
 use Rattle.evidence_making.specs.Renewed.{with_stamp}
 use Rattle.evidence_making.specs.Stamping.{StampsRoot}
-use Rattle.evidence_making.proofs.Ends.{all_parts, end_of, same_end}
+use Rattle.judge_evidence.proofs.Ends.{same_end}
+use Rattle.evidence_making.proofs.Ends.{all_parts, end_of}
 use Rattle.evidence_making.proofs.Placed.{parts_more}
 use Rattle.evidence_making.proofs.StandsOn.{found_end, last_end, never_encoded, not_open}
 use Rattle.evidence_making.proofs.Made.{last_place}

@@ -1,5 +1,6 @@
 -- How long what is made is.
-use Rattle.std.proofs.Common.{◌≡◌, ℕ, ◌+◌, ◌≤◌, List, [], ◌∷◌, ◌++◌, length, map, refl, ap, ◌∙◌, arith, length-append}
+use Rattle.std.proofs.Common.{◌≡◌, ℕ, ◌+◌, ◌<◌, ◌≤◌, List, [], ◌∷◌, ◌++◌, length, map, refl, ap, ◌∙◌, arith}
+use Rattle.std.proofs.Common.{length-append}
 use Rattle.std.proofs.lemmas.List.Concat.{flat_map-cons}
 use Rattle.der_core.specs.Element.{len, el}
 use Rattle.der_core.specs.Values.{algorithm_parts}
@@ -39,6 +40,10 @@ lists_less : (values : List (List ℕ))
     → length (lists_inside values) ≤ length (optional_hash_lists 0xa2 (lists_of values))
 lists_less [] = omega arith
 lists_less (v ∷ values) = inside_less 0xa2 (lists_inside (v ∷ values))
+
+-- a size, by the length of the contents
+abbrev pub Size : (size contents : ℕ) → Type 0
+Size size contents = size ≡ 1 + length (len contents) + contents
 
 -- ---- the elements round a token
 
@@ -125,6 +130,28 @@ module _ (f : FrameValue) (values : List (List ℕ)) (token : List ℕ) where
     stamp_less,
   )
 
+  -- ---- what is too long makes the record so
+
+  chain_by_stamp : (a l s : ℕ) → a ≡ length (el 0xa0 (algorithm_parts (plain f.alg)))
+      → l ≡ length (optional_hash_lists 0xa2 (lists_of values)) → Size s (a + l + length token)
+      → length f.stamps + s ≡ length chain
+  chain_by_stamp a l s a-is l-is s-is = chain_length s (el_length 0x30 stamp _ s (stamp_length a l a-is l-is) s-is)
+
+  pub long_chain : (a l s : ℕ) → a ≡ length (el 0xa0 (algorithm_parts (plain f.alg)))
+      → l ≡ length (optional_hash_lists 0xa2 (lists_of values)) → Size s (a + l + length token)
+      → 4294967295 < length f.stamps + s → 4294967296 ≤ length whole
+  long_chain a l s a-is l-is s-is over = omega (arith, chain_by_stamp a l s a-is l-is s-is, over, chain_less)
+
+  pub long_chains : (a l s c : ℕ) → a ≡ length (el 0xa0 (algorithm_parts (plain f.alg)))
+      → l ≡ length (optional_hash_lists 0xa2 (lists_of values)) → Size s (a + l + length token)
+      → Size c (length f.stamps + s) → 4294967295 < length f.chains + c → 4294967296 ≤ length whole
+  long_chains a l s c a-is l-is s-is c-is over = omega (
+    arith,
+    chains_length c (el_length 0x30 chain _ c (chain_by_stamp a l s a-is l-is s-is) c-is),
+    over,
+    chains_less,
+  )
+
 -- how long the contents of each element are, by the sizes of those inside it
 pub record Sums (f : FrameValue) (values : List (List ℕ)) (token : List ℕ) (a l s c k n m : ℕ) : Type 0 where
   pub stamp : a + l + length token ≡ length (stamp_inside f.alg values token)
@@ -132,10 +159,6 @@ pub record Sums (f : FrameValue) (values : List (List ℕ)) (token : List ℕ) (
   pub chains : length f.chains + c ≡ length (chains_inside f values token)
   pub algorithms : length f.algorithms + n ≡ length (algorithms_inside f)
   pub whole : 3 + m + length f.others + k ≡ length (record_inside f values token)
-
--- a size, by the length of the contents
-abbrev pub Size : (size contents : ℕ) → Type 0
-Size size contents = size ≡ 1 + length (len contents) + contents
 
 pub sums : (f : FrameValue) (values : List (List ℕ)) (token : List ℕ) (a l s c k n m : ℕ)
     → a ≡ length (el 0xa0 (algorithm_parts (plain f.alg)))

@@ -13,3 +13,4 @@ pub mod RootStamps
 pub mod StandsOn
 pub mod Already
 pub mod RenewalRows
+pub mod InOrder

@@ -9,7 +9,7 @@ use Rattle.cms_types.specs.SignedDataValue.{algorithms_parts}
 use Rattle.evidence_types.specs.StampValue.{StampValue}
 use Rattle.evidence_types.specs.EvidenceValue.{EvidenceValue, evidence_parts, optional_encryption}
 use Rattle.evidence_types.specs.EvidenceValue.{chain_parts, chain_element, chains_parts}
-use Rattle.evidence_making.proofs.Ends.{same_end}
+use Rattle.judge_evidence.proofs.Ends.{same_end}
 
 abbrev Chains : Type 0
 Chains = List (List StampValue)

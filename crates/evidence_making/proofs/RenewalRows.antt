@@ -3,8 +3,6 @@ use Rattle.std.proofs.Common.{◌≡◌, ℕ, false, true≢false, zero, suc, Li
 use Rattle.std.proofs.Common.{refl, sym, ◌∙◌, subst, lit<, arith, All}
 use Rattle.std.proofs.lemmas.List.Elements.{All-nil, All-from_recursion, recursion_from_All}
 use Rattle.std.proofs.lemmas.List.Sorted.{IsPermutation-refl}
-use Rattle.sha2.specs.Sha256 as sha256
-use Rattle.sha2.specs.Sha512 as sha512
 use Rattle.der_core.specs.AlgorithmReading.{algorithm_in}
 use Rattle.der_core.specs.Element.{len}
 use Rattle.der_core.specs.Flags.{flag_at}
@@ -17,7 +15,6 @@ use Rattle.der_lists.specs.Items.{opaque_item, opaque_front, front_at}
 use Rattle.der_time.specs.Calendar.{days_before_month}
 use Rattle.der_time.specs.Moments.{in_places, generalized_moment}
 use Rattle.digests.specs.Algorithms.{contents_of}
-use Rattle.digests.specs.Messages.{digest_of}
 use Rattle.digests.specs.declared.algorithm.Alg.{Alg}
 use Rattle.digests.specs.declared.algorithm.Alg.TheVariants.{Sha256, Sha512, Sha512_256}
 use Rattle.digests.specs.declared.value.Digest.TheVariants as digest
@@ -40,27 +37,16 @@ use Rattle.check_verdict.proofs.Rows.{below_256, value_rows, early_reads, early_
 use Rattle.check_evidence.specs.Roots.{IsGroupOf, AreOne}
 use Rattle.check_evidence.specs.StampStates.{States, HasAlg}
 use Rattle.evidence_trees.specs.Rows.{d000, d001, node}
-use Rattle.evidence_trees.proofs.Rows.{list_rows}
+use Rattle.evidence_trees.proofs.Rows.{computing, computing_512, alone_long, list_rows}
 use Rattle.evidence_making.specs.Made.{stamp_of}
 use Rattle.evidence_making.specs.Stamping.{StampsRoot, IsNoToken}
 use Rattle.evidence_making.specs.Leaves.{IsLastOf, IsRehashOf}
-use Rattle.evidence_making.specs.Done.{IsRootOver, StampsAfter}
+use Rattle.evidence_making.specs.Done.{IsRootOver, StampsAfter, FitsOver}
 use Rattle.evidence_making.specs.RenewalRows.{StampingRows, RootRows, LastRows, DoneRows, stamp_over, token_over, null}
 use Rattle.evidence_making.specs.RenewalRows.{digest_of_abc, late_token, of_abc}
 use Rattle.evidence_making.specs.RenewalRows.{early_chain, early_leaf, early_last, rehash_leaf}
 use Rattle.evidence_making.specs.RenewalRows.{renewal_root, rehash_root}
 use Rattle.evidence_making.proofs.RootStamps.{one_case}
-
--- what the digests compute with
-computing : Unit {0}
-unfolding digest_of sha256.sha256 sha256.digest_bytes sha256.hash_after sha256.compress sha256.rounds sha256.schedule
-    sha256.first_words
-computing = tt
-
-computing_512 : Unit {0}
-unfolding digest_of sha512.sha512 sha512.digest_bytes sha512.hash_after sha512.compress sha512.rounds sha512.schedule
-    sha512.first_words
-computing_512 = tt
 
 -- octets that a test tells apart
 apart : (xs ys : List ℕ) → is_same xs ys ≡ false → xs ≡ ys → ⊥
@@ -300,14 +286,22 @@ root_of_two : (token leaf other root : List ℕ) → length leaf ≡ 32 → leng
 root_of_two token leaf other root long other_long group = record {
   alg = record { contents = refl; plain = tt };
   lengths = All-from_recursion (All (λ (v : List ℕ). length v ≡ 32)) ((leaf ∷ []) ∷ (other ∷ []) ∷ [])
-      (alone leaf long, (alone other other_long, tt));
+      (alone_long leaf long, (alone_long other other_long, tt));
   covers = All-from_recursion (Contains (leaf ∷ [])) (leaf ∷ []) ((0, lit< tt, refl), tt);
   by = refl;
   is_root = (leaf, refl, (root, group, refl));
 }
-  where
-    alone : (v : List ℕ) → length v ≡ 32 → All (λ (w : List ℕ). length w ≡ 32) (v ∷ [])
-    alone v long = All-from_recursion (λ (w : List ℕ). length w ≡ 32) (v ∷ []) (long, tt)
+
+-- a time-stamp of ten o'clock on that root fits over the leaf, after nine o'clock
+fits_of_two : (leaf other root : List ℕ) → length leaf ≡ 32 → length other ≡ 32
+    → IsGroupOf Sha256 (leaf ∷ other ∷ []) root → EncodesSignedData (token_over root) (data_over root)
+    → EncodesTst (stamp_over root) (tst_over root)
+    → FitsOver (stamp_of Sha256 (leaf ∷ other ∷ []) (token_over root)) (digest.Sha256 leaf) nine_oclock
+fits_of_two leaf other root long other_long group reads stated = record {
+  root = digest.Sha256 root;
+  over = root_of_two (token_over root) leaf other root long other_long group;
+  stamped = stamps_over root (states_over root reads stated);
+}
 
 renewal_group : IsGroupOf Sha256 (early_leaf ∷ d000 ∷ []) renewal_root
 unfolding computing
@@ -333,11 +327,7 @@ done_rows = record {
     added = refl;
     token_is = refl;
     stood = last_of_one;
-    fits = record {
-      root = digest.Sha256 renewal_root;
-      over = root_of_two (token_over renewal_root) early_leaf d000 renewal_root refl refl renewal_group;
-      stamped = stamps_over renewal_root (states_over renewal_root over_reads.0 over_stated.0);
-    };
+    fits = fits_of_two early_leaf d000 renewal_root refl refl renewal_group over_reads.0 over_stated.0;
   };
   rehashed = record {
     before = early_chain ∷ [];
@@ -345,10 +335,6 @@ done_rows = record {
     added = refl;
     token_is = refl;
     stood = early_rehashed;
-    fits = record {
-      root = digest.Sha256 rehash_root;
-      over = root_of_two (token_over rehash_root) rehash_leaf d001 rehash_root refl refl rehash_group;
-      stamped = stamps_over rehash_root (states_over rehash_root over_reads.1 over_stated.1);
-    };
+    fits = fits_of_two rehash_leaf d001 rehash_root refl refl rehash_group over_reads.1 over_stated.1;
   };
 }

@@ -10,22 +10,14 @@ use Rattle.check_evidence.specs.Standing.{IsInTime, Stands}
 use Rattle.judge_evidence.specs.Going.{IsLastPlace}
 use Rattle.judge_evidence.specs.ShowingChains.{IsRenewal}
 use Rattle.judge_evidence.specs.ShowingLaws.{held_at}
-use Rattle.judge_evidence.proofs.Splitting.{SameSplit}
+use Rattle.check_evidence.proofs.Places.{SameSplit}
 use Rattle.judge_evidence.proofs.Before.{first_after}
+use Rattle.judge_evidence.proofs.Ends.{HasEnd, ends, same_end}
+use Rattle.judge_evidence.proofs.Following.{Stamps, Chains, all_after, with_after, first_stays, stamps_append}
+use Rattle.judge_evidence.proofs.Following.{stands_then}
 use Rattle.evidence_making.specs.RenewalLaws.{ChainsShowAfter}
-use Rattle.evidence_making.proofs.Ends.{HasEnd, ends, same_end}
-
-abbrev Stamps : Type 0
-Stamps = List StampValue
-
-abbrev Chains : Type 0
-Chains = List (List StampValue)
 
 -- ---- one archive time-stamp
-
--- what follows it, but for the last of all
-abbrev all_after : Place → Stamps
-all_after p = p.after ++ stamps_of p.later
 
 -- one more that comes after all
 in_time_after : (l : Stamps) (s : StampValue) (at : Option ℕ) (m : ℕ) → IsInTime (first_of (l ++ s ∷ [])) at m
@@ -36,16 +28,6 @@ until_after : (l : Stamps) (s its : StampValue) (at : Option ℕ) (n until : ℕ
     → IsUntilBy (first_of l) (Some n) its until → IsUntilBy (first_of (l ++ s ∷ [])) at its until
 until_after [] s its at n until time h = subst (λ (k : ℕ). HasTime s k) (sym h) time
 until_after (t ∷ l) s its at n until time h = h
-
--- the place with other stamps after it
-abbrev with_after : Place → (after : Stamps) → (later : Chains) → Place
-with_after q after later = record {
-  earlier = q.earlier;
-  before = q.before;
-  stamp = q.stamp;
-  after = after;
-  later = later;
-}
 
 -- what was a place in the chains
 record WasIn (chains : Chains) (s : StampValue) (q : Place) : Type 0 where
@@ -59,47 +41,14 @@ module _ (g : Grounds) (ds : List (List ℕ)) (s : StampValue) (n : ℕ) (time :
   stands_after : (chains : Chains) (q : Place) (was : WasIn chains s q)
       → Stands (held_at n g) ds (with_after q was.after was.later) → Stands g ds q
   stands_after chains q was st =
-      let f = st.fits in
       let left : Stamps = was.after ++ stamps_of was.later in
       let next : first_of (left ++ s ∷ []) ≡ following q = sym (ap first_of was.follows) in
-      record {
-        alg = st.alg;
-        moment = st.moment;
-        fits = record {
-          is_alg = record {
-            its = f.is_alg.its;
-            first = f.is_alg.first;
-            is_first = was.beside ∙ f.is_alg.is_first;
-            same = f.is_alg.same;
-          };
-          lengths = f.lengths;
-          covers = f.covers;
-          imprints = record {
-            root = f.imprints.root;
-            is_root = f.imprints.is_root;
-            passes = f.imprints.passes;
-          };
-          ordered = record {
-            later = f.ordered.later;
-            in_time = subst (λ (o : Option StampValue). IsInTime o g.at st.moment) next
-                (in_time_after left s g.at st.moment);
-          };
-        };
-        until = st.until;
-        is_until = subst (λ (o : Option StampValue). IsUntilBy o g.at q.stamp st.until) next
-            (until_after left s q.stamp g.at n st.until time st.is_until);
-        algs = st.algs;
-        lasts = st.lasts;
-      }
+      stands_then g (Some n) g.at ds q was.after was.later (sym was.beside)
+      (λ m its h. subst (λ (o : Option StampValue). IsInTime o g.at m) next (in_time_after left s g.at m))
+      (λ end h. subst (λ (o : Option StampValue). IsUntilBy o g.at q.stamp end) next
+      (until_after left s q.stamp g.at n end time h)) st
 
 -- ---- places in the renewed chains
-
-first_stays : (l : Stamps) (t : StampValue) (r q : Stamps) → first_of (l ++ t ∷ r) ≡ first_of (l ++ t ∷ q)
-first_stays [] t r q = refl
-first_stays (u ∷ l) t r q = refl
-
-stamps_append : (a b : Chains) → stamps_of (a ++ b) ≡ stamps_of a ++ stamps_of b
-stamps_append a b = flat_map-append (λ (c : Stamps). c) a b
 
 -- of a last chain with one more time-stamp
 stamps_more : (front : Chains) (last : Stamps) (s : StampValue)

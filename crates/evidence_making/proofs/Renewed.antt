@@ -1,8 +1,10 @@
 -- Records that are renewed: what is made of them, and what they show.
 use Rattle.std.proofs.Common.{◌≡◌, ℕ, ◌<◌, ◌≤◌, ◌^◌, Bool, true, false, not, List, [], ◌∷◌, ◌++◌, length, Option}
-use Rattle.std.proofs.Common.{Some, None, Result, Ok, Err, Any, refl, sym, ap, ◌∙◌, subst, inl, inr, append_assoc}
+use Rattle.std.proofs.Common.{Some, None, Result, Ok, Err, Any, refl, sym, ap, ◌∙◌, subst, ◌⊎◌, inl, inr, append_assoc}
+use Rattle.std.proofs.Common.{Vec, Global}
 use Rattle.std.specs.Prelude.{IfOk, if◌then◌else◌}
 use Rattle.std.specs.List.{AllByRecursion}
+use Rattle.std.specs.Vec.{vec_items}
 use Rattle.std.proofs.lemmas.List.Folds.{Any-from_list_any, list_any-from_Any}
 use Rattle.der_core.specs.Element.{len, el}
 use Rattle.der_core.specs.Values.{HasLength, AlgorithmValue}
@@ -28,7 +30,8 @@ use Rattle.evidence_making.specs.Frames.{record_inside}
 use Rattle.evidence_making.specs.Renewed.{is_this, is_named, with_stamp, renewed, rehashed}
 use Rattle.evidence_making.specs.Renewing.{IsAnswer, IsWritten, StandIn, ChainsStandIn}
 use Rattle.evidence_making.specs.RenewalLaws.{NamesAreFound, ShowsStill, RenewedRecordsShow, RehashedRecordsShow}
-use Rattle.evidence_making.proofs.Ends.{HasEnd, end_of, all_parts}
+use Rattle.judge_evidence.proofs.Ends.{HasEnd}
+use Rattle.evidence_making.proofs.Ends.{end_of, all_parts}
 use Rattle.evidence_making.proofs.Parts.{front_of, parts_by_front}
 use Rattle.evidence_making.proofs.Placed.{PlacedValue, all_algorithms, value_of, frame_of, GoodPlaced, parts_are}
 use Rattle.evidence_making.proofs.Placed.{encodes, parts_more}
@@ -73,27 +76,25 @@ pub good_chains : (v : EvidenceValue) (front : Chains) (last : List StampValue) 
 good_chains v front last good e =
     all_parts GoodChain front last (subst (λ (l : Chains). AllByRecursion GoodChain l) e good.chains.each)
 
-is_renewed : (v : EvidenceValue) (s : StampValue) → GoodEvidence v → IsRenewal v.chains s (with_stamp s v.chains)
-is_renewed v s good =
+is_renewal : (v : EvidenceValue) (s : StampValue) (now : Chains) → GoodEvidence v
+    → ((front : Chains) (last : List StampValue) → v.chains ≡ front ++ last ∷ []
+    → (now ≡ front ++ (last ++ s ∷ []) ∷ []) ⊎ (now ≡ v.chains ++ (s ∷ []) ∷ [])) → IsRenewal v.chains s now
+is_renewal v s now good more =
     let h = last_of_good v good in
     record {
       front = h.front;
       last = h.end;
       some = (good_chains v h.front h.end good h.is).1.some;
       is = h.is;
-      more = inl (ap (with_stamp s) h.is ∙ with_stamp_end s h.front h.end);
+      more = more h.front h.end h.is;
     }
 
+is_renewed : (v : EvidenceValue) (s : StampValue) → GoodEvidence v → IsRenewal v.chains s (with_stamp s v.chains)
+is_renewed v s good = is_renewal v s (with_stamp s v.chains) good
+    (λ front last e. inl (ap (with_stamp s) e ∙ with_stamp_end s front last))
+
 is_rehashed : (v : EvidenceValue) (s : StampValue) → GoodEvidence v → IsRenewal v.chains s (v.chains ++ (s ∷ []) ∷ [])
-is_rehashed v s good =
-    let h = last_of_good v good in
-    record {
-      front = h.front;
-      last = h.end;
-      some = (good_chains v h.front h.end good h.is).1.some;
-      is = h.is;
-      more = inr refl;
-    }
+is_rehashed v s good = is_renewal v s (v.chains ++ (s ∷ []) ∷ []) good (λ front last e. inr refl)
 
 -- ---- what it shows
 
@@ -221,6 +222,20 @@ of_answer renew octets octets_of P f (Ok made) a = λ v h.
     let same = evidence_unique octets a.0 v a.1 h in
     f made v h (subst (λ (x : EvidenceValue). EncodesEvidence (octets_of made) (renew x)) same a.2)
 of_answer renew octets octets_of P f (Err fault) a = tt
+
+abbrev pub Octets : Type 0
+Octets = Vec ℕ Global
+
+-- so does that it still shows what the old record showed
+pub answer_shows : (renew : EvidenceValue → EvidenceValue) (octets : List ℕ) (s : StampValue)
+    → ((later : List ℕ) (v : EvidenceValue) → EncodesEvidence octets v → EncodesEvidence later (renew v)
+    → ShowsStill octets s (renew v).chains later) → (r : Result Octets RenewFault)
+    → IsAnswer renew octets (λ (w : Octets). vec_items w) r
+    → IfOk r (λ made. (v : EvidenceValue) → EncodesEvidence octets v
+    → ShowsStill octets s (renew v).chains (vec_items made))
+answer_shows renew octets s shows = of_answer renew octets (λ (w : Octets). vec_items w)
+    (λ (made : Octets) v. ShowsStill octets s (renew v).chains (vec_items made))
+    (λ (made : Octets) v. shows (vec_items made) v)
 
 -- ---- what stands in it
 

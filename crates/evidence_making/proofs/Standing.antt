@@ -8,12 +8,12 @@ use Rattle.check_evidence.specs.StampStates.{HasTime}
 use Rattle.check_evidence.specs.Covering.{covered_of, covered_after}
 use Rattle.check_evidence.specs.Standing.{IsLater, Stands}
 use Rattle.judge_evidence.specs.Going.{IsLastPlace}
-use Rattle.judge_evidence.proofs.Splitting.{SameSplit}
+use Rattle.check_evidence.proofs.Places.{SameSplit}
 use Rattle.judge_evidence.proofs.Neighbours.{last_is}
 use Rattle.evidence_making.specs.Made.{stamp_of}
 use Rattle.evidence_making.specs.Renewed.{with_stamp}
 use Rattle.evidence_making.specs.RenewalLaws.{RenewedStampsStand, RehashedStampsStand}
-use Rattle.evidence_making.proofs.Ends.{same_end}
+use Rattle.judge_evidence.proofs.Ends.{same_end}
 use Rattle.evidence_making.proofs.Made.{its_alg, last_place, new_stands}
 use Rattle.evidence_making.proofs.Renewed.{with_stamp_end}
 

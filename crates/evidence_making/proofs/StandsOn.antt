@@ -37,7 +37,8 @@ use Rattle.evidence_making.specs.Leaves.{IsLastOf, IsRehashOf, EndsWithoutTime, 
 use Rattle.evidence_making.specs.Leaves.{HasNoStamp, IsDueInChain, IsDueInNewChain, StandsInChain, StandsInNewChain}
 use Rattle.evidence_making.specs.Leaves.{IsLastStamp, IsRehashLeaf}
 use Rattle.evidence_making.specs.LeafSteps.{AreEndsOf, IsOpened, EndWithoutEither}
-use Rattle.evidence_making.proofs.Ends.{HasEnd, end_of, all_parts}
+use Rattle.judge_evidence.proofs.Ends.{HasEnd}
+use Rattle.evidence_making.proofs.Ends.{end_of, all_parts}
 use Rattle.evidence_making.proofs.Made.{last_place}
 use Rattle.evidence_making.proofs.Renewed.{with_stamp_end}
 use Rattle.evidence_making.proofs.Standing.{at_the_end, renewed_stamps_stand, rehashed_stamps_stand}

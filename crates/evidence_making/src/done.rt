@@ -1,9 +1,12 @@
 //! Whether an evidence record has been renewed by a token already (RFC 4998 5.2).
-ghost use Rattle.std.specs.Prelude.{◌≡◌, ◌≢◌, ◌<◌, ◌↔◌, ◌∷◌, ℕ, List, [], IfOk, IsTrue, MatchOption};
+ghost use Rattle.std.specs.Prelude.{◌≡◌, ◌≢◌, ◌<◌, ◌↔◌, ◌∷◌, ℕ, List, [], All, IfOk, IsOk, IsErr, IsTrue};
+ghost use Rattle.std.specs.Prelude.{MatchOption, unwrap_or};
 ghost use Rattle.digests.specs.declared.value.Digest.{Digest};
 ghost use Rattle.der_core.specs.Values.{HasLength};
 ghost use Rattle.digests.specs.Named.{is_alg};
+ghost use Rattle.check_evidence.specs.Roots.{IsAscending};
 ghost use Rattle.check_evidence.specs.StampStates.{HasAlg};
+ghost use Rattle.judge_evidence.specs.Ordering.{HasOutOfOrder, IsRecordOutOfOrder};
 ghost use Rattle.evidence_types.specs.StampValue.{StampValue};
 ghost use Rattle.evidence_types.specs.EvidenceValue.{chains_parts};
 ghost use Rattle.evidence_making.specs.declared.leaves.LastStamp.{LastStamp};
@@ -53,8 +56,9 @@ fn root_over(
     stamp: &ArchiveTimeStamp,
     leaf: &Digest,
 ) -> Result<Option<Digest>, AllocError>
-    ensures { IfOk result (λ o. MatchOption o ((root : Digest) → IsRootOver stamp.now leaf.now root → ⊥)
+    ensures root { IfOk result (λ o. MatchOption o ((root : Digest) → IsRootOver stamp.now leaf.now root → ⊥)
         (IsRootOver stamp.now leaf.now)) }
+    ensures memory { All IsAscending (unwrap_or stamp.now.lists []) → IsOk result }
 {
     let alg = leaf.alg();
     if !is_by(stamp, alg) {
@@ -95,7 +99,8 @@ fn fits_over(
     leaf: &Digest,
     last: Moment,
 ) -> Result<bool, AllocError>
-    ensures { IfOk result (λ fits. IsTrue fits ↔ FitsOver stamp.now leaf.now last) }
+    ensures fits { IfOk result (λ fits. IsTrue fits ↔ FitsOver stamp.now leaf.now last) }
+    ensures memory { All IsAscending (unwrap_or stamp.now.lists []) → IsOk result }
 {
     // So no other root counts.
     roots_are_unique();
@@ -148,8 +153,9 @@ fn last_two<'a>(chains: &Chains<'a>) -> Option<LastTwo<'a>>
 // What the renewal of chains by a token stood on, if they are renewed by it.
 fn renewed_in(alloc: Global, chains: &Chains, token: &[u8]) -> Result<Option<LastStamp>, AllocError>
     requires { chains.now ≢ [] }
-    ensures { IfOk result (λ o. MatchOption o ((last : LastStamp) → AreRenewed chains.now token.now last → ⊥)
+    ensures renewed { IfOk result (λ o. MatchOption o ((last : LastStamp) → AreRenewed chains.now token.now last → ⊥)
         (AreRenewed chains.now token.now)) }
+    ensures memory { IsErr result → HasOutOfOrder chains.now }
 {
     let Some(two) = last_two(chains) else {
         return Ok(None);
@@ -183,8 +189,10 @@ pub fn renewed_by(
     token: &[u8],
 ) -> Result<Option<LastStamp>, AllocError>
     // Returns it exactly if the record is renewed by the token.
-    ensures { IfOk result (λ o. MatchOption o ((last : LastStamp) → IsRenewedBy octets.now token.now last → ⊥)
+    ensures renewed { IfOk result (λ o. MatchOption o ((last : LastStamp) → IsRenewedBy octets.now token.now last → ⊥)
         (IsRenewedBy octets.now token.now)) }
+    // Memory is refused only where a list of the record is out of order.
+    ensures memory { IsErr result → IsRecordOutOfOrder octets.now }
 {
     match opened(octets) {
         Ok(record) => renewed_in(alloc, record.chains(), token),
@@ -224,9 +232,10 @@ fn rehashed_in(
     token: &[u8],
 ) -> Result<Option<(Digest, Moment)>, AllocError>
     requires { HasLength (chains_parts chains.now) }
-    ensures { IfOk result (λ o. MatchOption o
+    ensures rehashed { IfOk result (λ o. MatchOption o
         ((leaf : Digest) (m : ℕ) → AreRehashed chains.now token.now digest.now leaf m → ⊥)
         (λ r. AreRehashed chains.now token.now digest.now r.0 r.1)) }
+    ensures memory { IsErr result → HasOutOfOrder chains.now }
 {
     // So no chain is empty.
     let _octets = chains.bytes();
@@ -265,9 +274,11 @@ pub fn rehashed_by(
     token: &[u8],
 ) -> Result<Option<(Digest, Moment)>, AllocError>
     // Returns it exactly if the record is renewed so.
-    ensures { IfOk result (λ o. MatchOption o
+    ensures rehashed { IfOk result (λ o. MatchOption o
         ((leaf : Digest) (m : ℕ) → IsRehashedBy octets.now token.now digest.now leaf m → ⊥)
         (λ r. IsRehashedBy octets.now token.now digest.now r.0 r.1)) }
+    // Memory is refused only where a list of the record is out of order.
+    ensures memory { IsErr result → IsRecordOutOfOrder octets.now }
 {
     match opened(octets) {
         Ok(record) => rehashed_in(alloc, record.chains(), digest, token),

@@ -10,6 +10,7 @@ use Rattle.check_verdict.specs.Trusted.{asked}
 use Rattle.check_verdict.specs.Passing.{Due, StampedUnder, PassesFor}
 use Rattle.check_verdict.specs.Questions.{AnswersOfToken}
 use Rattle.check_verdict.proofs.Lists.{along}
+use Rattle.check_verdict.proofs.PassesBy.{stamped_by, passes_by}
 use Rattle.check_verdict.proofs.Sufficiency.{failures_suffice}
 use Rattle.check_questions.specs.FileQuestions.{IsSigned}
 use Rattle.check_evidence.specs.Grounds.{Grounds, terms_of}
@@ -34,29 +35,23 @@ module _ (g : Grounds) (octets : List ℕ) (w : Asked → Bool) (agree : RecordA
   -- a verifier vouches alike under an entry
   pub under_along : (m : ℕ) (e : EntryValue) → Contains g.trust e → StampedUnder (terms_of g) signer attributes m e
       → StampedUnder (terms_of (by_answers g w)) signer attributes m e
-  under_along m e c u = record {
-    role = u.role;
-    matches = u.matches;
-    named = u.named;
-    purpose = u.purpose;
-    period = u.period;
-    vouched = agree (asked e.certificate signer attributes)
-        (of_stamp g.trust octets s (asked e.certificate signer attributes) by.of (record {
-          signed = by.signed.signed;
-          encodes = by.signed.encodes;
-          signer = signer;
-          one_signer = by.signed.one_signer;
-          about = record {
-            attributes = attributes;
-            has = by.has;
-            entry = e;
-            trusted = c;
-            has_role = u.role;
-            matches = u.matches;
-            is = refl;
-          };
-        })) ∙ u.vouched;
-  }
+  under_along m e c u = stamped_by (terms_of g) g.trust w signer attributes m e u
+      (agree (asked e.certificate signer attributes)
+      (of_stamp g.trust octets s (asked e.certificate signer attributes) by.of (record {
+        signed = by.signed.signed;
+        encodes = by.signed.encodes;
+        signer = signer;
+        one_signer = by.signed.one_signer;
+        about = record {
+          attributes = attributes;
+          has = by.has;
+          entry = e;
+          trusted = c;
+          has_role = u.role;
+          matches = u.matches;
+          is = refl;
+        };
+      })) ∙ u.vouched)
 
   pub any_along : (m : ℕ) → Any (StampedUnder (terms_of g) signer attributes m) g.trust
       → Any (StampedUnder (terms_of (by_answers g w)) signer attributes m) g.trust
@@ -73,29 +68,12 @@ module _ (g : Grounds) (octets : List ℕ) (w : Asked → Bool) (agree : RecordA
 abbrev pub passes_along : (g : Grounds) (octets : List ℕ) (w : Asked → Bool) → RecordAnswers g octets w
     → (s : StampValue) → IsStampOf octets s → (due : Due) (m : ℕ)
     → PassesFor (terms_of g) s.stamp due m → PassesFor (terms_of (by_answers g w)) s.stamp due m
-passes_along g octets w agree s of due m p = record {
-  signed = p.signed;
-  encodes = p.encodes;
-  econtent_type = p.econtent_type;
-  content = p.content;
-  present = p.present;
-  signer = p.signer;
-  one_signer = p.one_signer;
-  attributes = p.attributes;
-  has = p.has;
-  fits = p.fits;
-  stamp = p.stamp;
-  encodes_stamp = p.encodes_stamp;
-  calm = p.calm;
-  imprint = p.imprint;
-  moment = p.moment;
-  entry = any_along g octets w agree s p.signer p.attributes
-      (record {
-        of = of;
-        signed = record { signed = p.signed; encodes = p.encodes; one_signer = p.one_signer };
-        has = p.has;
-      }) m p.entry;
-}
+passes_along g octets w agree s of due m p = passes_by (terms_of g) g.trust w s.stamp due m p
+    (any_along g octets w agree s p.signer p.attributes (record {
+      of = of;
+      signed = record { signed = p.signed; encodes = p.encodes; one_signer = p.one_signer };
+      has = p.has;
+    }) m p.entry)
 
 pub pass_alike : StampsPassAlike
 pass_alike g octets w agree s of due m = (

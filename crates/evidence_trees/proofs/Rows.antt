@@ -18,12 +18,12 @@ abbrev Values : Type 0
 Values = List (List ℕ)
 
 -- what the digests compute with
-computing : Unit {0}
+unfoldable pub computing : Unit {0}
 unfolding digest_of sha256.sha256 sha256.digest_bytes sha256.hash_after sha256.compress sha256.rounds sha256.schedule
     sha256.first_words
 computing = tt
 
-computing_512 : Unit {0}
+unfoldable pub computing_512 : Unit {0}
 unfolding digest_of sha512.sha512 sha512.digest_bytes sha512.hash_after sha512.compress sha512.rounds sha512.schedule
     sha512.first_words
 computing_512 = tt
@@ -75,10 +75,10 @@ tree_rows = record {
 }
 
 -- each value of lists of one value has the length of a digest by SHA-256
-abbrev IsLong : List ℕ → Type 0
+abbrev pub IsLong : List ℕ → Type 0
 IsLong v = length v ≡ 32
 
-alone_long : (v : List ℕ) → length v ≡ 32 → All IsLong (v ∷ [])
+pub alone_long : (v : List ℕ) → length v ≡ 32 → All IsLong (v ∷ [])
 alone_long v long = All-from_recursion IsLong (v ∷ []) (long, tt)
 
 pub list_rows : ListRows

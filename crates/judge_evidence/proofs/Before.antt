@@ -11,14 +11,11 @@ use Rattle.check_evidence.specs.Standing.{IsLater, IsInTime, Stands}
 use Rattle.check_evidence.specs.Showing.{IsFirst}
 use Rattle.judge_evidence.specs.ShowingChains.{IsRenewal}
 use Rattle.judge_evidence.specs.ShowingLaws.{held_at, ChainsShowBefore}
-use Rattle.judge_evidence.proofs.Splitting.{SameSplit, same_split}
+use Rattle.check_evidence.proofs.Places.{SameSplit}
 use Rattle.check_evidence.proofs.States.{one_time, passing_time}
-
-abbrev Stamps : Type 0
-Stamps = List StampValue
-
-abbrev Chains : Type 0
-Chains = List (List StampValue)
+use Rattle.judge_evidence.proofs.Ends.{HasEnd, ends, same_end}
+use Rattle.judge_evidence.proofs.Following.{Stamps, Chains, all_after, with_after, first_stays, stamps_append}
+use Rattle.judge_evidence.proofs.Following.{stands_then}
 
 -- ---- what follows
 
@@ -35,19 +32,6 @@ until_before (t ∷ l) s its at n until time h = h
 
 -- ---- one stamp
 
--- the place has other stamps after it
-abbrev with_after : Place → (after : Stamps) → (later : Chains) → Place
-with_after p after later = record {
-  earlier = p.earlier;
-  before = p.before;
-  stamp = p.stamp;
-  after = after;
-  later = later;
-}
-
-abbrev all_after : Place → Stamps
-all_after p = p.after ++ stamps_of p.later
-
 module _ (g : Grounds) (ds : List (List ℕ)) (s : StampValue) (n : ℕ) (time : HasTime s n) where
   stands_before : (p : Place) (after : Stamps) (later : Chains)
       → first_of (p.before ++ p.stamp ∷ after) ≡ first_beside p
@@ -55,39 +39,12 @@ module _ (g : Grounds) (ds : List (List ℕ)) (s : StampValue) (n : ℕ) (time :
       → ((m : ℕ) → HasTime p.stamp m → all_after p ≡ [] → m ≤ n)
       → Stands g ds (with_after p after later) → Stands (held_at n g) ds p
   stands_before p after later beside follows earlier st =
-      let f = st.fits in
       let next : first_of (after ++ stamps_of later) ≡ first_of (all_after p ++ s ∷ []) = ap first_of follows in
-      record {
-        alg = st.alg;
-        moment = st.moment;
-        fits = record {
-          is_alg = record {
-            its = f.is_alg.its;
-            first = f.is_alg.first;
-            is_first = sym beside ∙ f.is_alg.is_first;
-            same = f.is_alg.same;
-          };
-          lengths = f.lengths;
-          covers = f.covers;
-          imprints = record {
-            root = f.imprints.root;
-            is_root = f.imprints.is_root;
-            passes = f.imprints.passes;
-          };
-          ordered = record {
-            later = f.ordered.later;
-            in_time = in_time_before (all_after p) s g.at st.moment n
-                (earlier st.moment (passing_time (terms_of g) p.stamp (of_root st.alg f.imprints.root) st.moment
-                f.imprints.passes))
-                (subst (λ (o : Option StampValue). IsInTime o g.at st.moment) next f.ordered.in_time);
-          };
-        };
-        until = st.until;
-        is_until = until_before (all_after p) s p.stamp g.at n st.until time
-            (subst (λ (o : Option StampValue). IsUntilBy o g.at p.stamp st.until) next st.is_until);
-        algs = st.algs;
-        lasts = st.lasts;
-      }
+      stands_then g g.at (Some n) ds p after later beside
+      (λ m its h. in_time_before (all_after p) s g.at m n (earlier m its)
+      (subst (λ (o : Option StampValue). IsInTime o g.at m) next h))
+      (λ end h. until_before (all_after p) s p.stamp g.at n end time
+      (subst (λ (o : Option StampValue). IsUntilBy o g.at p.stamp end) next h)) st
 
 -- ---- the last stamp
 
@@ -134,35 +91,6 @@ record GoesOnIn (renewed : Chains) (s : StampValue) (p : Place) : Type 0 where
   there : IsIn renewed (with_after p after later)
   beside : first_of (p.before ++ p.stamp ∷ after) ≡ first_beside p
   follows : after ++ stamps_of later ≡ all_after p ++ s ∷ []
-
--- a list has a last element, or is empty
-record HasEnd {A : Type 0} (xs : List A) : Type 0 where
-  front : List A
-  end : A
-  is : xs ≡ front ++ end ∷ []
-
-ends : {A : Type 0} (xs : List A) → (xs ≡ []) ⊎ HasEnd xs
-ends [] = inl refl
-ends {A} (x ∷ xs) = go (ends xs)
-  where
-    go : (xs ≡ []) ⊎ HasEnd xs → (x ∷ xs ≡ []) ⊎ HasEnd (x ∷ xs)
-    go (inl e) = inr (record { front = []; end = x; is = ap (λ l. x ∷ l) e })
-    go (inr h) = inr (record { front = x ∷ h.front; end = h.end; is = ap (λ l. x ∷ l) h.is })
-
-length_end : {A : Type 0} (xs : List A) (x : A) → length (xs ++ x ∷ []) ≡ length xs + 1
-length_end xs x = length-append xs (x ∷ []) ∙ refl
-
-same_end : {A : Type 0} (xs ys : List A) (x y : A) → xs ++ x ∷ [] ≡ ys ++ y ∷ [] → SameSplit xs ys x y [] []
-same_end xs ys x y h =
-    let e = ap length h in
-    same_split xs ys x y [] [] (omega (arith, length_end xs x, length_end ys y)) h
-
-first_stays : (l : Stamps) (t : StampValue) (r q : Stamps) → first_of (l ++ t ∷ r) ≡ first_of (l ++ t ∷ q)
-first_stays [] t r q = refl
-first_stays (u ∷ l) t r q = refl
-
-stamps_append : (a b : Chains) → stamps_of (a ++ b) ≡ stamps_of a ++ stamps_of b
-stamps_append a b = flat_map-append (λ (c : Stamps). c) a b
 
 -- a chain of its own
 module _ (chains renewed : Chains) (s : StampValue) (e : renewed ≡ chains ++ (s ∷ []) ∷ []) where

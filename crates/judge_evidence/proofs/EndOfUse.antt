@@ -28,7 +28,7 @@ use Rattle.evidence_stamps.specs.StateValue.{StateValue, IsState, IsStateOf}
 use Rattle.evidence_stamps.specs.MayLast.{TokenLasts, MayLast, IsAskedToLast}
 use Rattle.judge_evidence.specs.Asking.{IsAskedToLastAt}
 use Rattle.judge_evidence.specs.Running.{ShowsTime, IsFound}
-use Rattle.check_evidence.proofs.States.{some_is, passing_time}
+use Rattle.check_evidence.proofs.States.{some_is, imprint_alg, passing_time}
 
 -- ---- until when
 
@@ -58,15 +58,6 @@ false_not_true true e h = cc
 false_not_true false e h = cc
 
 -- ---- what is kept of its token
-
--- the imprint's algorithm is the one by which the root is due
-imprint_alg : (policy : Policy) (alg : Alg) (root : List ℕ) (imprint : ImprintValue)
-    (i : IsImprint policy imprint (of_root alg root)) → i.alg ≡ alg
-imprint_alg policy alg root imprint i = go (is_alg i.alg alg) refl i.digest
-  where
-    go : (b : Bool) → is_alg i.alg alg ≡ b → IsDue (if b then Some root else None) imprint.digest → i.alg ≡ alg
-    go true e d = alg_says i.alg alg e
-    go false e d = absurd d
 
 first_one : (x y : SignerValue) → x ∷ [] ≡ y ∷ [] → x ≡ y
 first_one x y e = cc
@@ -148,15 +139,10 @@ module _ (g : Grounds) (ds : List (List ℕ)) (p : Place) (alg : Alg) (m : ℕ) 
       strong = to_algs until (told.0 (subst (λ (b : Bool). IsTrue b) (sym succeeds) refl))
 
       pub is_lapsed : (TokenLasts g st.signed m until → ⊥) → FailsToLast g ds p rule.Lapsed
-      is_lapsed ends = record {
-        alg = alg;
-        moment = m;
-        fits = f;
-        until = until;
-        is_until = u;
-        algs = strong;
-        not = λ h. ends (from_lasts until h);
-      }
+      is_lapsed ends =
+          let not : Lasts g f.imprints.passes.signer f.imprints.passes.attributes m until → ⊥
+          = λ h. ends (from_lasts until h) in
+          record { alg = alg; moment = m; fits = f; until = until; is_until = u; algs = strong; not = not }
 
       -- what is asked then is asked about the stamp
       pub asked_to_last : (q : Asked) → IsAskedToLast g.trust st.signed m until q → IsAskedToLastAt g ds p q
@@ -178,15 +164,8 @@ module _ (g : Grounds) (ds : List (List ℕ)) (p : Place) (alg : Alg) (m : ℕ) 
           }
 
       pub it_stands : TokenLasts g st.signed m until → Stands g ds p
-      it_stands h = record {
-        alg = alg;
-        moment = m;
-        fits = f;
-        until = until;
-        is_until = u;
-        algs = strong;
-        lasts = to_lasts until h;
-      }
+      it_stands h = let lasts = to_lasts until h in
+          record { alg = alg; moment = m; fits = f; until = until; is_until = u; algs = strong; lasts = lasts }
 
 -- the moment with which it fits is the one that it states
 pub fits_at : (g : Grounds) (ds : List (List ℕ)) (p : Place) (alg : Alg) (m : ℕ) → FitsIn g ds p alg m

@@ -1,4 +1,4 @@
--- The places in the same chains stand in one order, and going on from one to the next meets each.
+-- Going on from one place to the next meets each in the same chains.
 use Rattle.std.proofs.Common.{◌≡◌, ◌⊎◌, ◌+◌, ◌<◌, List, [], ◌∷◌, ◌++◌, length, refl, sym, ap, ◌∙◌, subst, arith}
 use Rattle.std.proofs.Common.{inl, inr, append_assoc}
 use Rattle.std.proofs.lemmas.Bool.{cases_order}
@@ -7,32 +7,11 @@ use Rattle.evidence_types.specs.StampValue.{StampValue}
 use Rattle.check_evidence.specs.Places.{Place, IsIn, IsBefore, chain_of, chain_number, stamp_number}
 use Rattle.judge_evidence.specs.Going.{chains_of, IsNextInChain, BeginsNextChain}
 use Rattle.judge_evidence.specs.Going.{IsUpTo}
-use Rattle.judge_evidence.specs.Going.{PlacesAreOrdered, NeverBeforeItself, NeverBothBefore, NextGoesOn, LastEnds}
-use Rattle.judge_evidence.specs.Going.{FirstBegins}
-use Rattle.judge_evidence.proofs.Splitting.{SameSplit, same_split}
+use Rattle.judge_evidence.specs.Going.{NeverBeforeItself, NeverBothBefore, NextGoesOn, LastEnds, FirstBegins}
+use Rattle.check_evidence.proofs.Places.{same_chain, same_place}
 
 abbrev Chains : Type 0
 Chains = List (List StampValue)
-
--- places with the same numbers are in the same chain
-same_chain : (chains : Chains) (p q : Place) → IsIn chains p → IsIn chains q → chain_number p ≡ chain_number q
-    → SameSplit p.earlier q.earlier (chain_of p) (chain_of q) p.later q.later
-same_chain chains p q h k e = same_split p.earlier q.earlier (chain_of p) (chain_of q) p.later q.later (omega arith)
-    (sym h ∙ k)
-
--- and are the same
-pub same_place : (chains : Chains) (p q : Place) → IsIn chains p → IsIn chains q → chain_number p ≡ chain_number q
-    → stamp_number p ≡ stamp_number q → p ≡ q
-same_place chains p q h k e f =
-    let outer = same_chain chains p q h k e in
-    let inner = same_split p.before q.before p.stamp q.stamp p.after q.after (omega arith) outer.at in
-    λ i. record {
-      earlier = outer.before i;
-      before = inner.before i;
-      stamp = inner.at i;
-      after = inner.after i;
-      later = outer.after i;
-    }
 
 pub never_itself : NeverBeforeItself
 never_itself p (inl h) = omega arith
@@ -43,23 +22,6 @@ never_both p q (inl h) (inl k) = omega arith
 never_both p q (inl h) (inr k) = omega (arith, k.0)
 never_both p q (inr h) (inl k) = omega (arith, h.0)
 never_both p q (inr h) (inr k) = omega (arith, h.1, k.1)
-
-pub places_ordered : PlacesAreOrdered
-places_ordered chains p q h k = by_chain (cases_order (chain_number p) (chain_number q))
-  where
-    by_stamp : chain_number p ≡ chain_number q → (stamp_number p ≡ stamp_number q)
-        ⊎ ((stamp_number p < stamp_number q) ⊎ (stamp_number q < stamp_number p))
-        → IsBefore p q ⊎ ((p ≡ q) ⊎ IsBefore q p)
-    by_stamp e (inl f) = inr (inl (same_place chains p q h k e f))
-    by_stamp e (inr (inl f)) = inl (inr (e, f))
-    by_stamp e (inr (inr f)) = inr (inr (inr (sym e, f)))
-
-    by_chain : (chain_number p ≡ chain_number q)
-        ⊎ ((chain_number p < chain_number q) ⊎ (chain_number q < chain_number p))
-        → IsBefore p q ⊎ ((p ≡ q) ⊎ IsBefore q p)
-    by_chain (inl e) = by_stamp e (cases_order (stamp_number p) (stamp_number q))
-    by_chain (inr (inl f)) = inl (inl f)
-    by_chain (inr (inr f)) = inr (inr (inl f))
 
 pub first_begins : FirstBegins
 first_begins p h r (inl k) = omega (arith, ap (λ (l : Chains). length l) h.no_chain)

@@ -1,9 +1,10 @@
-pub mod Splitting
 pub mod Going
 pub mod Neighbours
 pub mod PlaceParts
 pub mod Members
 pub mod MoreTrust
+pub mod Ends
+pub mod Following
 pub mod Before
 pub mod Recorded
 pub mod Running

@@ -4,6 +4,7 @@ use Rattle.cms_types.specs.AttributeValue.{AttributeValue}
 use Rattle.cms_types.specs.SignerValue.{SignerValue}
 use Rattle.trust_lists.specs.Entries.{EntryValue}
 use Rattle.check_verdict.specs.Passing.{Due, StampedUnder, PassesFor}
+use Rattle.check_verdict.proofs.PassesBy.{stamped_by, passes_by}
 use Rattle.check_evidence.specs.Grounds.{Grounds, terms_of, of_root}
 use Rattle.check_evidence.specs.Places.{Place}
 use Rattle.check_evidence.specs.Standing.{Stands}
@@ -18,45 +19,16 @@ any_more P Q xs ys contains holds h =
 module _ (g : Grounds) (trust : List EntryValue) (more : (e : EntryValue) → Contains g.trust e → Contains trust e) where
   under_still : (s : SignerValue) (attributes : List AttributeValue) (m : ℕ) (e : EntryValue)
       → StampedUnder (terms_of g) s attributes m e → StampedUnder (terms_of (trusting trust g)) s attributes m e
-  under_still s attributes m e h = record {
-    role = h.role;
-    matches = h.matches;
-    named = h.named;
-    purpose = h.purpose;
-    period = h.period;
-    vouched = h.vouched;
-  }
+  under_still s attributes m e h = stamped_by (terms_of g) trust g.vouches s attributes m e h h.vouched
 
-  passes_still : (token : List ℕ) (due : Due) (m : ℕ) → PassesFor (terms_of g) token due m
+  abbrev passes_still : (token : List ℕ) (due : Due) (m : ℕ) → PassesFor (terms_of g) token due m
       → PassesFor (terms_of (trusting trust g)) token due m
-  passes_still token due m p = record {
-    signed = p.signed;
-    encodes = p.encodes;
-    econtent_type = p.econtent_type;
-    content = p.content;
-    present = p.present;
-    signer = p.signer;
-    one_signer = p.one_signer;
-    attributes = p.attributes;
-    has = p.has;
-    fits = p.fits;
-    stamp = p.stamp;
-    encodes_stamp = p.encodes_stamp;
-    calm = p.calm;
-    imprint = record {
-      alg = p.imprint.alg;
-      named = p.imprint.named;
-      allows = p.imprint.allows;
-      digest = p.imprint.digest;
-    };
-    moment = p.moment;
-    entry = any_more (StampedUnder (terms_of g) p.signer p.attributes m)
-        (StampedUnder (terms_of (trusting trust g)) p.signer p.attributes m) g.trust trust more
-        (under_still p.signer p.attributes m) p.entry;
-  }
+  passes_still token due m p = passes_by (terms_of g) trust g.vouches token due m p
+      (any_more (StampedUnder (terms_of g) p.signer p.attributes m)
+      (StampedUnder (terms_of (trusting trust g)) p.signer p.attributes m) g.trust trust more
+      (under_still p.signer p.attributes m) p.entry)
 
   stands_still : (ds : List (List ℕ)) (p : Place) → Stands g ds p → Stands (trusting trust g) ds p
-  unfolding passes_still
   stands_still ds p s =
       let f = s.fits in
       record {

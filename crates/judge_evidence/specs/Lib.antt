@@ -3,6 +3,7 @@ pub mod PlaceParts
 pub mod ShowingChains
 pub mod ShowingLaws
 pub mod Data
+pub mod Given
 pub mod Ordering
 pub mod Running
 pub mod Terms

@@ -3,10 +3,10 @@ ghost use Rattle.std.specs.Prelude.{◌≡◌, ℕ, List, Err};
 ghost use Rattle.check_fit.specs.declared.rules.DeviceFault.{DeviceFault};
 ghost use Rattle.evidence_types.specs.EvidenceValue.{EvidenceValue, EncodesEvidence};
 ghost use Rattle.check_verdict.specs.Asks.{AsksOnly};
-ghost use Rattle.check_evidence.specs.Grounds.{Grounds};
 ghost use Rattle.check_evidence.specs.Showing.{Shows};
 ghost use Rattle.judge_evidence.specs.Asking.{IsAskedOfRecord};
 ghost use Rattle.judge_evidence.specs.Data.{AreOfData, HaveWanted};
+ghost use Rattle.judge_evidence.specs.Given.{grounds_by};
 ghost use Rattle.judge_evidence.specs.Ordering.{IsRecordOutOfOrder};
 ghost use Rattle.judge_evidence.specs.Terms.{grounds_of};
 ghost use Rattle.judge_evidence.specs.Walking.{CountsRefused};
@@ -91,33 +91,18 @@ pub fn check_evidence<V: Verifier>(
     // Of each data object there are the digests that the record wants.
     requires { (v : EvidenceValue) → EncodesEvidence octets.now v → HaveWanted v.chains digests.now }
     // It shows the moment, or is refused for this reason; or a device failed.
-    ensures judged { let g : Grounds = record {
-      trust = trust.now;
-      vouches = V.vouches verifier.old;
-      ends = ends.now;
-      at = at;
-      whole = whole;
-    } in (data_objects : List (List ℕ)) → AreOfData digests.now data_objects
+    ensures judged { let g = grounds_by trust.now (V.vouches verifier.old) ends.now at whole in
+        (data_objects : List (List ℕ)) → AreOfData digests.now data_objects
         → IsVerdict g octets.now data_objects result }
     // If it shows a moment, that is the verdict, unless a device failed.
-    ensures complete { let g : Grounds = record {
-      trust = trust.now;
-      vouches = V.vouches verifier.old;
-      ends = ends.now;
-      at = at;
-      whole = whole;
-    } in (data_objects : List (List ℕ)) → AreOfData digests.now data_objects
+    ensures complete { let g = grounds_by trust.now (V.vouches verifier.old) ends.now at whole in
+        (data_objects : List (List ℕ)) → AreOfData digests.now data_objects
         → (m : ℕ) → Shows g octets.now data_objects m → ShowsOrDevice m result }
     // The verifier is asked only about the tokens of its time-stamps: whether one passes that covers what it must, if
     // those before it fit, and whether one lasts that fits, if those before it stand; each under entries of which all
     // else holds.
-    ensures only { let g : Grounds = record {
-      trust = trust.now;
-      vouches = V.vouches verifier.old;
-      ends = ends.now;
-      at = at;
-      whole = whole;
-    } in (data_objects : List (List ℕ)) → AreOfData digests.now data_objects
+    ensures only { let g = grounds_by trust.now (V.vouches verifier.old) ends.now at whole in
+        (data_objects : List (List ℕ)) → AreOfData digests.now data_objects
         → AsksOnly (λ test. V.asked_only test verifier.old verifier.new) (IsAskedOfRecord g octets.now data_objects) }
     // What the verifier vouches for stays the same.
     ensures same { V.vouches verifier.new ≡ V.vouches verifier.old }

@@ -1,4 +1,4 @@
-use Rattle.std.proofs.Common.{◌≡◌, Bool, not, List, ℕ, length, sym, ap, ◌∙◌, Vec, Global}
+use Rattle.std.proofs.Common.{◌≡◌, Bool, not, List, ℕ, length, sym, ap, ◌∙◌}
 use Rattle.std.specs.Vec.{vec_items}
 use Rattle.evidence_types.specs.StampValue.{StampValue}
 use Rattle.evidence_types.specs.EvidenceValue.{EvidenceValue, chains_parts}
@@ -7,15 +7,10 @@ use Rattle.evidence_making.specs.Made.{stamp_of}
 use Rattle.evidence_making.specs.Frames.{FrameValue, record_inside}
 use Rattle.evidence_making.specs.Renewed.{is_named, renewed}
 use Rattle.evidence_making.specs.Renewing.{ChainsStandIn}
-use Rattle.evidence_making.specs.RenewalLaws.{ShowsStill}
 use Rattle.evidence_making.proofs.Placed.{frame_of}
 use Rattle.evidence_making.proofs.Renewed.{placed, value_renewed, good_renewed, last_of_good, written, of_answer}
-use Rattle.evidence_making.proofs.Renewed.{renewed_stand}
-use Rattle.evidence_making.proofs.Renewed.{renewed_show}
+use Rattle.evidence_making.proofs.Renewed.{renewed_stand, renewed_show, Octets, answer_shows}
 use Rattle.evidence_making.proofs.renewing.renew_record.Goals as goal
-
-abbrev Octets : Type 0
-Octets = Vec ℕ Global
 
 pub returns-clause-answer : goal.returns-clause-answer
 returns-clause-answer c =
@@ -57,12 +52,7 @@ returns-clause-kept c =
 
 pub returns-clause-shows : goal.returns-clause-shows
 returns-clause-shows c =
-    let alg = c.args.alg in
-    let values = c.args.values.now in
-    let token : List ℕ = c.args.token.now in
-    let octets : List ℕ = c.args.octets.now in
-    of_answer (λ w. renewed w alg values token) octets (λ (w : Octets). vec_items w)
-    (λ (made : Octets) v. ShowsStill octets (stamp_of alg values token) (renewed v alg values token).chains
-    (vec_items made))
-    (λ (made : Octets) v old new. renewed_show octets (vec_items made) v alg values token old new) c.renewed_in.result
-    (returns-clause-answer c)
+    answer_shows (λ w. renewed w c.args.alg c.args.values.now c.args.token.now) c.args.octets.now
+    (stamp_of c.args.alg c.args.values.now c.args.token.now)
+    (λ later v. renewed_show c.args.octets.now later v c.args.alg c.args.values.now c.args.token.now)
+    c.renewed_in.result (returns-clause-answer c)

@@ -1,4 +1,5 @@
-use Rattle.judge_evidence.proofs.Going.{places_ordered, never_itself, never_both, first_begins, next_goes_on, last_ends}
+use Rattle.check_evidence.proofs.Places.{places_ordered}
+use Rattle.judge_evidence.proofs.Going.{never_itself, never_both, first_begins, next_goes_on, last_ends}
 use Rattle.judge_evidence.proofs.laws.places_are_ordered.Goals as goal
 
 pub returns-clause-ordered : goal.returns-clause-ordered

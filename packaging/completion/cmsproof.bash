@@ -9,7 +9,7 @@ _cmsproof_options() {
     'cmsproof cert') echo '--help' ;;
     'cmsproof fit') echo '--content --sha1 --files-from --null --help' ;;
     'cmsproof match') echo '--help' ;;
-    'cmsproof check') echo '--trust --answers --content --sha1 --buffer --files-from --null --help' ;;
+    'cmsproof check') echo '--trust --answers --content --sha1 --evidence --end --at --buffer --files-from --null --help' ;;
     'cmsproof questions') echo '--trust --buffer --files-from --null --help' ;;
     'cmsproof stamp') echo '--trust --answers --sha1 --help --files-from --null' ;;
     'cmsproof evidence') echo '--trust --answers --end --at --whole --help --files-from --null --alg --policy --nonce --cert --token --into --request' ;;
@@ -55,6 +55,9 @@ _cmsproof_values() {
     'cmsproof check --trust') echo files ;;
     'cmsproof check --answers') echo files ;;
     'cmsproof check --content') echo files ;;
+    'cmsproof check --evidence') echo files ;;
+    'cmsproof check --end') echo '' ;;
+    'cmsproof check --at') echo '' ;;
     'cmsproof check --buffer') echo '' ;;
     'cmsproof check --files-from') echo files ;;
     'cmsproof questions --trust') echo files ;;

@@ -1,4 +1,4 @@
-ghost use Rattle.std.specs.Prelude.{◌≡◌, ◌⊎◌, ℕ, Bool, true, false, [], length, None, IfSome, IfOk, option_map};
+ghost use Rattle.std.specs.Prelude.{◌≡◌, ◌⊎◌, ℕ, Bool, false, [], length, None, IfSome, IfOk, option_map};
 ghost use Rattle.digests.specs.declared.algorithm.Alg.{Alg};
 ghost use Rattle.digests.specs.Sets.{is_in};
 ghost use Rattle.digests.specs.Selection.{FedWanted, set_of};
@@ -21,7 +21,7 @@ use check_fit::{Policy, Refused};
 use check_verdict::{Accepted, Checker};
 use cms_stream::{Opened, Pass, StreamFault};
 use devices::Source;
-use digests::{Alg, Algs, Wanted};
+use digests::{Algs, Wanted};
 use list_answers::Verifier;
 use std::marker::Brand;
 use trust_lists::Trust;
@@ -88,20 +88,6 @@ pub fn check_stream_by<F: Source, S: Source, V: Verifier>(
     judge_pass(pass, hashers, content, checker, verifier)
 }
 
-// All algorithms.
-fn every() -> Algs
-    ensures { (alg : Alg) → is_in alg result ≡ true }
-{
-    Algs::none()
-        .with(Alg::Sha1)
-        .with(Alg::Sha224)
-        .with(Alg::Sha256)
-        .with(Alg::Sha384)
-        .with(Alg::Sha512)
-        .with(Alg::Sha512_224)
-        .with(Alg::Sha512_256)
-}
-
 /// The same with all algorithms, so there is always a verdict.
 ///
 /// Errors: as `check_stream`.
@@ -125,7 +111,9 @@ pub fn check_stream_with<F: Source, S: Source, V: Verifier>(
     // What the check goes by stays the same.
     ensures stays { checker.new ≡ checker.old }
 {
-    match check_stream_by(passing, checker, file, content, buffer, verifier, every()) {
+    // A policy may allow each algorithm.
+    let every = Policy::with_sha1(true).allowed;
+    match check_stream_by(passing, checker, file, content, buffer, verifier, every) {
         Some(verdict) => verdict,
         None => unreachable!(),
     }

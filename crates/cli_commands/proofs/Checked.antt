@@ -99,15 +99,12 @@ module _ {F S T : Type 0} (bytes : T → List ℕ) (holds : F → Option (List �
   accepts None m says = tt
   accepts (Some o) m says = λ are. yes o m (says are)
 
-  pub shows_accepted : (last : F) (r : Result T Failure) → Called → Told last r
-      → IfOk r (λ t. (f : F) × ShowsAccepted holds words (holds f) (bytes t))
-  shows_accepted last (Ok t) called (Ok m, s, line) =
-      (last, (m, line, accepts (holds last) m (held (holds last) (Ok m) called s)))
-  shows_accepted last (Ok t) called (Err why, s, line) = absurd line
-  shows_accepted last (Err f) called any = tt
-
-  pub shows_refused : (last : F) (r : Result T Failure) → Called → Told last r → IfErr r (ShowsRefused holds says words)
-  shows_refused last (Ok t) called any = tt
-  shows_refused last (Err f) called (Ok m, s, line) = inr (inr (inr (inl (inl line))))
-  shows_refused last (Err f) called (Err why, s, line) =
-      inr (inr (inr (inr (opened, last, (why, line, held (holds last) (Err why) called s)))))
+  -- what is said of a file is its verdict
+  pub shows : (last : F) (r : Result T Failure) → Called → Told last r
+      → IfOk r (λ t. (f : F) × ShowsAccepted holds words (holds f) (bytes t)) × IfErr r (ShowsRefused holds says words)
+  shows last (Ok t) called (Ok m, s, line) =
+      ((last, (m, line, accepts (holds last) m (held (holds last) (Ok m) called s))), tt)
+  shows last (Ok t) called (Err why, s, line) = absurd line
+  shows last (Err f) called (Ok m, s, line) = (tt, inr (inr (inr (inl (inl line)))))
+  shows last (Err f) called (Err why, s, line) =
+      (tt, inr (inr (inr (inr (opened, last, (why, line, held (holds last) (Err why) called s))))))

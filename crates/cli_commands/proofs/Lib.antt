@@ -8,6 +8,7 @@ pub mod JudgedFiles
 pub mod Checked
 pub mod Rereadings
 pub mod Growing
+pub mod CheckedAgain
 pub mod ListFaults
 pub mod Straight
 pub mod Unasked

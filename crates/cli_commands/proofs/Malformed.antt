@@ -24,7 +24,8 @@ fault_told (failure.MalformedMessage m fault) before after ends told =
 fault_told (failure.Trust fault) before after ends told = inr (inl (fault, told))
 fault_told (failure.Answers fault) before after ends told = inr (inr (inl (fault, told)))
 fault_told (failure.Uncompared why) before after ends told = inr (inr (inr (inl (why, ends, told))))
-fault_told (failure.Sums fault) before after ends told = inr (inr (inr (inr (fault, ends, told))))
+fault_told (failure.Sums fault) before after ends told = inr (inr (inr (inr (inl (fault, ends, told)))))
+fault_told (failure.Unevidenced why) before after ends told = inr (inr (inr (inr (inr (why.refused, ends, told)))))
 fault_told (failure.Unstamping why) before after ends told = absurd (let no : ⊥ = cc in no)
 fault_told (failure.Unmade why) before after ends told = absurd (let no : ⊥ = cc in no)
 fault_told (failure.Unrenewable why) before after ends told = absurd (let no : ⊥ = cc in no)
@@ -83,7 +84,9 @@ refusal_told (failure.Uncompared why) before after ends told = inr (inr (inr (in
 refusal_told (failure.Unattached why) before after ends told = inr (inr (inr (inr (inr (inl (why, told))))))
 refusal_told (failure.Unstamped why) before after ends told = inr (inr (inr (inr (inr (inr (inl (why, told)))))))
 refusal_told (failure.Unshown why) before after ends told =
-    inr (inr (inr (inr (inr (inr (inr (inl (why, ends, told))))))))
+    inr (inr (inr (inr (inr (inr (inr (inl (inl (why, ends, told)))))))))
+refusal_told (failure.Unevidenced why) before after ends told =
+    inr (inr (inr (inr (inr (inr (inr (inl (inr (why.refused, ends, told)))))))))
 refusal_told (failure.Sums fault) before after ends told =
     inr (inr (inr (inr (inr (inr (inr (inr (inl (inl (fault, ends, told))))))))))
 refusal_told (failure.Unstamping why) before after ends told =

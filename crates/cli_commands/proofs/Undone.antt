@@ -4,6 +4,7 @@ use Rattle.check_fit.specs.declared.rules.FileRule.TheVariants as file
 use Rattle.check_fit.specs.declared.rules.Refused.TheVariants as refused
 use Rattle.check_questions.specs.declared.fault.QuestionsFault.TheVariants as questions
 use Rattle.check_evidence.specs.declared.rules.RecordRule.TheVariants as record_rule
+use Rattle.check_evidence.specs.declared.rules.EvidenceRefused.{EvidenceRefused}
 use Rattle.check_evidence.specs.declared.rules.EvidenceRefused.TheVariants as evidence
 use Rattle.cms_types.specs.declared.fault.CmsFault.TheVariants as cms
 use Rattle.cms_compare.specs.declared.fault.CompareRule.{CompareRule}
@@ -14,7 +15,14 @@ use Rattle.cli_failures.specs.declared.failure.Failure.{Failure}
 use Rattle.cli_failures.specs.declared.failure.Failure.TheVariants as failure
 use Rattle.cli_failures.specs.declared.status.Status.{Status}
 use Rattle.cli_failures.specs.declared.status.Status.TheVariants as status
-use Rattle.cli_failures.specs.Failures.{status_of, sums_status, uncompared_status}
+use Rattle.cli_failures.specs.Failures.{status_of, sums_status, uncompared_status, unshown_status}
+
+unshown : (why : EvidenceRefused) → unshown_status why ≡ status.Done → ⊥
+unshown (evidence.Record (record_rule.Malformed fault)) ends = cc
+unshown (evidence.Record record_rule.Encrypted) ends = cc
+unshown (evidence.Record record_rule.NoData) ends = cc
+unshown (evidence.Stamp chain stamp rule) ends = cc
+unshown (evidence.Device fault) ends = cc
 
 uncompared : (rule : CompareRule) → uncompared_status rule ≡ status.Done → ⊥
 uncompared (compare.Malformed (cms.Malformed fault)) ends = cc
@@ -56,11 +64,8 @@ never_done failure.Collision ends = cc
 never_done (failure.Uncompared why) ends = uncompared why.rule ends
 never_done (failure.Unattached why) ends = cc
 never_done (failure.Unstamped why) ends = cc
-never_done (failure.Unshown (evidence.Record (record_rule.Malformed fault))) ends = cc
-never_done (failure.Unshown (evidence.Record record_rule.Encrypted)) ends = cc
-never_done (failure.Unshown (evidence.Record record_rule.NoData)) ends = cc
-never_done (failure.Unshown (evidence.Stamp chain stamp rule)) ends = cc
-never_done (failure.Unshown (evidence.Device fault)) ends = cc
+never_done (failure.Unshown why) ends = unshown why ends
+never_done (failure.Unevidenced why) ends = unshown why.refused ends
 never_done (failure.Trust fault) ends = cc
 never_done (failure.Answers fault) ends = cc
 never_done (failure.Sums fault) ends = not_read fault.rule ends

@@ -26,8 +26,8 @@ use Rattle.evidence_making.specs.declared.fault.LeafFault.{LeafFault}
 use Rattle.evidence_making.specs.FaultTexts.{leaf_fault_text, make_fault_text, stamp_fault_text}
 use Rattle.cli_failures.specs.declared.status.Status.{Status}
 use Rattle.cli_failures.specs.declared.status.Status.TheVariants as status
-use Rattle.cli_failures.specs.Failures.{said, malformed_line, refused_status, sums_status, uncompared_status}
-use Rattle.cli_failures.specs.Failures.{unshown_status}
+use Rattle.cli_failures.specs.Failures.{said, malformed_line, record_refused_text, refused_status, sums_status}
+use Rattle.cli_failures.specs.Failures.{uncompared_status, unshown_status}
 
 -- a writer took the line of a fault, if what it takes is known
 pub record TellsFault (before after : Option (List ℕ)) : Type 0 where
@@ -57,11 +57,17 @@ abbrev pub TellsSums : Status → (before after : Option (List ℕ)) → Type 0
 TellsSums ends before after = (fault : SumsFault) × (sums_status fault.rule ≡ ends)
     × Appends before after (sums_fault_text fault ++ (10 ∷ []))
 
+-- a writer took the line of an evidence record that was handed in beside another file, with which a command ends with
+-- this status, if what it takes is known
+abbrev pub TellsUnevidenced : Status → (before after : Option (List ℕ)) → Type 0
+TellsUnevidenced ends before after = (why : EvidenceRefused) × (unshown_status why ≡ ends)
+    × Appends before after (record_refused_text why ++ (10 ∷ []))
+
 -- a writer took the line of a file that isn't of its form, if what it takes is known
 abbrev pub TellsMalformed : (before after : Option (List ℕ)) → Type 0
 TellsMalformed before after = TellsFault before after ⊎ (TellsTrustFault before after
     ⊎ (TellsAnswersFault before after ⊎ (TellsUncompared status.Malformed before after
-    ⊎ TellsSums status.Malformed before after)))
+    ⊎ (TellsSums status.Malformed before after ⊎ TellsUnevidenced status.Malformed before after))))
 
 -- a writer took the line of a file that isn't a SignedData, if what it takes is known
 abbrev pub TellsAnotherType : (before after : Option (List ℕ)) → Type 0
@@ -91,10 +97,12 @@ abbrev pub TellsUnstamped : (before after : Option (List ℕ)) → Type 0
 TellsUnstamped before after = (why : TokenRule) × Appends before after
     (said (codes "refused") (token_rule_text why))
 
--- a writer took the line of a rule by which an evidence record is refused, if what it takes is known
+-- a writer took the line of a rule by which an evidence record is refused, by itself or beside another file, if what it
+-- takes is known
 abbrev pub TellsUnshown : (before after : Option (List ℕ)) → Type 0
-TellsUnshown before after = (why : EvidenceRefused) × (unshown_status why ≡ status.Refused)
-    × Appends before after (evidence_refused_text why ++ (10 ∷ []))
+TellsUnshown before after = ((why : EvidenceRefused) × (unshown_status why ≡ status.Refused)
+    × Appends before after (evidence_refused_text why ++ (10 ∷ [])))
+    ⊎ TellsUnevidenced status.Refused before after
 
 -- a writer took the line of a rule by which a token can't be the stamp of a root, if what it takes is known
 abbrev pub TellsUnstamping : (before after : Option (List ℕ)) → Type 0

@@ -1,4 +1,4 @@
-ghost use Rattle.std.specs.Prelude.{◌≡◌, Bool, MatchBool, MatchResult, IfErr, IfOk, IfSome, length};
+ghost use Rattle.std.specs.Prelude.{◌≡◌, Bool, MatchBool, MatchResult, IfErr, IfOk, length};
 ghost use Rattle.trust_lists.specs.Asking.{Asked, is_among};
 ghost use Rattle.check_verdict.specs.Checking.{ChecksStream};
 ghost use Rattle.check_verdict.specs.Checkers.{terms_for};
@@ -8,7 +8,6 @@ ghost use Rattle.cli_commands.specs.Lists.{IsAnswersOf, IsCheckerOf};
 ghost use Rattle.cli_commands.specs.Rereading.{OfReading};
 ghost use Rattle.check_fit.specs.FileFitting.{facts_of};
 ghost use Rattle.check_stream.specs.StreamVerdicts.{IsTooLong};
-ghost use Rattle.lines_report.specs.VerdictLine.{IsVerdictLine};
 
 use crate::lists;
 use crate::rereading::{Describes, Rereadable};
@@ -212,17 +211,6 @@ fn verdict_of<F: Read + Seek, S: Source>(
     check_stream_with(passing, checker, file, content, buffer, answers)
 }
 
-/// The line of a verdict, if there is memory: writing to a vector fails only if it is refused.
-fn reported(alloc: Global, verdict: &Result<Accepted, Refused>) -> Option<Vec<u8>>
-    ensures { IfSome result (λ line. IsVerdictLine verdict.now line.items) }
-{
-    let mut line = FromWrite::new(Vec::new(alloc));
-    let Ok(()) = report(verdict, &mut line) else {
-        return None;
-    };
-    Some(line.into_inner())
-}
-
 /// The line of a verdict, if it accepts.
 ///
 /// Errors: `Refused`, with why it doesn't; memory is refused for the line.
@@ -235,8 +223,10 @@ pub fn line_of<'a>(
     if let Err(refused) = verdict {
         return Err(Failure::Refused(refused));
     }
-    match reported(alloc, &verdict) {
-        Some(line) => Ok(line),
-        None => Err(Failure::Memory),
+    let mut line = FromWrite::new(Vec::new(alloc));
+    match report(&verdict, &mut line) {
+        Ok(()) => Ok(line.into_inner()),
+        // Writing to a vector fails only if memory is refused.
+        Err(_) => Err(Failure::Memory),
     }
 }

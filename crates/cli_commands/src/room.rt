@@ -14,7 +14,7 @@ const FIRST: u64 = 1_048_576;
 /// How much room a pass has at least, if it may: some files don't say how long they are.
 const LEAST: u64 = 4_096;
 
-/// The most octets that may be kept of a file: as many as the words say, and otherwise by whether it can be read again.
+/// How many octets of a file may be kept.
 pub fn limit_of(said: Option<u64>, again: bool) -> u64
     ensures { IsLimit said again result }
 {

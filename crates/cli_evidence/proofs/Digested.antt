@@ -22,7 +22,7 @@ use Rattle.cli_commands.specs.Judging.{IsContentHeld}
 use Rattle.cli_commands.specs.Stamping.{IsUnread}
 use Rattle.cli_commands.proofs.JudgedFiles.{given_by}
 use Rattle.cli_evidence.specs.Digesting.{AreDigested, IsDigested}
-use Rattle.cli_evidence.proofs.Zips.{all_push, zip_more, zip_push}
+use Rattle.cli_renewing.proofs.Zips.{all_push, zip_more, zip_push}
 
 -- ---- of one file
 

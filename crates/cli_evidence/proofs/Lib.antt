@@ -1,4 +1,6 @@
-pub mod Zips
 pub mod Digested
+pub mod Stating
 pub mod Unopened
 pub mod Checked
+pub mod CheckedUnder
+pub mod UnderLimits

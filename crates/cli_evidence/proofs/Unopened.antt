@@ -16,6 +16,7 @@ use Rattle.cli_failures.specs.declared.failure.Failure.TheVariants as failure
 use Rattle.cli_failures.specs.Files.{IsHeld}
 use Rattle.cli_evidence.specs.Checking.{IsUnopened}
 use Rattle.cli_evidence.specs.Questions.{HasNoRecordQuestions, ShowsNoRecordQuestions}
+use Rattle.cli_evidence.specs.Under.{IsUnopenedUnder}
 
 unopened_fails : (octets : List ℕ) (failed : RecordRule) → FailsToOpen octets failed → (data_objects : List (List ℕ))
     → RecordFails octets data_objects failed
@@ -34,6 +35,10 @@ module _ {F : Type 0} (holds : F → Option (List ℕ)) (octets : List ℕ) (fai
   pub unopened : (f : Failure) → FailsToOpen octets failed → f ≡ failure.Unshown (refused.Record failed)
       → IsUnopened holds f
   unopened f fails is = (octets, failed, held, unopened_fails octets failed fails, is)
+
+  pub unopened_under : (f : Failure) → FailsToOpen octets failed
+      → f ≡ failure.Unevidenced (record { refused = refused.Record failed }) → IsUnopenedUnder holds f
+  unopened_under f fails is = (octets, failed, held, unopened_fails octets failed fails, is)
 
   pub unasked : HasNoQuestions octets failed → IsUnopened holds (failure.Unshown (refused.Record failed))
   unasked fails = (octets, failed, held, unasked_fails octets failed fails, refl)

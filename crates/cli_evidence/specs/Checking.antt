@@ -3,7 +3,7 @@
 --
 -- The words are accepted with a moment, if a record that a file holds shows it for data that files hold, by the lists
 -- that files hold: `Shows` of check_evidence/specs/Showing.antt (RFC 4998, 5.3). Otherwise it is said why not.
-use Rattle.std.specs.Prelude.{◌≡◌, ◌⊎◌, ℕ, List, Option, None, Ok, MatchOption, IsSomeAnd, Any, codes}
+use Rattle.std.specs.Prelude.{◌≡◌, ◌⊎◌, ℕ, Bool, List, Option, None, Ok, MatchOption, IsSomeAnd, Any, codes}
 use Rattle.std.specs.Borrow.{Bor}
 use Rattle.std.specs.List.{AllZip}
 use Rattle.check_fit.specs.declared.rules.DeviceFault.{DeviceFault}
@@ -40,17 +40,22 @@ abbrev pub IsMomentAt : (at : Option (Bor (List ℕ))) → Option ℕ → Type 0
 IsMomentAt at moment = MatchOption at (moment ≡ None) (λ text. IsSomeAnd moment (IsTimeIn text.now))
 
 -- the grounds of a check: the text of a file is the trust list, and that of another file is an answers list; its
--- questions are vouched for, and no others; the words state the rest
-pub record IsGrounds {F : Type 0} (holds : F → Option (List ℕ)) (words : EvidenceWords) (g : Grounds) : Type 0 where
+-- questions are vouched for, and no others; words state the rest: ends, a moment, and whether the record may have other
+-- hash values than those of the data
+pub record IsGroundsBy {F : Type 0} (holds : F → Option (List ℕ)) (end_words : List (Bor (List ℕ)))
+    (at_word : Option (Bor (List ℕ))) (is_whole : Bool) (g : Grounds) : Type 0 where
   pub trust : IsTrustOf holds g.trust
   pub text : List ℕ
   pub read : IsHeld holds text
   pub asked : List Asked
   pub says : answers_of text ≡ Ok asked
   pub vouches : (q : Asked) → g.vouches q ≡ is_among asked q
-  pub ends : AreEndsIn words.ends.items g.ends
-  pub at : IsMomentAt words.at g.at
-  pub whole : g.whole ≡ words.whole
+  pub ends : AreEndsIn end_words g.ends
+  pub at : IsMomentAt at_word g.at
+  pub whole : g.whole ≡ is_whole
+
+abbrev pub IsGrounds : {F : Type 0} → (holds : F → Option (List ℕ)) → EvidenceWords → Grounds → Type 0
+IsGrounds holds words g = IsGroundsBy holds words.ends.items words.at words.whole g
 
 -- these are all the octets of the files of data, one for each path, in their order
 abbrev pub AreHeld : {F : Type 0} → (holds : F → Option (List ℕ)) → (paths : List (Bor (List ℕ)))
@@ -71,18 +76,32 @@ AcceptsData holds words text = (g : Grounds) × (octets : List ℕ) × (data_obj
 
 -- ---- why it is not accepted
 
--- the words state ends of algorithms
-abbrev pub AreEndsStated : EvidenceWords → Type 0
-AreEndsStated words = (ends : List AlgEnd) × AreEndsIn words.ends.items ends
+-- words state ends of algorithms
+abbrev pub AreEndsStatedBy : (words : List (Bor (List ℕ))) → Type 0
+AreEndsStatedBy words = (ends : List AlgEnd) × AreEndsIn words ends
 
 -- a word states no end of an algorithm; or the words for ends do, and the one for the moment states none
-abbrev pub IsUnstated : EvidenceWords → Failure → Type 0
-IsUnstated words f = (Names (codes "end") f × Any (λ word. StatesNoEnd word.now) words.ends.items)
-    ⊎ (Names (codes "at") f × AreEndsStated words × IsSomeAnd words.at (λ text. StatesNoTime text.now))
+abbrev pub IsUnstatedBy : (ends : List (Bor (List ℕ))) → (at : Option (Bor (List ℕ))) → Failure → Type 0
+IsUnstatedBy ends at f = (Names (codes "end") f × Any (λ word. StatesNoEnd word.now) ends)
+    ⊎ (Names (codes "at") f × AreEndsStatedBy ends × IsSomeAnd at (λ text. StatesNoTime text.now))
 
--- the words state ends and, where one is given, a moment
-abbrev pub AreStated : EvidenceWords → Type 0
-AreStated words = AreEndsStated words × ((at : Option ℕ) × IsMomentAt words.at at)
+-- words state ends and, where one is given, a moment
+abbrev pub AreStatedBy : (ends : List (Bor (List ℕ))) → (at : Option (Bor (List ℕ))) → Type 0
+AreStatedBy ends at = AreEndsStatedBy ends × ((moment : Option ℕ) × IsMomentAt at moment)
+
+-- a list's file can't be read or isn't a list, the trust list's first; or both are read, and there is a later failure
+abbrev pub RefusesListsBy : {F : Type 0} → (holds : F → Option (List ℕ)) → (trust answers : Bor (List ℕ))
+    → (Later : Failure → Type 0) → Failure → Type 0
+RefusesListsBy holds trust answers Later f = IsFailureOfTrust holds trust f
+    ⊎ ((entries : List EntryValue) × IsTrustOf holds entries × (IsFailureOfAnswers holds answers f
+    ⊎ ((vouched : List Asked) × IsAnswersOf holds vouched × Later f)))
+
+-- memory runs out; or the first of these fails: the words for ends, the one for the moment, the trust list, the answers
+-- list, and what comes later
+abbrev pub RefusesBy : {F : Type 0} → (holds : F → Option (List ℕ)) → (ends : List (Bor (List ℕ)))
+    → (at : Option (Bor (List ℕ))) → (trust answers : Bor (List ℕ)) → (Later : Failure → Type 0) → Failure → Type 0
+RefusesBy holds ends at trust answers Later f = (f ≡ failure.Memory)
+    ⊎ (IsUnstatedBy ends at f ⊎ (AreStatedBy ends at × RefusesListsBy holds trust answers Later f))
 
 -- V1 or V2: the record of a file fails a rule, whatever the data are
 abbrev pub IsUnopened : {F : Type 0} → (holds : F → Option (List ℕ)) → Failure → Type 0
@@ -112,13 +131,8 @@ RefusesOpen holds words f = (octets : List ℕ) × (wanted : Algs) × IsHeld hol
 abbrev pub RefusesRecord : {F : Type 0} → (holds : F → Option (List ℕ)) → EvidenceWords → Failure → Type 0
 RefusesRecord holds words f = IsFailureToRead words.record f ⊎ (IsUnopened holds f ⊎ RefusesOpen holds words f)
 
--- a list's file can't be read or isn't a list, the trust list's first; or both are read, and the record is refused
-abbrev pub RefusesLists : {F : Type 0} → (holds : F → Option (List ℕ)) → EvidenceWords → Failure → Type 0
-RefusesLists holds words f = IsFailureOfTrust holds words.trust f
-    ⊎ ((trust : List EntryValue) × IsTrustOf holds trust × (IsFailureOfAnswers holds words.answers f
-    ⊎ ((vouched : List Asked) × IsAnswersOf holds vouched × RefusesRecord holds words f)))
-
 -- memory runs out; or the first of these fails: the words for ends, the one for the moment, the trust list, the answers
 -- list, the record, the files of data, and what the record shows
 abbrev pub RefusesData : {F : Type 0} → (holds : F → Option (List ℕ)) → EvidenceWords → Failure → Type 0
-RefusesData holds words f = (f ≡ failure.Memory) ⊎ (IsUnstated words f ⊎ (AreStated words × RefusesLists holds words f))
+RefusesData holds words f =
+    RefusesBy holds words.ends.items words.at words.trust words.answers (RefusesRecord holds words) f

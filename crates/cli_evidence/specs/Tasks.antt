@@ -2,8 +2,8 @@
 -- `contents` what it has taken, if that is known.
 use Rattle.std.specs.Prelude.{◌≡◌, ◌⊎◌, ℕ, List, [], Option}
 use Rattle.cli_tasks.specs.declared.task.EvidenceTask.{EvidenceTask}
-use Rattle.cli_tasks.specs.declared.task.EvidenceTask.TheVariants.{Check, Questions, Request, Make, RequestRenewal}
-use Rattle.cli_tasks.specs.declared.task.EvidenceTask.TheVariants.{Rehash, Renew, RequestRehash}
+use Rattle.cli_tasks.specs.declared.task.EvidenceTask.TheVariants.{Check, CheckUnder, Questions, Request, Make}
+use Rattle.cli_tasks.specs.declared.task.EvidenceTask.TheVariants.{Rehash, Renew, RequestRehash, RequestRenewal}
 use Rattle.cli_failures.specs.declared.failure.Failure.{Failure}
 use Rattle.cli_failures.specs.Failures.{printed_text}
 use Rattle.cli_failures.specs.Output.{Begins}
@@ -13,10 +13,12 @@ use Rattle.cli_renewing.specs.Unrenewed.{MakesNoRenewalRequest, RenewsNot}
 use Rattle.cli_rehashing.specs.Unrehashed.{MakesNoRehashRequest, RehashesNot}
 use Rattle.cli_evidence.specs.Checking.{AcceptsData, RefusesData}
 use Rattle.cli_evidence.specs.Questions.{ShowsNoRecordQuestions, ShowsRecordQuestions}
+use Rattle.cli_evidence.specs.Under.{AcceptsUnder, RefusesUnder}
 
 -- what is printed for a task that is done: nothing for requests and for records, which were written
 abbrev pub IsDoneBy : {F : Type 0} → (holds : F → Option (List ℕ)) → EvidenceTask → (text : List ℕ) → Type 0
 IsDoneBy holds (Check words) text = AcceptsData holds words text
+IsDoneBy holds (CheckUnder words) text = AcceptsUnder holds words text
 IsDoneBy holds (Questions words) text = ShowsRecordQuestions holds text
 IsDoneBy holds (Request words) text = text ≡ []
 IsDoneBy holds (Make words) text = text ≡ []
@@ -28,6 +30,7 @@ IsDoneBy holds (Rehash words) text = text ≡ []
 -- how a task fails
 abbrev pub FailsBy : {F : Type 0} → (holds contents : F → Option (List ℕ)) → EvidenceTask → Failure → Type 0
 FailsBy holds contents (Check words) f = RefusesData holds words f
+FailsBy holds contents (CheckUnder words) f = RefusesUnder holds words f
 FailsBy holds contents (Questions words) f = ShowsNoRecordQuestions holds words f
 FailsBy holds contents (Request words) f = MakesNoRootRequest holds words f
 FailsBy holds contents (Make words) f = MakesNoRecords holds words f

@@ -1,24 +1,20 @@
 //! `evidence check`: whether an evidence record shows that data existed (RFC 4998 5.3).
-ghost use Rattle.std.specs.Prelude.{◌≡◌, ◌⊎◌, Any, IfErr, IfOk, IsSomeAnd, MatchResult, codes};
+ghost use Rattle.std.specs.Prelude.{◌≡◌, ◌⊎◌, Any, IfErr, IfOk, MatchResult};
 ghost use Rattle.judge_evidence.specs.RecordVerdicts.{IsWanted};
-ghost use Rattle.cli_failures.specs.Causes.{Names};
-ghost use Rattle.cli_failures.specs.Ends.{StatesNoEnd, StatesNoTime};
 ghost use Rattle.cli_failures.specs.Files.{IsFailureToOpen};
-ghost use Rattle.cli_evidence.specs.Checking.{AcceptsData, AreEndsIn, IsMomentAt, RefusesData};
+ghost use Rattle.cli_evidence.specs.Checking.{AcceptsData, RefusesData};
 ghost use Rattle.cli_evidence.specs.Digesting.{AreDigested, IsDigested, IsUndigested, TellsUnwanted};
 ghost use Rattle.cli_evidence.specs.Verdicts.{TellsAccepted, TellsRefused};
 
+use crate::stated::stated_in;
 use check_evidence::EvidenceRefused;
 use check_fit::digests_from;
 use check_verdict::Accepted;
-use cli_commands::{answers_in, line_of, trust_in};
-use cli_failures::ends::{end_of, moment_of};
+use cli_commands::line_of;
 use cli_failures::{Failure, files};
 use cli_tasks::EvidenceWords;
-use der_time::Moment;
 use devices::FromRead;
 use digests::{Algs, WantedDigests};
-use evidence_stamps::End;
 use judge_evidence::{check_evidence, wanted_by};
 use std::alloc::Global;
 use std::rt::Files;
@@ -36,10 +32,8 @@ pub fn check_record<'a, R: Files + AllocGlobal>(
     ensures accepted { IfOk result (λ line. AcceptsData R.File.remaining words.now line.items) }
     ensures refused { IfErr result (RefusesData R.File.remaining words.now) }
 {
-    let ends = ends_of(rt.alloc(), words)?;
-    let at = moment_at(words.at)?;
-    let trust = trust_in(rt, words.trust)?;
-    let mut answers = answers_in(rt, words.answers)?;
+    let mut by = stated_in(rt, &words.ends, words.at, words.trust, words.answers)?;
+    let at = by.at;
     let octets = files::read_whole(rt, words.record)?;
     let record = octets.as_slice();
     let wanted = wanted_of(record)?;
@@ -48,40 +42,13 @@ pub fn check_record<'a, R: Files + AllocGlobal>(
         rt.alloc(),
         record,
         digests.as_slice(),
-        &trust,
-        ends.as_slice(),
+        &by.trust,
+        by.ends.as_slice(),
         at,
         words.whole,
-        &mut answers,
+        &mut by.answers,
     );
     told(rt.alloc(), verdict)
-}
-
-/// The ends that these words state, in their order.
-///
-/// Errors: `Usage`, which names `end`, at the first word that states none; memory that is refused.
-fn ends_of<'a>(alloc: Global, words: &EvidenceWords<'_>) -> Result<Vec<End>, Failure<'a>>
-    ensures found { IfOk result (λ ends. AreEndsIn words.now.ends.items ends.items) }
-    ensures refused { IfErr result (λ f. (f ≡ Failure.Memory)
-        ⊎ (Names (codes "end") f × Any (λ word. StatesNoEnd word.now) words.now.ends.items)) }
-{
-    let mut ends = Vec::new(alloc);
-    for word in &words.ends {
-        ends.push(end_of(word)?)?;
-    }
-    Ok(ends)
-}
-
-/// The moment that a word states, if there is one.
-fn moment_at<'a>(at: Option<&str>) -> Result<Option<Moment>, Failure<'a>>
-    ensures found { IfOk result (IsMomentAt at.entry) }
-    ensures refused { IfErr result (λ f. Names (codes "at") f
-        × IsSomeAnd at.entry (λ text. StatesNoTime text.now)) }
-{
-    match at {
-        None => Ok(None),
-        Some(text) => Ok(Some(moment_of(text)?)),
-    }
 }
 
 /// The algorithms by which the data of a record must be digested.

@@ -6,6 +6,8 @@
 mod check;
 mod questions;
 mod running;
+mod stated;
+mod under;
 
 pub use questions::record_questions_by;
 pub use running::run;

@@ -19,6 +19,7 @@ ghost use Rattle.cli_evidence.specs.Tasks.{FailsBy, IsDoneBy, StopsBy};
 
 use crate::check::check_record;
 use crate::questions::record_questions;
+use crate::under::check_signed;
 use cli_failures::output::put;
 use cli_failures::{Failure, Status};
 use cli_making::{make_records, make_root_request};
@@ -117,6 +118,7 @@ fn text_of<'a, R: Files + AllocGlobal>(
 {
     match task {
         EvidenceTask::Check(words) => check_record(rt, words),
+        EvidenceTask::CheckUnder(words) => check_signed(rt, words),
         EvidenceTask::Questions(words) => record_questions(rt, words),
         EvidenceTask::Request(words) => make_root_request(rt, words),
         EvidenceTask::Make(words) => make_records(rt, words),

@@ -11,15 +11,15 @@ use Rattle.der_core.specs.Times.{is_generalized}
 use Rattle.cli_failures.specs.Ends.{IsEndIn, IsTimeIn, StatesNoEnd, StatesNoTime}
 
 -- the octet is `=`
-abbrev is_equals : ℕ → Bool
+abbrev pub is_equals : ℕ → Bool
 is_equals b = eqb b 61
 
 -- a name, `=` and a time
-abbrev joined : Alg → (time : List ℕ) → List ℕ
+abbrev pub joined : Alg → (time : List ℕ) → List ℕ
 joined a time = name_of a ++ (codes "=" ++ time)
 
 -- no name of an algorithm has `=`
-time_after : (a : Alg) (time : List ℕ) → after_first is_equals (joined a time) ≡ time
+pub time_after : (a : Alg) (time : List ℕ) → after_first is_equals (joined a time) ≡ time
 time_after alg.Sha1 time = refl
 time_after alg.Sha224 time = refl
 time_after alg.Sha256 time = refl

@@ -1,5 +1,6 @@
 -- What is printed for a failure, and how a command ends with it.
 use Rattle.std.specs.Prelude.{ℕ, List, [], ◌∷◌, ◌++◌, Option, Some, None, codes}
+use Rattle.std.specs.Fmt.{decimal}
 use Rattle.std.specs.String.{string_bytes}
 use Rattle.der_core.specs.declared.fault.ReadFault.{ReadFault}
 use Rattle.der_core.specs.declared.fault.ReadFault.TheVariants as read
@@ -22,11 +23,12 @@ use Rattle.check_questions.specs.FaultTexts.{questions_fault_text}
 use Rattle.check_fit.specs.declared.rules.FileRule.TheVariants as file
 use Rattle.check_fit.specs.declared.rules.Refused.{Refused}
 use Rattle.check_fit.specs.declared.rules.Refused.TheVariants as refused
-use Rattle.check_fit.specs.RuleTexts.{refused_text, token_rule_text}
+use Rattle.check_fit.specs.RuleTexts.{device_fault_text, refused_text, token_rule_text}
+use Rattle.check_evidence.specs.declared.rules.RecordRule.{RecordRule}
 use Rattle.check_evidence.specs.declared.rules.RecordRule.TheVariants as record_rule
 use Rattle.check_evidence.specs.declared.rules.EvidenceRefused.{EvidenceRefused}
 use Rattle.check_evidence.specs.declared.rules.EvidenceRefused.TheVariants as evidence
-use Rattle.check_evidence.specs.EvidenceTexts.{evidence_refused_text}
+use Rattle.check_evidence.specs.EvidenceTexts.{evidence_refused_text, record_rule_text, stamp_rule_text}
 use Rattle.evidence_sums.specs.declared.sums_fault.SumsFault.{SumsFault}
 use Rattle.evidence_sums.specs.declared.sums_fault.SumsRule.{SumsRule}
 use Rattle.evidence_sums.specs.declared.sums_fault.SumsRule.TheVariants as sums
@@ -61,6 +63,18 @@ abbrev pub malformed_line : Option Message → Fault → List ℕ
 malformed_line None fault = said (codes "malformed") (fault_text fault)
 malformed_line (Some m) fault = said (codes "malformed") (message_text m ++ codes " " ++ fault_text fault)
 
+-- of a record that is handed in beside another file: that it can't be read, or which rule it fails
+abbrev pub record_failed_text : RecordRule → List ℕ
+record_failed_text (record_rule.Malformed fault) = codes "malformed record " ++ fault_text fault
+record_failed_text failed = codes "refused record " ++ record_rule_text failed
+
+-- the line that reports its refusal, without its end
+abbrev pub record_refused_text : EvidenceRefused → List ℕ
+record_refused_text (evidence.Record failed) = record_failed_text failed
+record_refused_text (evidence.Stamp chain stamp failed) = codes "refused record chain " ++ decimal chain
+    ++ codes " stamp " ++ decimal stamp ++ codes " " ++ stamp_rule_text failed
+record_refused_text (evidence.Device fault) = codes "failed " ++ device_fault_text fault
+
 -- what is printed: a line, or the text of the parser of the words
 abbrev pub failure_text : Failure → List ℕ
 failure_text (failure.Words text) = string_bytes text
@@ -73,6 +87,7 @@ failure_text (failure.Unmatched why) = said (codes "refused") (match_fault_text 
 failure_text (failure.Refused why) = refused_text why ++ (10 ∷ [])
 failure_text (failure.Unstamped why) = said (codes "refused") (token_rule_text why)
 failure_text (failure.Unshown why) = evidence_refused_text why ++ (10 ∷ [])
+failure_text (failure.Unevidenced why) = record_refused_text why.refused ++ (10 ∷ [])
 failure_text (failure.Unasked fault) = questions_fault_text fault ++ (10 ∷ [])
 failure_text failure.Different = codes "different" ++ (10 ∷ [])
 failure_text failure.Collision = codes "collision" ++ (10 ∷ [])
@@ -137,6 +152,7 @@ status_of (failure.Unmatched why) = status.Refused
 status_of (failure.Refused why) = refused_status why
 status_of (failure.Unstamped why) = status.Refused
 status_of (failure.Unshown why) = unshown_status why
+status_of (failure.Unevidenced why) = unshown_status why.refused
 status_of (failure.Unasked fault) = unasked_status fault
 status_of failure.Different = status.Refused
 status_of failure.Collision = status.Refused

@@ -25,8 +25,8 @@ use tsp_requester::{AttachFault, MatchFault};
 pub const STANDARD_OUTPUT: &str = "-";
 
 /// The room for a line that goes to the standard output. None of these has a path. By `failure_text` and the texts that
-/// it names, the longest is `refused chain N stamp N W4 K1 M4 LengthForm at N`: 106 octets, if each number has 20
-/// digits.
+/// it names, the longest is `refused record chain N stamp N W4 K1 M4 LengthForm at N`: 113 octets, if each number has
+/// 20 digits.
 const ROOM: usize = 256;
 
 /// Which message of the time-stamp protocol a file holds, if a command reads both.
@@ -49,6 +49,34 @@ impl fmt::Display for Message {
             Message::Request => "request",
             Message::Response => "response",
         })
+    }
+}
+
+/// Why the evidence record is refused that is handed in beside another file. `Display` prints the line that says so,
+/// which names the record, without its end.
+#[derive(Clone, Copy, Debug, PartialEq, Eq)]
+pub struct OfRecord {
+    /// The rule of the record, or the device that failed.
+    pub refused: EvidenceRefused,
+}
+
+impl fmt::Display for OfRecord {
+    ghost use Rattle.std.specs.Prelude.{Some};
+    ghost use Rattle.cli_failures.specs.Failures.{record_refused_text};
+
+    ghost output = { λ r. Some (record_refused_text r.refused) };
+
+    fn fmt<W: fmt::Write>(&self, f: &mut fmt::Formatter<W>) -> fmt::Result {
+        match self.refused {
+            EvidenceRefused::Record(RecordRule::Malformed(fault)) => {
+                write!(f, "malformed record {fault}")
+            }
+            EvidenceRefused::Record(rule) => write!(f, "refused record {rule}"),
+            EvidenceRefused::Stamp { chain, stamp, rule } => {
+                write!(f, "refused record chain {chain} stamp {stamp} {rule}")
+            }
+            EvidenceRefused::Device(fault) => write!(f, "failed {fault}"),
+        }
     }
 }
 
@@ -75,6 +103,8 @@ pub enum Failure<'a> {
     Unstamped(TokenRule),
     /// The evidence record does not show that the data existed, by this rule, or a device failed.
     Unshown(EvidenceRefused),
+    /// The evidence record of a signed file does not show that this existed, by this rule, or a device failed.
+    Unevidenced(OfRecord),
     /// The questions of the file were not printed.
     Unasked(QuestionsFault),
     /// Other digest algorithms are named, or other octets are signed.
@@ -140,6 +170,7 @@ impl fmt::Display for Failure<'_> {
             Failure::Refused(refused) => write!(f, "{refused}\n"),
             Failure::Unstamped(rule) => write!(f, "refused {rule}\n"),
             Failure::Unshown(refused) => write!(f, "{refused}\n"),
+            Failure::Unevidenced(refused) => write!(f, "{refused}\n"),
             Failure::Unasked(fault) => write!(f, "{fault}\n"),
             Failure::Different => f.write_str("different\n"),
             Failure::Collision => f.write_str("collision\n"),
@@ -397,7 +428,9 @@ impl<'a> Failure<'a> {
             Failure::Trust(_) | Failure::Answers(_) => Status::Malformed,
             Failure::Unasked(fault) => unasked_status(*fault),
             Failure::Refused(refused) => refused_status(*refused),
-            Failure::Unshown(refused) => unshown_status(*refused),
+            Failure::Unshown(refused) | Failure::Unevidenced(OfRecord { refused }) => {
+                unshown_status(*refused)
+            }
             Failure::Words(_) | Failure::NotText | Failure::Usage(_) => Status::Usage,
             _ => Status::Failed,
         }

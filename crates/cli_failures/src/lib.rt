@@ -16,5 +16,5 @@ pub mod signature;
 mod status;
 pub mod token;
 
-pub use failure::{Failure, Message, STANDARD_OUTPUT};
+pub use failure::{Failure, Message, OfRecord, STANDARD_OUTPUT};
 pub use status::Status;

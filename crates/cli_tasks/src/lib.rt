@@ -8,5 +8,5 @@ pub use task::{
     EvidenceTask, EvidenceWords, FitEach, FitWords, ListWords, MakeWords, Many, MatchWords,
     MigrateWords, QuestionsEach, QuestionsWords, RehashRequestWords, RehashWords, RenewWords,
     RenewalRequestWords, RequestWords, RootRequestWords, Several, StampQuestionsWords, StampWords,
-    Stamped, Task, TextTask,
+    Stamped, Task, TextTask, UnderWords,
 };

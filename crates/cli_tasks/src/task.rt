@@ -182,6 +182,8 @@ pub struct StampQuestionsWords<'a> {
 pub enum EvidenceTask<'a> {
     /// To say by when data existed, by a record.
     Check(EvidenceWords<'a>),
+    /// To say by when the signatures of a file existed, under a record.
+    CheckUnder(UnderWords<'a>),
     /// To print what a verifier must be asked about a record.
     Questions(EvidenceQuestionsWords<'a>),
     /// To make the request for a stamp of the root of the tree over the digests of many files.
@@ -216,6 +218,28 @@ pub struct EvidenceWords<'a> {
     pub record: &'a str,
     /// The paths of the files that it should be for.
     pub data: Vec<&'a str>,
+}
+
+/// The signed file that is checked under an evidence record, the record, the lists that both are checked with, and how
+/// long algorithms and the last time-stamp of the record hold.
+#[derive(Debug, Drop)]
+pub struct UnderWords<'a> {
+    /// The path of the file that holds the trust list.
+    pub trust: &'a str,
+    /// The path of the file that holds the answers list.
+    pub answers: &'a str,
+    /// The path of the file that holds the record.
+    pub record: &'a str,
+    /// The ends of algorithms: a name, `=` and a time each.
+    pub ends: Vec<&'a str>,
+    /// The moment at which the last time-stamp of the record must hold, if the words say.
+    pub at: Option<&'a str>,
+    /// The path of the file that is the content, if the SignedData doesn't have it.
+    pub content: Option<&'a str>,
+    /// How many octets of the SignedData may be kept, if the words say.
+    pub buffer: Option<u64>,
+    /// The path of the file that holds the SignedData.
+    pub file: &'a str,
 }
 
 /// The evidence record whose questions are printed, and who is trusted.

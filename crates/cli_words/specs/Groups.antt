@@ -4,12 +4,14 @@ use Rattle.cli_tasks.specs.declared.task.About.{About}
 use Rattle.cli_tasks.specs.declared.task.About.TheVariants as about
 use Rattle.cli_tasks.specs.declared.task.Each.{Each}
 use Rattle.cli_tasks.specs.declared.task.Each.TheVariants as each
+use Rattle.cli_tasks.specs.declared.task.EvidenceTask.{EvidenceTask}
+use Rattle.cli_tasks.specs.declared.task.EvidenceTask.TheVariants as evidence
 use Rattle.cli_tasks.specs.declared.task.Task.{Task}
 use Rattle.cli_tasks.specs.declared.task.Task.TheVariants as task
 use Rattle.cli_tasks.specs.declared.task.TextTask.{TextTask}
 use Rattle.cli_tasks.specs.declared.task.TextTask.TheVariants as text
-use Rattle.cli_words.specs.declared.group.Group.{Group}
-use Rattle.cli_words.specs.declared.group.Group.TheVariants as group
+use Rattle.cli_words.specs.declared.grammar.Group.{Group}
+use Rattle.cli_words.specs.declared.grammar.Group.TheVariants as group
 
 -- the word behind the program's name names this group; any other word is one of the program's own commands, or none
 abbrev pub IsNamed : Group → (word : List ℕ) → Type 0
@@ -33,6 +35,11 @@ text_group_of _ = group.Program
 abbrev pub group_of : Task → Group
 group_of (task.Questions words) = group.Program
 group_of (task.Text t) = text_group_of t
+
+-- the same for a task about an evidence record: a signed file is checked under one by the program's own `check`
+abbrev pub evidence_group_of : EvidenceTask → Group
+evidence_group_of (evidence.CheckUnder words) = group.Program
+evidence_group_of _ = group.Evidence
 
 -- the same for what the files hold whose questions are printed
 abbrev pub about_group_of : About → Group

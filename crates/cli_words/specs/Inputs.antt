@@ -51,6 +51,8 @@ task_paths (task.Text t) = text_paths t
 abbrev pub evidence_paths : EvidenceTask → List (List ℕ)
 evidence_paths (evidence.Check words) = words.trust.now ∷ words.answers.now ∷ words.record.now
     ∷ map (λ s. s.now) words.data.items
+evidence_paths (evidence.CheckUnder words) = with_content words.content
+    (words.trust.now ∷ words.answers.now ∷ words.record.now ∷ words.file.now ∷ [])
 evidence_paths (evidence.Questions words) = words.trust.now ∷ words.record.now ∷ []
 evidence_paths (evidence.Request words) = words.sums.now ∷ []
 evidence_paths (evidence.Make words) = words.token.now ∷ words.sums.now ∷ []

@@ -1,5 +1,5 @@
 -- The values that the parser of the command line found for a command about evidence records.
-use Rattle.std.specs.Prelude.{◌≡◌, ◌≢◌, ℕ, List, [], None, Some, map, option_map, unwrap_or, codes}
+use Rattle.std.specs.Prelude.{◌≡◌, ◌≢◌, ℕ, false, List, [], None, Some, map, option_map, unwrap_or, codes}
 use Rattle.clap.specs.Matches.{first_value, matched_of, raw_values}
 use Rattle.clap.specs.declared.parser.matches.Found.{Found}
 use Rattle.cli_tasks.specs.declared.task.EvidenceQuestionsWords.{EvidenceQuestionsWords}
@@ -12,7 +12,8 @@ use Rattle.cli_tasks.specs.declared.task.RehashWords.{RehashWords}
 use Rattle.cli_tasks.specs.declared.task.RenewWords.{RenewWords}
 use Rattle.cli_tasks.specs.declared.task.RenewalRequestWords.{RenewalRequestWords}
 use Rattle.cli_tasks.specs.declared.task.RootRequestWords.{RootRequestWords}
-use Rattle.cli_words.specs.Words.{IsFlagIn}
+use Rattle.cli_tasks.specs.declared.task.UnderWords.{UnderWords}
+use Rattle.cli_words.specs.Words.{IsBufferIn, IsFlagIn}
 
 -- all values of an argument, in the order of the words; none if it isn't on the command line
 abbrev pub all_values : Found → (name : List ℕ) → List (List ℕ)
@@ -28,6 +29,18 @@ pub record IsEvidenceIn (given : Found) (words : EvidenceWords) : Type 0 where
   pub path : first_value given (codes "RECORD") ≡ Some words.record.now
   pub covered : map (λ s. s.now) words.data.items ≡ all_values given (codes "DATA")
   pub some : words.data.items ≢ []
+
+-- the same for a signed file that is checked under a record: the words don't allow SHA-1
+pub record IsUnderIn (given : Found) (words : UnderWords) : Type 0 where
+  pub trust : first_value given (codes "trust") ≡ Some words.trust.now
+  pub answers : first_value given (codes "answers") ≡ Some words.answers.now
+  pub path : first_value given (codes "evidence") ≡ Some words.record.now
+  pub ends : map (λ s. s.now) words.ends.items ≡ all_values given (codes "end")
+  pub at : option_map (λ s. s.now) words.at ≡ first_value given (codes "at")
+  pub content : option_map (λ s. s.now) words.content ≡ first_value given (codes "content")
+  pub no_sha1 : IsFlagIn given (codes "sha1") false
+  pub buffer : IsBufferIn given words.buffer
+  pub file : first_value given (codes "FILE") ≡ Some words.file.now
 
 -- the same for a record whose questions are printed
 pub record IsEvidenceQuestionsIn (given : Found) (words : EvidenceQuestionsWords) : Type 0 where
@@ -83,6 +96,7 @@ pub record IsRehashIn (given : Found) (words : RehashWords) : Type 0 where
 -- the same for every task about records
 abbrev pub IsEvidenceTaskIn : Found → EvidenceTask → Type 0
 IsEvidenceTaskIn given (task.Check words) = IsEvidenceIn given words
+IsEvidenceTaskIn given (task.CheckUnder words) = IsUnderIn given words
 IsEvidenceTaskIn given (task.Questions words) = IsEvidenceQuestionsIn given words
 IsEvidenceTaskIn given (task.Request words) = IsRootRequestIn given words
 IsEvidenceTaskIn given (task.Make words) = IsMakeIn given words
@@ -91,9 +105,10 @@ IsEvidenceTaskIn given (task.Renew words) = IsRenewIn given words
 IsEvidenceTaskIn given (task.RequestRehash words) = IsRehashRequestIn given words
 IsEvidenceTaskIn given (task.Rehash words) = IsRehashIn given words
 
--- the command that asks for such a task, behind `evidence`
+-- the command that asks for such a task, behind `evidence`, but for the check of a signed file
 abbrev pub evidence_command_of : EvidenceTask → List ℕ
 evidence_command_of (task.Check words) = codes "check"
+evidence_command_of (task.CheckUnder words) = codes "check"
 evidence_command_of (task.Questions words) = codes "questions"
 evidence_command_of (task.Request words) = codes "request"
 evidence_command_of (task.Make words) = codes "make"

@@ -13,8 +13,8 @@ use Rattle.cli_tasks.specs.declared.task.QuestionsEach.{QuestionsEach}
 use Rattle.cli_tasks.specs.declared.task.Several.{Several}
 use Rattle.cli_tasks.specs.declared.task.Several.TheVariants as several
 use Rattle.cli_words.specs.Groups.{each_group_of, place_of}
-use Rattle.cli_words.specs.Words.{IsBufferIn, IsFlagIn}
-use Rattle.cli_words.specs.declared.group.Group.{Group}
+use Rattle.cli_words.specs.Words.{AreCheckValuesIn, IsBufferIn, IsFlagIn}
+use Rattle.cli_words.specs.declared.grammar.Group.{Group}
 
 -- the files are those that the words name in the places of this name, in their order, or those of the list that the
 -- words name
@@ -24,13 +24,9 @@ IsSeveralIn place given (several.Words paths) = option_map raw_values (matched_o
 IsSeveralIn place given (several.Listed words) = (first_value given (codes "files-from") ≡ Some words.list.now)
     × IsFlagIn given (codes "null") words.null
 
--- the values that each file is checked with are those of the arguments of their names
-pub record IsCheckEachIn (given : Found) (words : CheckEach) : Type 0 where
-  pub trust : first_value given (codes "trust") ≡ Some words.trust.now
-  pub answers : first_value given (codes "answers") ≡ Some words.answers.now
-  pub content : option_map (λ s. s.now) words.content ≡ first_value given (codes "content")
-  pub sha1 : IsFlagIn given (codes "sha1") words.sha1
-  pub buffer : IsBufferIn given words.buffer
+-- the values that each file is checked with are those of the arguments of their names, and there is no record
+abbrev pub IsCheckEachIn : Found → CheckEach → Type 0
+IsCheckEachIn given words = AreCheckValuesIn given words.trust words.answers words.content words.sha1 words.buffer
 
 -- the same for those that each file is compared with
 pub record IsFitEachIn (given : Found) (words : FitEach) : Type 0 where

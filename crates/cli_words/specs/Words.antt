@@ -1,6 +1,7 @@
 -- The values that the parser of the command line found, and what it says instead of them.
 use Rattle.std.specs.Prelude.{◌≡◌, ◌<◌, ◌≤◌, ◌^◌, ℕ, Bool, true, false, List, Option, None, Some, option_map, unwrap_or}
 use Rattle.std.specs.Prelude.{codes, IfSome}
+use Rattle.std.specs.Borrow.{Bor}
 use Rattle.std.specs.Str.Parse.{IsNumeral, digits_value, without_leading_plus}
 use Rattle.clap.specs.Matches.{first_value, one_text}
 use Rattle.clap.specs.declared.parser.matches.Found.{Found}
@@ -102,14 +103,26 @@ pub record IsMigrateIn (given : Found) (words : MigrateWords) : Type 0 where
   pub list : first_value given (codes "LIST") ≡ Some words.list.now
   pub out : first_value given (codes "OUT") ≡ Some words.out.now
 
+-- nothing of an evidence record is on the command line
+pub record IsWithoutRecord (given : Found) : Type 0 where
+  pub no_path : first_value given (codes "evidence") ≡ None
+  pub no_end : first_value given (codes "end") ≡ None
+  pub no_moment : first_value given (codes "at") ≡ None
+
+-- the same for the lists that files are checked with, a content and what is allowed, under no record
+pub record AreCheckValuesIn (given : Found) (trust answers : Bor (List ℕ)) (content : Option (Bor (List ℕ)))
+    (sha1 : Bool) (buffer : Option ℕ) : Type 0 where
+  pub alone : IsWithoutRecord given
+  pub trust_named : first_value given (codes "trust") ≡ Some trust.now
+  pub answers_named : first_value given (codes "answers") ≡ Some answers.now
+  pub content_named : option_map (λ s. s.now) content ≡ first_value given (codes "content")
+  pub allowed : IsFlagIn given (codes "sha1") sha1
+  pub kept : IsBufferIn given buffer
+
 -- the same for a file that is checked
-pub record IsCheckIn (given : Found) (words : CheckWords) : Type 0 where
-  pub trust : first_value given (codes "trust") ≡ Some words.trust.now
-  pub answers : first_value given (codes "answers") ≡ Some words.answers.now
-  pub content : option_map (λ s. s.now) words.content ≡ first_value given (codes "content")
-  pub sha1 : IsFlagIn given (codes "sha1") words.sha1
-  pub buffer : IsBufferIn given words.buffer
-  pub file : first_value given (codes "FILE") ≡ Some words.file.now
+abbrev pub IsCheckIn : Found → CheckWords → Type 0
+IsCheckIn given words = AreCheckValuesIn given words.trust words.answers words.content words.sha1 words.buffer
+    × (first_value given (codes "FILE") ≡ Some words.file.now)
 
 -- the same for a file whose questions are printed
 pub record IsQuestionsIn (given : Found) (words : QuestionsWords) : Type 0 where

@@ -31,11 +31,20 @@ fn taking<'a>(arg: Arg<'a>, word: &'static Word) -> Result<Arg<'a>, AllocError> 
             .long(word.name)
             .action(ArgAction::SetTrue)
             .requires_arg(list),
-        _ => Ok(taking_one(arg, word)),
+        _ => beside(taking_one(arg, word), word),
     }
 }
 
-/// The same for a word that may stand beside any other.
+/// The word, if it stands only beside another one, or beside neither of two.
+fn beside<'a>(arg: Arg<'a>, word: &'static Word) -> Result<Arg<'a>, AllocError> {
+    match word.takes {
+        Takes::TextOf(other, _) | Takes::TextsOf(other, _) => arg.requires_arg(other),
+        Takes::TextApart(one, other, _) => arg.conflicts_with(one)?.conflicts_with(other),
+        _ => Ok(arg),
+    }
+}
+
+/// The word, taking what it takes, whatever it may stand beside.
 fn taking_one<'a>(arg: Arg<'a>, word: &'static Word) -> Arg<'a> {
     match word.takes {
         Takes::Place | Takes::Places(_) => valued(arg, word.name),
@@ -43,8 +52,13 @@ fn taking_one<'a>(arg: Arg<'a>, word: &'static Word) -> Arg<'a> {
         Takes::Several => valued(arg, word.name)
             .num_args(1..)
             .action(ArgAction::Append),
-        Takes::Text(value) | Takes::List(_, value) => valued(arg.long(word.name), value),
-        Takes::Texts(value) => valued(arg.long(word.name), value).action(ArgAction::Append),
+        Takes::Text(value)
+        | Takes::List(_, value)
+        | Takes::TextOf(_, value)
+        | Takes::TextApart(_, _, value) => valued(arg.long(word.name), value),
+        Takes::Texts(value) | Takes::TextsOf(_, value) => {
+            valued(arg.long(word.name), value).action(ArgAction::Append)
+        }
         Takes::Number => { valued(arg.long(word.name), "N").value_parser(clap::value_parser!(u64)) }
         Takes::Octets => valued(arg.long(word.name), "N").value_parser(clap::value_parser!(
             u64

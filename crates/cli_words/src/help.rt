@@ -235,8 +235,23 @@ to the N of --buffer or 64 MiB; of a pipe, which is read once, up to N or 1 MiB.
 Of several FILEs there is a line for each, as the help of `cmsproof` says. If a list fails, its line
 stands alone, and no FILE is opened.
 
+With --evidence the file RECORD, an evidence record (RFC 4998), must show by some moment that FILE
+existed, and CONTENT too if it is given. Then FILE is judged as one could judge it at that moment: a
+digest algorithm is allowed if it holds then (S5, K8), so --sha1 has no place; and a stamp passes
+only if it isn't later, under a certificate that is valid and trusted at that moment too (K13). So
+stamps count that were good then, whatever ended since. TIME is theirs, as without RECORD. How
+RECORD is judged, and what --end and --at say, is in the help of `evidence check`: DATA are FILE and
+CONTENT.
+Its lines name it: `malformed record FAULT`, `refused record V2 Encrypted`, `refused record chain C
+stamp S RULE`. It stands beside one FILE: of several the line is `usage FILE` (status 3). ANSWERS is
+made from what `questions` prints of FILE and what `evidence questions` prints of RECORD.
+RECORD is opened after ANSWERS, then FILE and then CONTENT, which are read whole, once; none of the
+two is opened after V1 and V2. Each may have up to 4294967301 octets, or the line is `failed size`.
+Without --buffer up to 64 MiB of FILE are kept.
+
 Examples:
   cmsproof check --trust trusted.txt --answers answers.txt --content document.pdf signed.p7s
+  cmsproof check --trust trusted.txt --answers answers.txt --evidence record.ers signed.p7s
   zcat signed.p7s.gz | cmsproof check --trust trusted.txt --answers answers.txt /dev/stdin
   cmsproof check --trust trusted.txt --answers answers.txt signed.p7s stamped.p7s
   find . -name '*.p7s' -print0 | cmsproof check --trust trusted.txt --answers answers.txt \

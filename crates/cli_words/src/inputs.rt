@@ -16,9 +16,10 @@ pub fn is_read_twice(task: &Task<'_>) -> bool
         Task::Questions(words) => is_twice(&[words.trust], &[words.file]),
         Task::Text(task) => match task {
             TextTask::Check(words) => {
-                is_twice_with(words.content, &[words.trust, words.answers, words.file])
+                let paths = [words.trust, words.answers, words.file];
+                is_twice(words.content.as_slice(), &paths)
             }
-            TextTask::Fit(words) => is_twice_with(words.content, &[words.file]),
+            TextTask::Fit(words) => is_twice(words.content.as_slice(), &[words.file]),
             TextTask::Match(words) => is_twice(&[words.request], &[words.response]),
             TextTask::Compare(words) => is_twice(&[words.first_file], &[words.second_file]),
             TextTask::Attach(words) => is_twice(&[words.token], &[words.file]),
@@ -47,6 +48,10 @@ pub fn is_evidence_read_twice(task: &EvidenceTask<'_>) -> bool
             let lists_and_record = [words.trust, words.answers, words.record];
             is_twice(&lists_and_record, words.data.as_slice())
         }
+        EvidenceTask::CheckUnder(words) => {
+            let paths = [words.trust, words.answers, words.record, words.file];
+            is_twice(words.content.as_slice(), &paths)
+        }
         EvidenceTask::Questions(words) => is_twice(&[words.trust], &[words.record]),
         EvidenceTask::Request(words) => is_twice(&[words.sums], &[]),
         EvidenceTask::Make(words) => is_twice(&[words.token], &[words.sums]),
@@ -64,9 +69,12 @@ pub fn is_read_again(many: &Many<'_>) -> bool
 {
     match &many.each {
         Each::Check(words) => {
-            is_input(words.content) || is_in_several(&[words.trust, words.answers], &many.files)
+            inputs_among(words.content.as_slice()) > 0
+                || is_in_several(&[words.trust, words.answers], &many.files)
         }
-        Each::Fit(words) => is_input(words.content) || is_in_several(&[], &many.files),
+        Each::Fit(words) => {
+            inputs_among(words.content.as_slice()) > 0 || is_in_several(&[], &many.files)
+        }
         Each::Questions(words) => is_in_several(&[words.trust], &many.files),
     }
 }
@@ -78,26 +86,6 @@ fn is_in_several(lists: &[&str], files: &Several<'_>) -> bool
     match files {
         Several::Listed(words) => is_twice(lists, &[words.list]),
         Several::Words(paths) => is_twice(lists, paths.as_slice()),
-    }
-}
-
-/// Whether a content is handed in, and is standard input.
-fn is_input(content: Option<&str>) -> bool
-    ensures { result ≡ nat_lt 0 (inputs_among (with_content content.entry [])) }
-{
-    match content {
-        Some(path) => inputs_among(&[path]) > 0,
-        None => false,
-    }
-}
-
-/// Whether two of these paths, and of the content, if one is handed in, name standard input.
-fn is_twice_with(content: Option<&str>, paths: &[&str]) -> bool
-    ensures { result ≡ nat_lt 1 (inputs_among (with_content content.entry (map (λ p. p.now) paths.now))) }
-{
-    match content {
-        Some(path) => is_twice(&[path], paths),
-        None => is_twice(&[], paths),
     }
 }
 

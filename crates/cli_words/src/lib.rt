@@ -5,7 +5,6 @@
 mod arguments;
 mod commands;
 mod grammar;
-mod group;
 mod help;
 mod inputs;
 mod meaning;

@@ -7,20 +7,19 @@ ghost use Rattle.clap.specs.Values.{kind_of};
 ghost use Rattle.cli_failures.specs.Causes.{Names};
 ghost use Rattle.cli_words.specs.Words.{asks_for_help, command_of, text_command_of, IsHelp, IsTaskIn, IsTextTaskIn};
 ghost use Rattle.cli_words.specs.Words.{IsWords};
-ghost use Rattle.cli_words.specs.Groups.{group_of, text_group_of};
+ghost use Rattle.cli_words.specs.Groups.{evidence_group_of, group_of, text_group_of};
 ghost use Rattle.cli_words.specs.Several.{IsManyIn, each_command_of};
 ghost use Rattle.cli_words.specs.Records.{IsEvidenceTaskIn, evidence_command_of};
 ghost use Rattle.cli_words.specs.Meanings.{AsksFor, IsMeaningIn};
 ghost use Rattle.cli_words.specs.Inputs.{evidence_paths, inputs_among, task_paths, IsReadAgain};
 
-use crate::grammar::{command_line, evidence_line, stamp_line};
-use crate::group::{Group, group_named, place_of};
+use crate::grammar::{Group, command_line, evidence_line, group_named, place_of, stamp_line};
 use crate::inputs::{STANDARD_INPUT, is_evidence_read_twice, is_read_again, is_read_twice};
 use crate::several::{each_of, several_in};
 use crate::words::{
     attach_words, check_words, compare_words, evidence_questions_words, evidence_words, fit_words,
     make_words, match_words, migrate_words, questions_words, request_words, root_request_words,
-    shown, some_values, stamp_questions_words, stamp_words, value,
+    shown, some_values, stamp_questions_words, stamp_words, under_words, value,
 };
 use clap::error::ErrorKind;
 use clap::{ArgMatches, Command};
@@ -63,7 +62,12 @@ fn meaning_in<'a>(
         return unambiguous_many(many);
     }
     match group {
-        Group::Program => unambiguous(task_in(matches)?),
+        Group::Program => match matches.subcommand() {
+            Some(("check", given)) if given.get_str("evidence").is_some() => {
+                unambiguous_evidence(under_in(alloc, given)?)
+            }
+            _ => unambiguous(task_in(matches)?),
+        },
         Group::Stamps => unambiguous(stamp_task_in(matches)?),
         Group::Evidence => unambiguous_evidence(evidence_task_in(alloc, matches)?),
     }
@@ -111,6 +115,15 @@ fn task_in<'a>(matches: &ArgMatches<'a>) -> Result<Task<'a>, Failure<'a>>
         // The parser demands a command.
         None => Err(Failure::Usage("command")),
     }
+}
+
+/// The task of `check` beside an evidence record.
+fn under_in<'a>(alloc: Global, given: &ArgMatches<'a>) -> Result<EvidenceTask<'a>, Failure<'a>>
+    ensures command { IfOk result (λ task. evidence_command_of task ≡ codes "check") }
+    ensures words { IfOk result (IsEvidenceTaskIn (found_of given.now)) }
+    ensures group { IfOk result (λ task. evidence_group_of task ≡ Group.Program) }
+{
+    Ok(EvidenceTask::CheckUnder(under_words(alloc, given)?))
 }
 
 /// The task of this command, if it is one whose text is made before it is printed.
@@ -175,6 +188,7 @@ fn evidence_task_in<'a>(
     ensures words { IfOk result (λ task. (given : Found)
         × (option_map (λ p. p.1) (subcommand_rows_of matches.now) ≡ Some (rows_of given))
         × IsEvidenceTaskIn given task) }
+    ensures group { IfOk result (λ task. evidence_group_of task ≡ Group.Evidence) }
 {
     match matches.subcommand() {
         Some((command, given)) => evidence_command_in(alloc, command, given),
@@ -191,6 +205,7 @@ fn evidence_command_in<'a>(
 ) -> Result<EvidenceTask<'a>, Failure<'a>>
     ensures command { IfOk result (λ task. command.now ≡ evidence_command_of task) }
     ensures words { IfOk result (IsEvidenceTaskIn (found_of given.now)) }
+    ensures group { IfOk result (λ task. evidence_group_of task ≡ Group.Evidence) }
 {
     match command {
         "check" => Ok(EvidenceTask::Check(evidence_words(alloc, given)?)),
@@ -210,6 +225,7 @@ fn evidence_command_in<'a>(
 fn renewal_in<'a>(alloc: Global, given: &ArgMatches<'a>) -> Result<EvidenceTask<'a>, Failure<'a>>
     ensures command { IfOk result (λ task. evidence_command_of task ≡ codes "renew") }
     ensures words { IfOk result (IsEvidenceTaskIn (found_of given.now)) }
+    ensures group { IfOk result (λ task. evidence_group_of task ≡ Group.Evidence) }
 {
     let records = some_values(alloc, given, "RECORD")?;
     match (given.get_str("request"), given.get_str("token")) {
@@ -225,6 +241,7 @@ fn renewal_in<'a>(alloc: Global, given: &ArgMatches<'a>) -> Result<EvidenceTask<
 fn rehash_in<'a>(given: &ArgMatches<'a>) -> Result<EvidenceTask<'a>, Failure<'a>>
     ensures command { IfOk result (λ task. evidence_command_of task ≡ codes "rehash") }
     ensures words { IfOk result (IsEvidenceTaskIn (found_of given.now)) }
+    ensures group { IfOk result (λ task. evidence_group_of task ≡ Group.Evidence) }
 {
     let (alg, sums) = (value(given, "alg")?, value(given, "SUMS")?);
     let into = value(given, "into")?;

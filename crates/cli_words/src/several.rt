@@ -5,7 +5,7 @@ ghost use Rattle.cli_words.specs.Several.{IsCheckEachIn, IsEachIn, IsFitEachIn, 
 ghost use Rattle.cli_words.specs.Several.{each_command_of};
 ghost use Rattle.cli_words.specs.Groups.{about_group_of, each_group_of};
 
-use crate::group::Group;
+use crate::grammar::Group;
 use crate::words::{buffer_octets, value};
 use clap::ArgMatches;
 use cli_failures::Failure;
@@ -119,16 +119,27 @@ fn stamps_each<'a>(given: &ArgMatches<'a>) -> Result<QuestionsEach<'a>, Failure<
 }
 
 /// The lists that each file is checked with, and what is allowed.
+///
+/// Errors: `Usage`, which names `FILE` if there is an evidence record, which is for one file; otherwise `evidence`, if
+/// there is what stands beside one alone.
 fn check_each<'a>(given: &ArgMatches<'a>) -> Result<CheckEach<'a>, Failure<'a>>
     ensures { IfOk result (IsCheckEachIn (found_of given.now)) }
 {
-    Ok(CheckEach {
-        trust: value(given, "trust")?,
-        answers: value(given, "answers")?,
-        content: given.get_str("content"),
-        sha1: given.get_flag("sha1"),
-        buffer: buffer_octets(given)?,
-    })
+    match (
+        given.get_str("evidence"),
+        given.get_str("end"),
+        given.get_str("at"),
+    ) {
+        (None, None, None) => Ok(CheckEach {
+            trust: value(given, "trust")?,
+            answers: value(given, "answers")?,
+            content: given.get_str("content"),
+            sha1: given.get_flag("sha1"),
+            buffer: buffer_octets(given)?,
+        }),
+        (Some(_), _, _) => Err(Failure::Usage("FILE")),
+        _ => Err(Failure::Usage("evidence")),
+    }
 }
 
 /// The content that the signed attributes of each file are compared with.

@@ -34,6 +34,12 @@ pub enum Takes {
     List(&'static str, &'static str),
     /// `--name` or this letter alone, beside the word of this name.
     NothingOf(&'static str, char),
+    /// `--name` and a value, beside the word of the first name; the second is the value's name in the help.
+    TextOf(&'static str, &'static str),
+    /// The same, any number of times.
+    TextsOf(&'static str, &'static str),
+    /// `--name` and a value, beside neither of the words of the first names; the last is the value's name in the help.
+    TextApart(&'static str, &'static str, &'static str),
 }
 
 /// The names of the algorithms that a request may be for.
@@ -249,7 +255,7 @@ pub static MATCH: [Word; 3] = [
 ];
 
 /// The words of `check`, in the order of its help.
-pub static CHECK: [Word; 8] = [
+pub static CHECK: [Word; 11] = [
     TRUST,
     ANSWERS,
     CONTENT,
@@ -258,6 +264,27 @@ pub static CHECK: [Word; 8] = [
         takes: Takes::Nothing,
         required: false,
         help: "Allows SHA-1 as a digest algorithm of signers and imprints (by default it is refused)",
+    },
+    Word {
+        name: "evidence",
+        takes: Takes::TextApart("sha1", "files-from", "RECORD"),
+        required: false,
+        help: "An evidence record that shows by when FILE existed, as --evidence record.ers (by default FILE is judged \
+               without one); with it FILE and CONTENT are read whole",
+    },
+    Word {
+        name: "end",
+        takes: Takes::TextsOf("evidence", "ALG=TIME"),
+        required: false,
+        help: "The last moment at which the digest algorithm ALG holds, as --end sha1=20160101000000Z; may be given \
+               more than once (by default SHA-1 never holds, and each other algorithm always does)",
+    },
+    Word {
+        name: "at",
+        takes: Takes::TextOf("evidence", "TIME"),
+        required: false,
+        help: "The moment at which the last time-stamp of RECORD must still hold, as --at 20261231235959Z (by default \
+               the time of that time-stamp)",
     },
     BUFFER,
     FILES_FROM,
@@ -471,15 +498,18 @@ pub static EVIDENCE_MAKE: [Word; 4] = [
     SUMS,
 ];
 
+/// The file that the request is written into, of `evidence renew` and `evidence rehash`.
+const RENEWAL_REQUEST: Word = Word {
+    name: "request",
+    takes: Takes::Text("OUT"),
+    required: false,
+    help: "The file to write the request into, as --request request.tsq; one that is there is replaced (no default: \
+           this or --token is given)",
+};
+
 /// The words of `evidence renew`, in the order of its help.
 pub static EVIDENCE_RENEW: [Word; 3] = [
-    Word {
-        name: "request",
-        takes: Takes::Text("OUT"),
-        required: false,
-        help: "The file to write the request into, as --request request.tsq; one that is there is replaced (no \
-               default: this or --token is given)",
-    },
+    RENEWAL_REQUEST,
     Word {
         name: "token",
         takes: Takes::Text("TOKEN"),
@@ -509,13 +539,7 @@ pub static EVIDENCE_REHASH: [Word; 5] = [
         required: true,
         help: "The folder with the records, as --into records (no default): that of NAME is FOLDER/NAME.ers",
     },
-    Word {
-        name: "request",
-        takes: Takes::Text("OUT"),
-        required: false,
-        help: "The file to write the request into, as --request request.tsq; one that is there is replaced (no \
-               default: this or --token is given)",
-    },
+    RENEWAL_REQUEST,
     Word {
         name: "token",
         takes: Takes::Text("TOKEN"),

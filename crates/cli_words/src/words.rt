@@ -5,14 +5,15 @@ ghost use Rattle.cli_failures.specs.Causes.{Names};
 ghost use Rattle.cli_words.specs.Words.{IsNumberIn, IsSignerIn, IsStampedIn, IsRequestIn, IsFitIn, IsMatchIn};
 ghost use Rattle.cli_words.specs.Words.{IsMigrateIn, IsQuestionsIn, IsBufferIn, IsCheckIn, IsCompareIn, IsAttachIn};
 ghost use Rattle.cli_words.specs.Words.{IsShownIn, IsStampIn, IsStampQuestionsIn};
-ghost use Rattle.cli_words.specs.Records.{IsEvidenceIn, IsEvidenceQuestionsIn, IsMakeIn, IsRootRequestIn, all_values};
+ghost use Rattle.cli_words.specs.Records.{IsEvidenceIn, IsEvidenceQuestionsIn, IsMakeIn, IsRootRequestIn, IsUnderIn};
+ghost use Rattle.cli_words.specs.Records.{all_values};
 
 use clap::ArgMatches;
 use cli_failures::Failure;
 use cli_tasks::{
     AttachWords, CheckWords, CompareWords, EvidenceQuestionsWords, EvidenceWords, FitWords,
     MakeWords, MatchWords, MigrateWords, QuestionsWords, RequestWords, RootRequestWords,
-    StampQuestionsWords, StampWords, Stamped, TextTask,
+    StampQuestionsWords, StampWords, Stamped, TextTask, UnderWords,
 };
 use std::alloc::Global;
 
@@ -102,17 +103,53 @@ pub fn match_words<'a>(given: &ArgMatches<'a>) -> Result<MatchWords<'a>, Failure
     })
 }
 
-/// The file that is checked, its lists, and what is allowed.
+/// The file that is checked, its lists, and what is allowed. There is no evidence record.
 pub fn check_words<'a>(given: &ArgMatches<'a>) -> Result<CheckWords<'a>, Failure<'a>>
     ensures { IfOk result (IsCheckIn (found_of given.now)) }
 {
-    Ok(CheckWords {
-        trust: value(given, "trust")?,
-        answers: value(given, "answers")?,
+    match (
+        given.get_str("evidence"),
+        given.get_str("end"),
+        given.get_str("at"),
+    ) {
+        (None, None, None) => Ok(CheckWords {
+            trust: value(given, "trust")?,
+            answers: value(given, "answers")?,
+            content: given.get_str("content"),
+            sha1: given.get_flag("sha1"),
+            buffer: buffer_octets(given)?,
+            file: value(given, "FILE")?,
+        }),
+        // The parser lets `--end` and `--at` pass without a record beside words that exclude one.
+        _ => Err(Failure::Usage("evidence")),
+    }
+}
+
+/// The file that is checked under an evidence record, the record, the lists, and how long algorithms and the last
+/// time-stamp of the record hold.
+///
+/// Errors: `Usage`, which names `sha1`, if the words allow SHA-1: beside a record the ends say until when it holds.
+pub fn under_words<'a>(alloc: Global, given: &ArgMatches<'a>) -> Result<UnderWords<'a>, Failure<'a>>
+    ensures { IfOk result (IsUnderIn (found_of given.now)) }
+{
+    if given.get_flag("sha1") {
+        // The parser takes either.
+        return Err(Failure::Usage("sha1"));
+    }
+    let (trust, record) = (value(given, "trust")?, value(given, "evidence")?);
+    let (answers, file) = (value(given, "answers")?, value(given, "FILE")?);
+    let buffer = buffer_octets(given)?;
+    let all = values(alloc, given, "end")?;
+    let at = given.get_str("at");
+    Ok(UnderWords {
+        trust,
+        answers,
+        record,
+        ends: all,
+        at,
         content: given.get_str("content"),
-        sha1: given.get_flag("sha1"),
-        buffer: buffer_octets(given)?,
-        file: value(given, "FILE")?,
+        buffer,
+        file,
     })
 }
 

@@ -26,6 +26,7 @@ impl Judge for OfCommands<'_> {
             "ask" => checks::said_of_ask(self.rt, row),
             "stamp" => stamps::said_of_stamp(self.rt, row),
             "evidence" => evidence::said_of_evidence(self.rt, row),
+            "under" => evidence::said_of_under(self.rt, row),
             "cuts" => checks::said_of_cuts(self.rt, row),
             "lengths" => runs::said_of_lengths(self.rt, row),
             _ => Err(Bad::Text("a kind of row that is not known")),

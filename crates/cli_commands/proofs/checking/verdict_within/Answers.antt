@@ -1,50 +1,31 @@
-use Rattle.std.proofs.Common.{◌≡◌, ◌∙◌, ℕ, Bool, length, ap, inr, subst, arith, rules}
+use Rattle.std.proofs.Common.{◌≡◌, ◌∙◌, ℕ, length, ap, inr, subst, arith, rules}
 use Rattle.devices.specs.Device.{raised}
 use Rattle.check_fit.specs.FileFitting.{facts_of}
-use Rattle.trust_lists.specs.Asking.{Asked, is_among}
-use Rattle.check_verdict.specs.Checkers.{CheckerValue, terms_for}
+use Rattle.trust_lists.specs.Asking.{is_among}
+use Rattle.check_verdict.specs.Checkers.{terms_for}
 use Rattle.check_verdict.specs.Checking.{ChecksStream}
 use Rattle.cli_commands.specs.Rereading.{OfReading}
-use Rattle.cli_commands.proofs.Growing.{read_on, read_within}
+use Rattle.cli_commands.proofs.CheckedAgain.{check_on}
+use Rattle.cli_commands.proofs.Growing.{read_within}
 use Rattle.cli_commands.proofs.Rereadings.{not_again}
 use Rattle.cli_commands.proofs.checking.verdict_within.Goals as goal
 
 pub returns-then-not-is_too_long-clause-judged : goal.returns-then-not-is_too_long-clause-judged
 returns-then-not-is_too_long-clause-judged g c =
     let h = c.loop-rooms.invariant in
-    read_on g.F.Seek.stream_position g.F.Read.remaining c.args.file.now.file c.loop-rooms.file.file
-    c.verdict_of-verdict.new.file.failed c.verdict_of-verdict.new.content
-    (λ (asked : Asked → Bool) before octets.
-    ChecksStream (facts_of g.S.Source.tells g.S.Source.rest g.S.Source.failures)
-    (terms_for c.args.checker.now asked) octets before c.verdict_of-verdict.new.content)
-    c.args.limit
-    (record {
-      asked = λ q. is_among c.args.answers.now q;
-      content = c.args.content.now;
-      failures = c.args.file.now.failed;
-    })
-    (record {
-      asked = λ q. is_among c.loop-rooms.answers q;
-      content = c.loop-rooms.content;
-      failures = c.loop-rooms.file.failed;
-    })
-    c.verdict_of-verdict.result h.unread
-    (λ i. record { asked = h.vouched i; content = h.content i; failures = h.failed i })
-    (read_within
-    (length c.as_mut_slice.result.now) c.args.limit c.loop-rooms.file.failed c.verdict_of-verdict.new.file.failed
-    c.loop-rooms.content c.verdict_of-verdict.new.content g.F.Seek.stream_position g.F.Read.remaining
-    c.loop-rooms.file.file
+    check_on g.F.Seek.stream_position g.F.Read.remaining
+    (facts_of g.S.Source.tells g.S.Source.rest g.S.Source.failures) c.args.limit
+    c.verdict_of-verdict.new.file.failed c.verdict_of-verdict.new.content c.verdict_of-verdict.result
+    c.args.file.now.file c.loop-rooms.file.file c.args.checker.now c.loop-rooms.checker c.args.answers.now
+    c.loop-rooms.answers c.args.content.now c.loop-rooms.content c.args.file.now.failed c.loop-rooms.file.failed
+    h.unread h.stays h.vouched h.content h.failed
+    (read_within (length c.as_mut_slice.result.now) c.args.limit c.loop-rooms.file.failed
+    c.verdict_of-verdict.new.file.failed c.loop-rooms.content c.verdict_of-verdict.new.content
+    g.F.Seek.stream_position g.F.Read.remaining c.loop-rooms.file.file
     (λ octets. ChecksStream (facts_of g.S.Source.tells g.S.Source.rest g.S.Source.failures)
-    (terms_for c.args.checker.now (λ q. is_among c.loop-rooms.answers q)) octets c.loop-rooms.content
-    c.verdict_of-verdict.new.content)
-    c.verdict_of-verdict.result c.if-not-is_too_long.ensures
-    (subst (λ (k : CheckerValue). OfReading g.F.Seek.stream_position g.F.Read.remaining
-    (λ octets. ChecksStream (facts_of g.S.Source.tells g.S.Source.rest g.S.Source.failures)
-    (terms_for k (λ q. is_among c.loop-rooms.answers q)) octets c.loop-rooms.content c.verdict_of-verdict.new.content)
-    c.loop-rooms.file.file
-    (length c.as_mut_slice.result.now) c.loop-rooms.file.failed c.verdict_of-verdict.new.file.failed
-    c.loop-rooms.content c.verdict_of-verdict.new.content c.verdict_of-verdict.result) h.stays
-    c.verdict_of-verdict.ensures.judged))
+    (terms_for c.loop-rooms.checker (λ q. is_among c.loop-rooms.answers q)) octets c.loop-rooms.content
+    c.verdict_of-verdict.new.content) c.verdict_of-verdict.result c.if-not-is_too_long.ensures
+    c.verdict_of-verdict.ensures.judged)
 
 pub returns-in-Err-clause-judged : goal.returns-in-Err-clause-judged
 returns-in-Err-clause-judged g c =
@@ -75,35 +56,17 @@ pub returns-clause-judged : goal.returns-clause-judged
 returns-clause-judged g c =
     let h = c.loop-rooms.invariant in
     let room : length c.as_mut_slice-2.result.now ≡ c.args.limit = first_of (omega arith, (cc), search rules) in
-    read_on g.F.Seek.stream_position g.F.Read.remaining c.args.file.now.file c.loop-rooms.file.file
-    c.verdict_of.new.file.failed c.verdict_of.new.content
-    (λ (asked : Asked → Bool) before octets.
-    ChecksStream (facts_of g.S.Source.tells g.S.Source.rest g.S.Source.failures)
-    (terms_for c.args.checker.now asked) octets before c.verdict_of.new.content)
-    c.args.limit
-    (record {
-      asked = λ q. is_among c.args.answers.now q;
-      content = c.args.content.now;
-      failures = c.args.file.now.failed;
-    })
-    (record {
-      asked = λ q. is_among c.loop-rooms.answers q;
-      content = c.loop-rooms.content;
-      failures = c.loop-rooms.file.failed;
-    })
-    c.verdict_of.result h.unread
-    (λ i. record { asked = h.vouched i; content = h.content i; failures = h.failed i })
-    (subst (λ (n : ℕ). OfReading g.F.Seek.stream_position g.F.Read.remaining
+    subst (λ (n : ℕ). OfReading g.F.Seek.stream_position g.F.Read.remaining
     (λ octets. ChecksStream (facts_of g.S.Source.tells g.S.Source.rest g.S.Source.failures)
-    (terms_for c.args.checker.now (λ q. is_among c.loop-rooms.answers q)) octets c.loop-rooms.content
-    c.verdict_of.new.content)
-    c.loop-rooms.file.file n c.loop-rooms.file.failed c.verdict_of.new.file.failed c.loop-rooms.content
-    c.verdict_of.new.content c.verdict_of.result)
-    room (subst (λ (k : CheckerValue). OfReading g.F.Seek.stream_position g.F.Read.remaining
-    (λ octets. ChecksStream (facts_of g.S.Source.tells g.S.Source.rest g.S.Source.failures)
-    (terms_for k (λ q. is_among c.loop-rooms.answers q)) octets c.loop-rooms.content c.verdict_of.new.content)
-    c.loop-rooms.file.file (length c.as_mut_slice-2.result.now) c.loop-rooms.file.failed c.verdict_of.new.file.failed
-    c.loop-rooms.content c.verdict_of.new.content c.verdict_of.result) h.stays c.verdict_of.ensures.judged))
+    (terms_for c.args.checker.now (λ q. is_among c.args.answers.now q)) octets c.args.content.now
+    c.verdict_of.new.content) c.args.file.now.file n c.args.file.now.failed c.verdict_of.new.file.failed
+    c.args.content.now c.verdict_of.new.content c.verdict_of.result) room
+    (check_on g.F.Seek.stream_position g.F.Read.remaining
+    (facts_of g.S.Source.tells g.S.Source.rest g.S.Source.failures) (length c.as_mut_slice-2.result.now)
+    c.verdict_of.new.file.failed c.verdict_of.new.content c.verdict_of.result c.args.file.now.file
+    c.loop-rooms.file.file c.args.checker.now c.loop-rooms.checker c.args.answers.now c.loop-rooms.answers
+    c.args.content.now c.loop-rooms.content c.args.file.now.failed c.loop-rooms.file.failed h.unread h.stays h.vouched
+    h.content h.failed c.verdict_of.ensures.judged)
 
 pub returns-then-not-is_too_long-clause-same : goal.returns-then-not-is_too_long-clause-same
 returns-then-not-is_too_long-clause-same g c = c.verdict_of-verdict.ensures.same ∙ c.loop-rooms.invariant.vouched

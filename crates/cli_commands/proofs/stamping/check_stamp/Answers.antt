@@ -1,7 +1,6 @@
-use Rattle.std.proofs.Common.{Err, inl, inr}
+use Rattle.std.proofs.Common.{inl, inr}
 use Rattle.std.proofs.lemmas.Result.{err_from_is_err_and}
 use Rattle.trust_lists.specs.Asking.{is_among}
-use Rattle.check_verdict.specs.Passing.{Terms}
 use Rattle.check_verdict.specs.TokenVerdicts.{terms_of}
 use Rattle.cli_commands.specs.Checking.{IsTerms}
 use Rattle.cli_commands.specs.Stamping.{IsTokenHeld}

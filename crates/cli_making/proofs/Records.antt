@@ -16,7 +16,7 @@ use Rattle.cli_failures.specs.declared.failure.Failure.{Failure}
 use Rattle.cli_failures.specs.Failures.{failure_of_making}
 use Rattle.cli_making.specs.Placing.{Adds, Placed, Ways, placed}
 use Rattle.cli_making.specs.Making.{IsFileOf, IsRecordOf, ShowsData}
-use Rattle.cli_making.specs.Unmade.{FailsAt, IsTooLong}
+use Rattle.cli_making.specs.Unmade.{FailsAt, IsNotMade, IsTooLong}
 
 shows_data : (tree : HashTree) (token : List ℕ) (digest : Digest) (values : List (List ℕ)) (octets : List ℕ)
     → AreListsOf tree (octets_of digest) values → ShowsLeaf tree.algorithm values token octets
@@ -62,35 +62,38 @@ module _ (tree : HashTree) (token : List ℕ) (digest leaf : Digest) (alg : Alg)
     size = subst (λ (a : Alg). 2 ^ 32 ≤ length (evidence_parts (made a values token))) by size;
   }
 
-module _ (ways : Ways) (folder : List ℕ) (tree : HashTree) (token : List ℕ) (s : SumValue) where
+module _ (tree : HashTree) (token : List ℕ) (s : SumValue) where
   -- a record isn't made, for this fault
   pub not_made : {O : Type 0} (r : Result O MakeFault) (fault : MakeFault) → r ≡ Err fault
-      → (r ≡ Err make.TooLong → IsTooLong tree token s.digest)
-      → FailsAt ways folder tree token s (failure_of_making fault)
-  not_made r make.TooLong is long = inr (inl (refl, long is))
+      → (r ≡ Err make.TooLong → IsTooLong tree token s.digest) → IsNotMade tree token s (failure_of_making fault)
+  not_made r make.TooLong is long = inr (refl, long is)
   not_made r make.OutOfMemory is long = inl refl
 
-  module _ (name octets made_octets : List ℕ) (by : name ≡ s.name) (same : octets ≡ made_octets)
-      (is : IsRecordOf tree token s.digest made_octets) where
-    file_of : IsFileOf folder tree token s (placed folder name octets)
-    file_of = record {
-      below = refl;
-      by = by;
-      is = subst (λ (os : List ℕ). IsRecordOf tree token s.digest os) (sym same) is;
-    }
+  -- the file of a line
+  pub its_file : (name octets : List ℕ) → name ≡ s.name → IsRecordOf tree token s.digest octets → (folder : List ℕ)
+      → IsFileOf folder tree token s (placed folder name octets)
+  its_file name octets by is folder = record { below = refl; by = by; is = is }
 
-    pub can_put : {T : Type 0} (r : Result T Failure) → OnOk r (ways.can (placed folder name octets))
-        → OnOk r ((p : Placed) × IsFileOf folder tree token s p × ways.can p)
-    can_put (Err f) can = tt
-    can_put (Ok t) can = (placed folder name octets, file_of, can)
+  module _ (ways : Ways) (folder name octets file_name file_octets : List ℕ) (named : name ≡ file_name)
+      (same : octets ≡ file_octets)
+      (is : (folder : List ℕ) → IsFileOf folder tree token s (placed folder file_name file_octets))
+    where
+      there : IsFileOf folder tree token s (placed folder name octets)
+      there = subst (λ (n : List ℕ). IsFileOf folder tree token s (placed folder n octets)) (sym named)
+          (subst (λ (os : List ℕ). IsFileOf folder tree token s (placed folder file_name os)) (sym same) (is folder))
 
-    pub fails_at : {T : Type 0} (r : Result T Failure) → IfErr r (ways.fails (placed folder name octets))
-        → IfErr r (FailsAt ways folder tree token s)
-    fails_at (Ok t) fails = tt
-    fails_at (Err f) fails = inr (inr (placed folder name octets, file_of, fails))
+      pub can_put : {T : Type 0} (r : Result T Failure) → OnOk r (ways.can (placed folder name octets))
+          → OnOk r ((p : Placed) × IsFileOf folder tree token s p × ways.can p)
+      can_put (Err f) can = tt
+      can_put (Ok t) can = (placed folder name octets, there, can)
 
-    pub was_put : {T : Type 0} (Did : Placed → Type 0) (before after : Option (List Placed)) (r : Result T Failure)
-        → OnOk r (Did (placed folder name octets)) → OnOk r (Adds before after (placed folder name octets ∷ []))
-        → OnOk r ((p : Placed) × IsFileOf folder tree token s p × Did p × Adds before after (p ∷ []))
-    was_put Did before after (Err f) did adds = tt
-    was_put Did before after (Ok t) did adds = (placed folder name octets, file_of, did, adds)
+      pub fails_at : {T : Type 0} (r : Result T Failure) → IfErr r (ways.fails (placed folder name octets))
+          → IfErr r (FailsAt ways folder tree token s)
+      fails_at (Ok t) fails = tt
+      fails_at (Err f) fails = inr (placed folder name octets, there, fails)
+
+      pub was_put : {T : Type 0} (Did : Placed → Type 0) (before after : Option (List Placed)) (r : Result T Failure)
+          → OnOk r (Did (placed folder name octets)) → OnOk r (Adds before after (placed folder name octets ∷ []))
+          → OnOk r ((p : Placed) × IsFileOf folder tree token s p × Did p × Adds before after (p ∷ []))
+      was_put Did before after (Err f) did adds = tt
+      was_put Did before after (Ok t) did adds = (placed folder name octets, there, did, adds)

@@ -15,7 +15,6 @@ use Rattle.cli_failures.specs.Causes.{Names}
 use Rattle.cli_failures.specs.Files.{IsFailureToRead, IsHeld}
 use Rattle.cli_failures.specs.Requests.{longer}
 use Rattle.cli_commands.specs.Requests.{IsInHex, IsPolicy}
-use Rattle.cli_commands.specs.Refusals.{RefusesNonce, RefusesPolicy}
 use Rattle.cli_making.specs.Requesting.{AreRootValues, IsRootRequest, MakesNoRootRequest, RefusesRootRequest}
 use Rattle.cli_making.specs.Sums.{AreStated, RefusesSums}
 
@@ -25,17 +24,6 @@ IsRootIn alg text root = (sums : List SumValue) × (tree : HashTree) × AreState
 
 module _ {F : Type 0} (holds : F → Option (List ℕ)) (words : RootRequestWords) (alg : Alg)
     (named : words.alg.now ≡ name_of alg) where
-  pub policy_refused : (f : Failure) → (f ≡ failure.Memory) ⊎ RefusesPolicy (option_copied words.policy) f
-      → (f ≡ failure.Memory) ⊎ RefusesRootRequest holds words f
-  policy_refused f (inl m) = inl m
-  policy_refused f (inr r) = inr (inr (alg, named, inl (inl r)))
-
-  pub nonce_refused : (policy : Option (List ℕ)) (f : Failure) → IsPolicy (option_copied words.policy) policy
-      → (f ≡ failure.Memory) ⊎ RefusesNonce (option_copied words.nonce) f
-      → (f ≡ failure.Memory) ⊎ RefusesRootRequest holds words f
-  nonce_refused policy f is (inl m) = inl m
-  nonce_refused policy f is (inr r) = inr (inr (alg, named, inl (inr (policy, is, r))))
-
   module _ (policy nonce : Option (List ℕ)) (of_policy : IsPolicy (option_copied words.policy) policy)
       (of_nonce : IsInHex (option_copied words.nonce) nonce) where
     are : AreRootValues words policy nonce

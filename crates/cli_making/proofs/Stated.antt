@@ -20,8 +20,8 @@ use Rattle.evidence_sums.specs.declared.sums_fault.SumsRule.TheVariants as rule
 use Rattle.evidence_sums.proofs.Cuts.{some_part}
 use Rattle.evidence_sums.proofs.Places.{all_formed}
 use Rattle.cli_failures.specs.Failures.{failure_by_sums, failure_of_sums}
-use Rattle.cli_making.specs.Leaves.{AreLeaves}
-use Rattle.cli_making.specs.Sums.{IsTreeOver, LacksMemory, StatesNone}
+use Rattle.cli_making.specs.Leaves.{AreReady, IsLeaf}
+use Rattle.cli_making.specs.Sums.{AreNamed, IsTreeOver, LacksMemory, StatesNone}
 
 -- ---- the lines of a text that states sums
 
@@ -145,6 +145,9 @@ pub values_of : (sums : List SumValue) (digests : List Digest) → digests ≡ m
 values_of sums digests same = ap (map octets_of) same ∙ map-map octets_of (λ (s : SumValue). s.digest) sums
 
 -- each is a leaf of the tree
+abbrev AreLeaves : HashTree → List SumValue → Type 0
+AreLeaves tree sums = AllByRecursion (λ s. IsLeaf tree s) sums
+
 are_leaves : (alg : Alg) (tree : HashTree) → tree.algorithm ≡ alg → (sums : List SumValue)
     → AllByRecursion (λ s. alg_of s.digest ≡ alg) sums
     → All (Contains tree.leaves) (map (λ s. octets_of s.digest) sums) → AreLeaves tree sums
@@ -154,10 +157,18 @@ are_leaves alg tree by (s ∷ sums) all there = (
   are_leaves alg tree by sums all.1 (All-tail (Contains tree.leaves) _ _ there),
 )
 
-pub leaves_there : (alg : Alg) (text : List ℕ) (sums : List SumValue) (tree : HashTree) → sums_of alg text ≡ Ok sums
-    → IsTreeOver alg sums tree → AreLeaves tree sums
-leaves_there alg text sums tree e over =
-    are_leaves alg tree over.algorithm sums (all_stated alg text sums e) over.leaves.all
+are_ready : (tree : HashTree) (sums : List SumValue) → AreNamed sums → AreLeaves tree sums → AreReady tree sums
+are_ready tree [] named leaves = tt
+are_ready tree (s ∷ sums) named leaves =
+    (record { named = named.0; leaf = leaves.0 }, are_ready tree sums named.1 leaves.1)
+
+-- with a name, so that its record can be made; in the tree that a stamp has, too
+pub ready_there : (alg : Alg) (text : List ℕ) (sums : List SumValue) (tree its : HashTree) → sums_of alg text ≡ Ok sums
+    → AreNamed sums → IsTreeOver alg sums tree → its ≡ tree → AreReady its sums
+ready_there alg text sums tree its e named over same =
+    subst (λ (t : HashTree). AreReady t sums) (sym same)
+    (are_ready tree sums named
+    (are_leaves alg tree over.algorithm sums (all_stated alg text sums e) over.leaves.all))
 
 -- ---- faults
 

@@ -1,5 +1,5 @@
 -- What a walk along the lines of sums has shown.
-use Rattle.std.proofs.Common.{◌≡◌, ◌+◌, ◌++◌, ℕ, not, true, false, List, [], ◌∷◌, Option, Some, None, refl, sym, subst}
+use Rattle.std.proofs.Common.{◌≡◌, ◌+◌, ◌++◌, ℕ, not, true, List, [], ◌∷◌, Option, Some, None, refl, sym, subst}
 use Rattle.std.proofs.Common.{ap, ◌∙◌, append_assoc, append-nil}
 use Rattle.std.specs.Str.{is_utf8}
 use Rattle.std.specs.List.{AllByRecursion}
@@ -37,12 +37,7 @@ all_walked P left sums is whole = whole (subst (λ (ss : Sums). AllByRecursion P
 
 -- ---- names
 
--- the line whose name isn't UTF-8, if it is the first that is left
-pub this_number : (sum : SumValue) (left others : Sums) (line : ℕ) → left ≡ sum ∷ others → is_utf8 sum.name ≡ false
-    → first_number (λ s. not (is_utf8 s.name)) line left ≡ Some line
-this_number sum left others line is text = rw (is, text) refl
-
--- and otherwise
+-- where the name of the first that is left is UTF-8, the first line whose name isn't is one of the others
 pub next_number : (sum : SumValue) (left others : Sums) (line : ℕ) → left ≡ sum ∷ others → is_utf8 sum.name ≡ true
     → first_number (λ s. not (is_utf8 s.name)) (line + 1) others ≡ first_number (λ s. not (is_utf8 s.name)) line left
 next_number sum left others line is text = rw (is, text) refl

@@ -4,3 +4,5 @@ pub mod Placing
 pub mod Making
 pub mod Unmade
 pub mod Leaves
+pub mod Stamps
+pub mod Given

@@ -5,7 +5,6 @@ use Rattle.std.specs.Prelude.{◌≡◌, ⊤, ℕ, List, [], ◌∷◌, Option, 
 use Rattle.std.specs.List.{AllByRecursion}
 use Rattle.digests.specs.declared.algorithm.Alg.{Alg}
 use Rattle.digests.specs.declared.value.Digest.{Digest}
-use Rattle.digests.specs.Algorithms.{name_of}
 use Rattle.digests.specs.Digests.{octets_of}
 use Rattle.digests.specs.Messages.{digest_of}
 use Rattle.evidence_types.specs.EvidenceValue.{EncodesEvidence}
@@ -17,7 +16,7 @@ use Rattle.evidence_making.specs.Laws.{TokenStands}
 use Rattle.evidence_making.specs.Stamping.{StampsRoot}
 use Rattle.evidence_sums.specs.SumLines.{SumValue}
 use Rattle.cli_tasks.specs.declared.task.MakeWords.{MakeWords}
-use Rattle.cli_failures.specs.Files.{IsHeld}
+use Rattle.cli_making.specs.Given.{AreGiven}
 use Rattle.cli_making.specs.Sums.{AreStated}
 use Rattle.cli_making.specs.Placing.{Placed, Ways, Adds, system_ways, SystemPut}
 
@@ -68,10 +67,9 @@ pub record ArePut (Did : Placed → Type 0) (before after : Option (List Placed)
   pub of_each : EachFile Did folder tree token sums
   pub put : Adds before after of_each.files
 
--- The text states sums by this algorithm; the token stamps the root of the tree over their digests; a test found that
--- the file of each line can be put; and then these files were put.
-pub record AreMade (ways : Ways) (Did : Placed → Type 0) (before after : Option (List Placed)) (folder : List ℕ)
-    (alg : Alg) (text token : List ℕ) : Type 0 where
+-- The text states sums by this algorithm; the token stamps the root of the tree over their digests; and a test found
+-- that the file of each line can be put.
+pub record AreTested (ways : Ways) (folder : List ℕ) (alg : Alg) (text token : List ℕ) : Type 0 where
   pub sums : List SumValue
   pub tree : HashTree
   pub root : Digest
@@ -79,14 +77,17 @@ pub record AreMade (ways : Ways) (Did : Placed → Type 0) (before after : Optio
   pub moment : ℕ
   pub stamped : StampsRoot token root moment
   pub tested : EachFile ways.can folder tree token sums
-  pub written : ArePut Did before after folder tree token sums
+
+-- that; and then these files were put
+pub record AreMade (ways : Ways) (Did : Placed → Type 0) (before after : Option (List Placed)) (folder : List ℕ)
+    (alg : Alg) (text token : List ℕ) : Type 0 where
+  pub ready : AreTested ways folder alg text token
+  pub written : ArePut Did before after folder ready.tree token ready.sums
 
 -- so it is of the text of a file, by the algorithm that the words name, and of the token that a file holds
 pub record AreRecordsWritten {F : Type 0} (holds contents : F → Option (List ℕ)) (words : MakeWords) : Type 0 where
   pub alg : Alg
-  pub named : words.alg.now ≡ name_of alg
   pub text : List ℕ
-  pub text_held : IsHeld holds text
   pub token : List ℕ
-  pub token_held : IsHeld holds token
+  pub given : AreGiven holds words.alg.now alg text token
   pub made : AreMade (system_ways holds) (SystemPut holds contents) None None words.into.now alg text token

@@ -4,28 +4,21 @@ use Rattle.std.specs.Prelude.{◌≡◌, ◌≤◌, ◌^◌, ◌⊎◌, ℕ, Lis
 use Rattle.std.specs.List.{AllByRecursion}
 use Rattle.digests.specs.declared.algorithm.Alg.{Alg}
 use Rattle.digests.specs.declared.value.Digest.{Digest}
-use Rattle.digests.specs.Algorithms.{name_of}
 use Rattle.digests.specs.Digests.{octets_of}
 use Rattle.evidence_types.specs.EvidenceValue.{evidence_parts}
 use Rattle.evidence_trees.specs.HashTrees.{HashTree, IsWayFrom, AreListsOf}
 use Rattle.evidence_making.specs.Made.{made}
-use Rattle.evidence_making.specs.Stamping.{IsNoToken, StampsAnother, StampsRoot}
+use Rattle.evidence_making.specs.Stamping.{StampsRoot}
 use Rattle.evidence_making.specs.declared.fault.MakeFault.TheVariants as make
-use Rattle.evidence_making.specs.declared.fault.StampFault.TheVariants as stamp
 use Rattle.evidence_sums.specs.SumLines.{SumValue}
 use Rattle.cli_tasks.specs.declared.task.MakeWords.{MakeWords}
 use Rattle.cli_failures.specs.declared.failure.Failure.{Failure}
 use Rattle.cli_failures.specs.declared.failure.Failure.TheVariants as failure
-use Rattle.cli_failures.specs.Files.{IsFailureToRead, IsHeld}
-use Rattle.cli_commands.specs.Refusals.{RefusesAlg}
 use Rattle.cli_making.specs.Sums.{AreStated, RefusesSums}
 use Rattle.cli_making.specs.Placing.{Placed, Ways, Adds, system_ways}
-use Rattle.cli_making.specs.Making.{AreFiles, EachFile, IsFileOf}
-
--- U7: the file holds no token; U8: the token stamps something else than the root
-abbrev pub StampsNot : (token : List ℕ) → (root : Digest) → Failure → Type 0
-StampsNot token root f = ((f ≡ failure.Unstamping stamp.TokenMalformed) × IsNoToken token)
-    ⊎ ((f ≡ failure.Unstamping stamp.ImprintDiffers) × StampsAnother token root)
+use Rattle.cli_making.specs.Making.{AreFiles, AreTested, IsFileOf}
+use Rattle.cli_making.specs.Given.{GivesNot}
+use Rattle.cli_making.specs.Stamps.{StampsNot}
 
 -- the record of a leaf of the tree would be longer than an element can be
 pub record IsTooLong (tree : HashTree) (token : List ℕ) (digest : Digest) : Type 0 where
@@ -34,11 +27,14 @@ pub record IsTooLong (tree : HashTree) (token : List ℕ) (digest : Digest) : Ty
   pub lists : AreListsOf tree (octets_of digest) values
   pub size : 2 ^ 32 ≤ length (evidence_parts (made tree.algorithm values token))
 
--- why the file of a line can't be put: memory ran out; by U10 the record would be too long; or the file fails
+-- why the record of a line can't be made: memory ran out; or, by U10, it would be too long
+abbrev pub IsNotMade : HashTree → (token : List ℕ) → SumValue → Failure → Type 0
+IsNotMade tree token s f = (f ≡ failure.Memory) ⊎ ((f ≡ failure.Unmade make.TooLong) × IsTooLong tree token s.digest)
+
+-- why the file of a line can't be put: the record can't be made; or the file fails
 abbrev pub FailsAt : Ways → (folder : List ℕ) → HashTree → (token : List ℕ) → SumValue → Failure → Type 0
-FailsAt ways folder tree token s f = (f ≡ failure.Memory)
-    ⊎ (((f ≡ failure.Unmade make.TooLong) × IsTooLong tree token s.digest)
-    ⊎ ((p : Placed) × IsFileOf folder tree token s p × ways.fails p f))
+FailsAt ways folder tree token s f = IsNotMade tree token s f
+    ⊎ ((p : Placed) × IsFileOf folder tree token s p × ways.fails p f)
 
 -- the files of the lines before one are these, and that of this one can't be put
 pub record StopsAt (ways : Ways) (folder : List ℕ) (tree : HashTree) (token : List ℕ) (sums : List SumValue)
@@ -67,14 +63,8 @@ IsRefused ways folder alg text token f = RefusesSums alg text f
 -- put, and no others, and that of this one wasn't
 pub record IsStopped (ways : Ways) (before after : Option (List Placed)) (folder : List ℕ) (alg : Alg)
     (text token : List ℕ) (f : Failure) : Type 0 where
-  pub sums : List SumValue
-  pub tree : HashTree
-  pub root : Digest
-  pub stated : AreStated alg text sums tree root
-  pub moment : ℕ
-  pub stamped : StampsRoot token root moment
-  pub tested : EachFile ways.can folder tree token sums
-  pub stop : StopsAt ways folder tree token sums f
+  pub ready : AreTested ways folder alg text token
+  pub stop : StopsAt ways folder ready.tree token ready.sums f
   pub put : Adds before after stop.files
 
 -- no records are made, and nothing was put; or not all
@@ -86,8 +76,5 @@ IsUnmade ways before after folder alg text token f = (IsRefused ways folder alg 
 -- the first of these: no algorithm has the name; the file of the sums can't be read; the token's can't; or what they
 -- hold is refused, or a record can't be put
 abbrev pub MakesNoRecords : {F : Type 0} → (holds : F → Option (List ℕ)) → MakeWords → Failure → Type 0
-MakesNoRecords holds words f = RefusesAlg words.alg.now f
-    ⊎ ((alg : Alg) × (words.alg.now ≡ name_of alg) × (IsFailureToRead words.sums f
-    ⊎ ((text : List ℕ) × IsHeld holds text × (IsFailureToRead words.token f
-    ⊎ ((token : List ℕ) × IsHeld holds token
-    × IsUnmade (system_ways holds) None None words.into.now alg text token f)))))
+MakesNoRecords holds words f = GivesNot holds words.alg.now words.sums words.token
+    (λ alg text token g. IsUnmade (system_ways holds) None None words.into.now alg text token g) f

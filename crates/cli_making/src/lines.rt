@@ -1,39 +1,58 @@
 //! The record of a line: made, tested, and put below a folder.
-ghost use Rattle.std.specs.Prelude.{◌≡◌, ◌∷◌, [], Err, IfErr, IfOk, OnErr, OnOk, IsUtf8};
+ghost use Rattle.std.specs.Prelude.{◌≡◌, ◌∷◌, ℕ, List, [], Err, IfErr, IfOk, OnErr, OnOk, IsUtf8};
 ghost use Rattle.evidence_types.specs.StampValue.{IsSequence};
 ghost use Rattle.evidence_making.specs.declared.fault.MakeFault.TheVariants.{TooLong};
-ghost use Rattle.cli_making.specs.Leaves.{IsLeaf};
+ghost use Rattle.cli_making.specs.Leaves.{IsLeaf, IsReady};
 ghost use Rattle.cli_making.specs.Making.{IsFileOf, IsRecordOf};
-ghost use Rattle.cli_making.specs.Placing.{Adds, Placed};
-ghost use Rattle.cli_making.specs.Unmade.{FailsAt, IsTooLong};
+ghost use Rattle.cli_making.specs.Placing.{Adds, Placed, placed};
+ghost use Rattle.cli_making.specs.Stamps.{IsStamp};
+ghost use Rattle.cli_making.specs.Unmade.{FailsAt, IsNotMade, IsTooLong};
 
 use crate::names::text_of;
 use crate::placing::Puts;
+use crate::stamp::Stamp;
 use cli_failures::Failure;
 use evidence_making::{MakeFault as MakeRecordFault, make_record};
 use evidence_sums::Sum;
-use evidence_trees::Tree;
 use std::alloc::Global;
 
 /// The octets of the record of a line.
 ///
 /// Errors: U10; memory is refused.
-fn record_of(
-    alloc: Global,
-    tree: &Tree,
-    token: &[u8],
-    sum: &Sum,
-) -> Result<Vec<u8>, MakeRecordFault>
-    requires leaf { IsLeaf tree.now sum.now }
-    requires token { IsSequence token.now }
-    ensures made { IfOk result (λ octets. IsRecordOf tree.now token.now sum.now.digest octets.items) }
-    ensures too_long { result ≡ Err TooLong → IsTooLong tree.now token.now sum.now.digest }
+fn record_of(alloc: Global, by: &Stamp, sum: &Sum) -> Result<Vec<u8>, MakeRecordFault>
+    requires leaf { IsLeaf by.now.tree.now sum.now }
+    requires token { IsSequence by.now.token.now }
+    ensures made { IfOk result (λ octets. IsRecordOf by.now.tree.now by.now.token.now sum.now.digest octets.items) }
+    ensures too_long { result ≡ Err TooLong → IsTooLong by.now.tree.now by.now.token.now sum.now.digest }
 {
     let digest = sum.digest(alloc)?;
-    let Some(values) = tree.lists_of(&digest) else {
+    let Some(values) = by.tree.lists_of(&digest) else {
         unreachable!();
     };
-    make_record(alloc, digest.alg(), &values, token)
+    make_record(alloc, digest.alg(), &values, by.token)
+}
+
+/// A file to be put below a folder.
+#[derive(Debug, Drop)]
+struct File {
+    name: Vec<u8>,
+    octets: Vec<u8>,
+}
+
+/// The file of a line: its name, and the record.
+///
+/// Errors: U10; memory is refused.
+fn file_of<'a>(alloc: Global, by: &Stamp, sum: &Sum) -> Result<File, Failure<'a>>
+    requires line { IsReady by.now.tree.now sum.now }
+    requires stamp { IsStamp by.now }
+    ensures named { IfOk result (λ file. IsUtf8 file.name.items) }
+    ensures made { IfOk result (λ file. (folder : List ℕ) → IsFileOf folder by.now.tree.now by.now.token.now sum.now
+        (placed folder file.name.items file.octets.items)) }
+    ensures fails { IfErr result (IsNotMade by.now.tree.now by.now.token.now sum.now) }
+{
+    let octets = record_of(alloc, by, sum)?;
+    let name = sum.name(alloc)?;
+    Ok(File { name, octets })
 }
 
 /// Makes the record of a line, and tests whether it can be put below a folder by the line's name.
@@ -41,21 +60,20 @@ fn record_of(
 /// Errors: U10; it can't be put there; memory is refused.
 pub fn test_line<'a, P: Puts>(
     alloc: Global,
+    by: &Stamp,
     puts: &P,
     folder: &str,
-    tree: &Tree,
-    token: &[u8],
     sum: &Sum,
 ) -> Result<(), Failure<'a>>
-    requires named { IsUtf8 sum.now.name }
-    requires leaf { IsLeaf tree.now sum.now }
-    requires token { IsSequence token.now }
-    ensures can { OnOk result ((p : Placed) × IsFileOf folder.now tree.now token.now sum.now p × P.ways.can p) }
-    ensures fails { IfErr result (FailsAt P.ways folder.now tree.now token.now sum.now) }
+    requires line { IsReady by.now.tree.now sum.now }
+    requires stamp { IsStamp by.now }
+    ensures can { OnOk result ((p : Placed) × IsFileOf folder.now by.now.tree.now by.now.token.now sum.now p
+        × P.ways.can p) }
+    ensures fails { IfErr result (FailsAt P.ways folder.now by.now.tree.now by.now.token.now sum.now) }
 {
-    let octets = record_of(alloc, tree, token, sum)?;
-    let name = sum.name(alloc)?;
-    puts.test_file(folder, text_of(name.as_slice()), octets.as_slice())
+    let file = file_of(alloc, by, sum)?;
+    let name = text_of(file.name.as_slice());
+    puts.test_file(folder, name, file.octets.as_slice())
 }
 
 /// Makes the record of a line, and puts it below a folder by the line's name.
@@ -63,21 +81,19 @@ pub fn test_line<'a, P: Puts>(
 /// Errors: U10; it can't be put there; memory is refused. Then none was put.
 pub fn write_line<'a, P: Puts>(
     alloc: Global,
+    by: &Stamp,
     puts: &mut P,
     folder: &str,
-    tree: &Tree,
-    token: &[u8],
     sum: &Sum,
 ) -> Result<(), Failure<'a>>
-    requires named { IsUtf8 sum.now.name }
-    requires leaf { IsLeaf tree.now sum.now }
-    requires token { IsSequence token.now }
-    ensures put { OnOk result ((p : Placed) × IsFileOf folder.now tree.now token.now sum.now p × P.did p
+    requires line { IsReady by.now.tree.now sum.now }
+    requires stamp { IsStamp by.now }
+    ensures put { OnOk result ((p : Placed) × IsFileOf folder.now by.now.tree.now by.now.token.now sum.now p × P.did p
         × Adds (P.put puts.old) (P.put puts.new) (p ∷ [])) }
-    ensures fails { IfErr result (FailsAt P.ways folder.now tree.now token.now sum.now) }
+    ensures fails { IfErr result (FailsAt P.ways folder.now by.now.tree.now by.now.token.now sum.now) }
     ensures none { OnErr result (Adds (P.put puts.old) (P.put puts.new) []) }
 {
-    let octets = record_of(alloc, tree, token, sum)?;
-    let name = sum.name(alloc)?;
-    puts.put_file(folder, text_of(name.as_slice()), octets.as_slice())
+    let file = file_of(alloc, by, sum)?;
+    let name = text_of(file.name.as_slice());
+    puts.put_file(folder, name, file.octets.as_slice())
 }

@@ -1,23 +1,22 @@
 //! `evidence make`: the evidence records of many files, by the stamp of the root of the tree over their digests
 //! (RFC 4998 4.2).
 ghost use Rattle.std.specs.Prelude.{◌≡◌, [], IfErr, IfOk, OnOk};
-ghost use Rattle.evidence_types.specs.StampValue.{IsSequence};
-ghost use Rattle.cli_making.specs.Leaves.{AreLeaves};
-ghost use Rattle.cli_making.specs.Sums.{AreNamed};
+ghost use Rattle.cli_making.specs.Leaves.{AreReady};
 ghost use Rattle.cli_making.specs.Placing.{Adds};
 ghost use Rattle.cli_making.specs.Making.{AreMade, ArePut, AreRecordsWritten, EachFile};
+ghost use Rattle.cli_making.specs.Stamps.{IsStamp};
 ghost use Rattle.cli_making.specs.Unmade.{IsUnmade, IsUntested, MakesNoRecords, StopsAt};
 
+use crate::given::given_by;
 use crate::lines::{test_line, write_line};
-use crate::placing::{Puts, System};
+use crate::placing::Puts;
+use crate::stamp::{Stamp, stamp_of};
 use crate::sums::{sums_in, tree_over};
-use cli_commands::alg_of;
-use cli_failures::{Failure, files};
+use crate::system::System;
+use cli_failures::Failure;
 use cli_tasks::MakeWords;
 use digests::Alg;
-use evidence_making::stamp_of_root;
 use evidence_sums::Sums;
-use evidence_trees::Tree;
 use std::alloc::Global;
 use std::rt::Files;
 
@@ -39,17 +38,10 @@ pub fn make_records<'a, R: Files + AllocGlobal>(
     // Of each line the octets of the record are in a file that was opened, if it is known what such a file holds.
     ensures made { OnOk result (AreRecordsWritten R.File.remaining R.File.contents words.now) }
 {
-    let alg = alg_of(words.alg)?;
-    let text = files::read_whole(rt, words.sums)?;
-    let token = files::read_whole(rt, words.token)?;
-    make_all(
-        rt.alloc(),
-        &mut System::new(rt),
-        words.into,
-        alg,
-        text.as_slice(),
-        token.as_slice(),
-    )?;
+    let given = given_by(rt, words.alg, words.sums, words.token)?;
+    let (text, token) = (given.text.as_slice(), given.token.as_slice());
+    let mut puts = System::new(rt);
+    make_all(rt.alloc(), &mut puts, words.into, given.alg, text, token)?;
     Ok(Vec::new(rt.alloc()))
 }
 
@@ -77,29 +69,27 @@ pub fn make_all<'a, P: Puts>(
 {
     let sums = sums_in(alloc, alg, text)?;
     let tree = tree_over(alloc, alg, &sums)?;
-    stamp_of_root(token, &tree.root())?;
-    test_records(alloc, puts, folder, &tree, token, &sums)?;
-    write_records(alloc, puts, folder, &tree, token, &sums)
+    let by = stamp_of(&tree, token)?;
+    test_records(alloc, &by, puts, folder, &sums)?;
+    write_records(alloc, &by, puts, folder, &sums)
 }
 
 /// Makes the record of each line, and tests whether it can be put below a folder.
 fn test_records<'a, P: Puts>(
     alloc: Global,
+    by: &Stamp,
     puts: &P,
     folder: &str,
-    tree: &Tree,
-    token: &[u8],
     sums: &Sums,
 ) -> Result<(), Failure<'a>>
-    requires named { AreNamed sums.now }
-    requires leaves { AreLeaves tree.now sums.now }
-    requires token { IsSequence token.now }
-    ensures tested { OnOk result (EachFile P.ways.can folder.now tree.now token.now sums.now) }
-    ensures failed { IfErr result (IsUntested P.ways folder.now tree.now token.now sums.now) }
+    requires lines { AreReady by.now.tree.now sums.now }
+    requires stamp { IsStamp by.now }
+    ensures tested { OnOk result (EachFile P.ways.can folder.now by.now.tree.now by.now.token.now sums.now) }
+    ensures failed { IfErr result (IsUntested P.ways folder.now by.now.tree.now by.now.token.now sums.now) }
 {
     let mut left = sums.again();
     while let Some((sum, others)) = left.next() {
-        test_line(alloc, puts, folder, tree, token, &sum)?;
+        test_line(alloc, by, puts, folder, &sum)?;
         left = others;
     }
     Ok(())
@@ -108,23 +98,21 @@ fn test_records<'a, P: Puts>(
 /// Makes the record of each line in turn, and puts it below a folder.
 fn write_records<'a, P: Puts>(
     alloc: Global,
+    by: &Stamp,
     puts: &mut P,
     folder: &str,
-    tree: &Tree,
-    token: &[u8],
     sums: &Sums,
 ) -> Result<(), Failure<'a>>
-    requires named { AreNamed sums.now }
-    requires leaves { AreLeaves tree.now sums.now }
-    requires token { IsSequence token.now }
-    ensures written { OnOk result (ArePut P.did (P.put puts.old) (P.put puts.new) folder.now tree.now token.now
-        sums.now) }
-    ensures failed { IfErr result (λ f. (stop : StopsAt P.ways folder.now tree.now token.now sums.now f)
+    requires lines { AreReady by.now.tree.now sums.now }
+    requires stamp { IsStamp by.now }
+    ensures written { OnOk result (ArePut P.did (P.put puts.old) (P.put puts.new) folder.now by.now.tree.now
+        by.now.token.now sums.now) }
+    ensures failed { IfErr result (λ f. (stop : StopsAt P.ways folder.now by.now.tree.now by.now.token.now sums.now f)
         × Adds (P.put puts.old) (P.put puts.new) stop.files) }
 {
     let mut left = sums.again();
     while let Some((sum, others)) = left.next() {
-        write_line(alloc, puts, folder, tree, token, &sum)?;
+        write_line(alloc, by, puts, folder, &sum)?;
         left = others;
     }
     Ok(())

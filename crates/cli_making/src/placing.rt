@@ -1,3 +1,4 @@
+use crate::system::System;
 use cli_failures::{Failure, files};
 use std::rt::Files;
 
@@ -34,19 +35,6 @@ pub trait Puts {
         ensures adds { OnOk result (Adds (put self.old) (put self.new) (placed folder.now name.now octets.now ∷ [])) }
         // After a failure none was.
         ensures none { OnErr result (Adds (put self.old) (put self.new) []) };
-}
-
-/// The files of the system.
-#[derive(Drop)]
-pub struct System<'r, R> {
-    rt: &'r R,
-}
-
-impl<'r, R> System<'r, R> {
-    /// Those that `rt` gives.
-    pub fn new(rt: &'r R) -> System<'r, R> {
-        System { rt }
-    }
 }
 
 impl<R: Files + AllocGlobal> Puts for System<'_, R> {

@@ -2,5 +2,4 @@ pub mod Walks
 pub mod Lines
 pub mod Anew
 pub mod Puts
-pub mod Tested
 pub mod Runs

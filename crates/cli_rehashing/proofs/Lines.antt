@@ -1,24 +1,23 @@
 -- What the renewals of the records of lines stand on, one line after the other.
-use Rattle.std.proofs.Common.{◌≡◌, ◌≢◌, ◌<◌, ℕ, Bool, true, false, List, [], ◌∷◌, ◌++◌, map, Option, Some, None}
+use Rattle.std.proofs.Common.{◌≡◌, ◌≢◌, ◌⊎◌, ◌<◌, ℕ, Bool, true, false, List, [], ◌∷◌, ◌++◌, map, Option, Some, None}
 use Rattle.std.proofs.Common.{refl, sym, ◌∙◌, subst, inl, inr, length, arith}
-use Rattle.std.specs.List.{AllByRecursion, AllZip}
+use Rattle.std.specs.List.{AllByRecursion}
 use Rattle.digests.specs.Digests.{alg_of}
 use Rattle.digests.specs.declared.algorithm.Alg.{Alg}
 use Rattle.digests.specs.declared.value.Digest.{Digest}
 use Rattle.evidence_sums.specs.SumLines.{SumValue}
-use Rattle.evidence_sums.specs.Sums.{sums_of}
 use Rattle.evidence_making.specs.Done.{IsDoneAnewBy, StandsAnewOn}
 use Rattle.evidence_making.specs.Leaves.{IsRehashLeaf}
 use Rattle.cli_failures.specs.declared.failure.Failure.{Failure}
+use Rattle.cli_failures.specs.declared.failure.Failure.TheVariants as failure
 use Rattle.cli_failures.specs.Files.{path_below}
 use Rattle.cli_making.proofs.Stated.{all_stated, some_digests}
 use Rattle.cli_renewing.specs.declared.footing.Footing.{Footing}
 use Rattle.cli_renewing.specs.Footings.{AreBy}
-use Rattle.cli_renewing.specs.Keeping.{kept}
+use Rattle.cli_renewing.specs.Keeping.{Ways, kept}
 use Rattle.cli_renewing.specs.Steps.{AreOfFirst}
 use Rattle.cli_renewing.proofs.Zips.{zip_push}
 use Rattle.cli_rehashing.specs.Footings.{AreLineFootings, AreLines, IsLineFooting}
-use Rattle.cli_rehashing.specs.Keeping.{Ways}
 use Rattle.cli_rehashing.specs.Standing.{IsFoundAnew}
 use Rattle.cli_rehashing.specs.Unrehashed.{RefusesRecord, StopsAt}
 use Rattle.cli_rehashing.proofs.Walks.{Walked, along, goes_on}
@@ -122,3 +121,17 @@ module _ (ways : Ways) (token : Option (List ℕ)) (folder : List ℕ) where
         subst (λ (ss : Sums). 0 < length (map (λ (s : SumValue). s.digest) ss))
         (some_footings sums footings stand none) some in
         absurd (omega (arith, no))
+
+-- what is lent of them is the same
+pub stand_as : (ways : Ways) (token : Option (List ℕ)) (folder : List ℕ) (sums : Sums) (footings lent : List Footing)
+    → lent ≡ footings → AreLineFootings ways token folder sums footings → AreLineFootings ways token folder sums lent
+stand_as ways token folder sums footings lent same stand =
+    subst (λ (fs : List Footing). AreLineFootings ways token folder sums fs) (sym same) stand
+
+-- why there are no footings
+abbrev pub Stops : Ways → Option (List ℕ) → List ℕ → Sums → Failure → Type 0
+Stops ways token folder sums f = (f ≡ failure.Memory) ⊎ StopsAt ways token folder sums f
+
+-- what they stand on with this token
+abbrev pub StandBy : Ways → (token folder : List ℕ) → Sums → List Footing → Type 0
+StandBy ways token folder sums footings = AreLineFootings ways (Some token) folder sums footings

@@ -9,17 +9,13 @@
 use Rattle.std.specs.Prelude.{◌≡◌, ℕ, List, Option, Ok}
 use Rattle.std.specs.List.{AllZip}
 use Rattle.digests.specs.declared.algorithm.Alg.{Alg}
-use Rattle.digests.specs.declared.value.Digest.{Digest}
-use Rattle.evidence_trees.specs.HashTrees.{HashTree}
 use Rattle.evidence_sums.specs.SumLines.{SumValue}
 use Rattle.evidence_sums.specs.Sums.{sums_of}
 use Rattle.evidence_making.specs.Done.{StandsAnewOn}
 use Rattle.cli_failures.specs.Files.{path_below}
 use Rattle.cli_making.specs.Sums.{AreNamed}
 use Rattle.cli_renewing.specs.declared.footing.Footing.{Footing}
-use Rattle.cli_renewing.specs.Footings.{IsTreeOn}
-use Rattle.cli_renewing.specs.Keeping.{kept}
-use Rattle.cli_rehashing.specs.Keeping.{Ways}
+use Rattle.cli_renewing.specs.Keeping.{Ways, kept}
 
 -- the text states these sums by this algorithm, with names that are UTF-8, as a path is
 pub record AreLines (alg : Alg) (text : List ℕ) (sums : List SumValue) : Type 0 where
@@ -38,9 +34,3 @@ pub record IsLineFooting (ways : Ways) (token : Option (List ℕ)) (folder : Lis
 abbrev pub AreLineFootings : Ways → (token : Option (List ℕ)) → (folder : List ℕ) → List SumValue → List Footing
     → Type 0
 AreLineFootings ways token folder sums footings = AllZip (λ s f. IsLineFooting ways token folder s f) sums footings
-
--- these are what the records of the lines stand on, this is the tree over their leaves, and this is its root
-pub record AreOnTree (ways : Ways) (token : Option (List ℕ)) (folder : List ℕ) (sums : List SumValue)
-    (footings : List Footing) (tree : HashTree) (root : Digest) : Type 0 where
-  pub stand : AreLineFootings ways token folder sums footings
-  pub over : IsTreeOn footings tree root

@@ -1,6 +1,4 @@
-pub mod Keeping
 pub mod Footings
 pub mod Standing
 pub mod Rehashing
 pub mod Unrehashed
-pub mod Steps

@@ -1,52 +1,41 @@
 -- What `evidence rehash` makes (Hash-Tree Renewal, RFC 4998, 5.2): the request for a stamp of the root of the tree over
 -- the leaves of the lines of a text of sums, and with its token the record of each line with a new chain, in its place.
 -- `holds` is what an open file holds, and `contents` what it has taken, if that is known. Begin here.
-use Rattle.std.specs.Prelude.{◌≡◌, ◌≢◌, ℕ, ◌<◌, List, [], ◌∷◌, Option, None, Some, false, Contains, IfSome}
-use Rattle.std.specs.List.{AllByRecursion, AllZip}
+use Rattle.std.specs.Prelude.{◌≡◌, ◌≢◌, ◌<◌, ◌≤◌, ◌^◌, ℕ, List, [], ◌∷◌, Option, None, Some, Contains, length}
+use Rattle.std.specs.List.{AllByRecursion}
 use Rattle.digests.specs.declared.algorithm.Alg.{Alg}
 use Rattle.digests.specs.declared.value.Digest.{Digest}
 use Rattle.digests.specs.Algorithms.{name_of}
 use Rattle.digests.specs.Digests.{alg_of, octets_of}
 use Rattle.digests.specs.Messages.{digest_of}
-use Rattle.tsp_types.specs.Asked.{asked}
-use Rattle.tsp_types.specs.RequestValue.{EncodesRequest}
-use Rattle.evidence_types.specs.EvidenceValue.{EvidenceValue, EncodesEvidence, chains_parts}
+use Rattle.evidence_types.specs.EvidenceValue.{EvidenceValue, EncodesEvidence, chains_parts, evidence_parts}
 use Rattle.check_evidence.specs.Grounds.{Grounds}
 use Rattle.check_evidence.specs.Showing.{Shows}
 use Rattle.judge_evidence.specs.ShowingLaws.{held_at}
-use Rattle.evidence_trees.specs.HashTrees.{HashTree, IsWayFrom, AreListsOf}
+use Rattle.evidence_trees.specs.HashTrees.{HashTree}
 use Rattle.evidence_sums.specs.SumLines.{SumValue}
 use Rattle.evidence_making.specs.Done.{IsRehashedBy}
 use Rattle.evidence_making.specs.Laws.{TokenStands}
 use Rattle.evidence_making.specs.Leaves.{IsRehashLeaf}
 use Rattle.evidence_making.specs.Renewed.{rehashed}
 use Rattle.evidence_making.specs.Renewing.{StandIn}
-use Rattle.evidence_making.specs.Stamping.{StampsRoot}
 use Rattle.cli_tasks.specs.declared.task.RehashRequestWords.{RehashRequestWords}
 use Rattle.cli_tasks.specs.declared.task.RehashWords.{RehashWords}
 use Rattle.cli_failures.specs.Files.{IsHeld, path_below}
-use Rattle.cli_renewing.specs.declared.footing.Footing.{Footing}
-use Rattle.cli_renewing.specs.Footings.{ComesAfter}
-use Rattle.cli_renewing.specs.Keeping.{Adds, IsTaken, Kept, kept}
-use Rattle.cli_rehashing.specs.Footings.{AreLines, AreOnTree}
-use Rattle.cli_rehashing.specs.Keeping.{Ways, system_ways}
+use Rattle.cli_making.specs.Given.{AreGiven}
+use Rattle.cli_renewing.specs.Keeping.{IsTaken, Kept, Ways, system_ways}
+use Rattle.cli_renewing.specs.Records.{Renewal}
+use Rattle.cli_renewing.specs.Renewing.{LeadsUp}
+use Rattle.cli_renewing.specs.Runs.{AreDone, IsRequestOn}
+use Rattle.cli_rehashing.specs.Footings.{AreLineFootings, AreLines}
 
 -- ---- the request
 
--- these octets encode the request for a stamp of the root of the tree on the records of these lines, under no policy,
--- without a nonce, and without a certificate
-pub record IsRequestOn (ways : Ways) (folder : List ℕ) (sums : List SumValue) (octets : List ℕ) : Type 0 where
-  pub footings : List Footing
-  pub tree : HashTree
-  pub root : Digest
-  pub on_tree : AreOnTree ways None folder sums footings tree root
-  pub encoded : EncodesRequest octets (asked root None None false)
-
--- so do they of the lines of a text
+-- these octets encode the request for a stamp of the root of the tree on the records of the lines of a text
 pub record IsRehashRequest (ways : Ways) (folder : List ℕ) (alg : Alg) (text octets : List ℕ) : Type 0 where
   pub sums : List SumValue
   pub are : AreLines alg text sums
-  pub made : IsRequestOn ways folder sums octets
+  pub made : IsRequestOn (λ footings. AreLineFootings ways None folder sums footings) octets
 
 -- the file that the words name for the request is that of none of these lines, by their paths
 abbrev pub IsApart : RehashRequestWords → List SumValue → Type 0
@@ -77,8 +66,8 @@ ShowsDataAfter tree digest token octets new = (g : Grounds) (data_object : List 
 
 -- The octets `new` encode the record that these octets encode, with a new chain by the token at this moment, for the
 -- data object of a digest: its last time-stamp is earlier, and its leaf is one of the tree, which is by the digest's
--- algorithm. The new archive time-stamp has the leaf and the neighbours on its way up, each in a list of its own. The
--- octets of the old chains stand in the new record.
+-- algorithm. The new archive time-stamp has the values that lead from there to the root. The octets of the old chains
+-- stand in the new record.
 pub record IsNewChainOf (tree : HashTree) (token : List ℕ) (m : ℕ) (digest : Digest) (octets new : List ℕ) : Type 0
   where
     pub by : alg_of digest ≡ tree.algorithm
@@ -87,8 +76,7 @@ pub record IsNewChainOf (tree : HashTree) (token : List ℕ) (m : ℕ) (digest :
     pub stood : IsRehashLeaf octets digest leaf last
     pub later : last < m
     pub values : List (List ℕ)
-    pub way : IsWayFrom tree (octets_of leaf) values
-    pub lists : AreListsOf tree (octets_of leaf) values
+    pub up : LeadsUp tree leaf values
     pub old : EvidenceValue
     pub was : EncodesEvidence octets old
     pub encoded : EncodesEvidence new (rehashed old tree.algorithm values token)
@@ -111,61 +99,34 @@ abbrev pub BecomesAnew : HashTree → (token : List ℕ) → (m : ℕ) → Diges
 BecomesAnew tree token m digest octets (Some new) = IsNewChainOf tree token m digest octets new
 BecomesAnew tree token m digest octets None = HasNewChain tree token m digest octets
 
--- so does the record that was read from the file of a line, and the new octets were put there
-pub record IsNewOfLine (ways : Ways) (tree : HashTree) (token : List ℕ) (m : ℕ) (folder : List ℕ) (s : SumValue)
-    (new : Option (List ℕ)) : Type 0 where
-  pub octets : List ℕ
-  pub read : ways.read (kept (path_below folder s.name) octets)
-  pub becomes : BecomesAnew tree token m s.digest octets new
-  pub did : IfSome new (λ os. ways.did (kept (path_below folder s.name) os))
-
--- a test found that the file of a line can be replaced, and what the record that was read from it becomes
-pub record IsLineTested (ways : Ways) (tree : HashTree) (token : List ℕ) (m : ℕ) (folder : List ℕ) (s : SumValue)
-    : Type 0 where
-  pub can : ways.can (path_below folder s.name)
-  pub octets : List ℕ
-  pub read : ways.read (kept (path_below folder s.name) octets)
-  pub new : Option (List ℕ)
-  pub becomes : BecomesAnew tree token m s.digest octets new
+-- the record, with the new chain, would be longer than an element can be
+pub record IsTooLongAnew (tree : HashTree) (token : List ℕ) (digest : Digest) (octets : List ℕ) : Type 0 where
+  pub by : alg_of digest ≡ tree.algorithm
+  pub leaf : Digest
+  pub last : ℕ
+  pub stood : IsRehashLeaf octets digest leaf last
+  pub values : List (List ℕ)
+  pub up : LeadsUp tree leaf values
+  pub size : (old : EvidenceValue) × EncodesEvidence octets old
+      × (2 ^ 32 ≤ length (evidence_parts (rehashed old tree.algorithm values token)))
 
 -- ---- all records
 
--- of each line a test found that
-abbrev pub AreLinesTested : Ways → HashTree → (token : List ℕ) → (m : ℕ) → (folder : List ℕ) → List SumValue → Type 0
-AreLinesTested ways tree token m folder sums = AllByRecursion (λ s. IsLineTested ways tree token m folder s) sums
+-- so it is done with the record of a line, which is below a folder
+abbrev pub rehashing : (folder : List ℕ) → HashTree → (token : List ℕ) → (m : ℕ) → Renewal SumValue
+rehashing folder tree token m = record {
+  path = λ s. path_below folder s.name;
+  Becomes = λ s octets new. BecomesAnew tree token m s.digest octets new;
+  IsTooLong = λ s octets. IsTooLongAnew tree token s.digest octets;
+}
 
--- the files that are put: of each line the new octets, where there are some
-abbrev pub line_puts : (folder : List ℕ) → List SumValue → (news : List (Option (List ℕ))) → List Kept
-line_puts folder [] news = []
-line_puts folder (s ∷ sums) [] = []
-line_puts folder (s ∷ sums) (None ∷ news) = line_puts folder sums news
-line_puts folder (s ∷ sums) (Some os ∷ news) = kept (path_below folder s.name) os ∷ line_puts folder sums news
-
--- of each line such new octets, where its record isn't renewed already, in their order; and these were put
-pub record ArePutAnew (ways : Ways) (before after : Option (List Kept)) (tree : HashTree) (token : List ℕ) (m : ℕ)
-    (folder : List ℕ) (sums : List SumValue) (news : List (Option (List ℕ))) : Type 0 where
-  pub each : AllZip (λ s new. IsNewOfLine ways tree token m folder s new) sums news
-  pub put : Adds before after (line_puts folder sums news)
-
--- the token stamps the root of the tree on the records of these lines, later than their last time-stamps
-pub record AreStamped (ways : Ways) (folder : List ℕ) (sums : List SumValue) (token : List ℕ) (tree : HashTree)
-    (m : ℕ) : Type 0 where
-  pub footings : List Footing
-  pub root : Digest
-  pub on_tree : AreOnTree ways (Some token) folder sums footings tree root
-  pub stamped : StampsRoot token root m
-  pub later : ComesAfter m footings
-
--- and a test found what each record becomes; and then each that isn't renewed already was replaced by the new one, and
--- no other file
-pub record AreAnewOn (ways : Ways) (before after : Option (List Kept)) (folder : List ℕ) (sums : List SumValue)
-    (token : List ℕ) : Type 0 where
-  pub tree : HashTree
-  pub moment : ℕ
-  pub stamped : AreStamped ways folder sums token tree moment
-  pub tested : AreLinesTested ways tree token moment folder sums
-  pub news : List (Option (List ℕ))
-  pub made : ArePutAnew ways before after tree token moment folder sums news
+-- The token stamps the root of the tree on the records of these lines, later than their last time-stamps; a test found
+-- what each record becomes; and then each that isn't renewed already was replaced by the new one, and no other file.
+abbrev pub AreAnewOn : Ways → (before after : Option (List Kept)) → (folder : List ℕ) → List SumValue
+    → (token : List ℕ) → Type 0
+AreAnewOn ways before after folder sums token =
+    AreDone ways before after (λ footings. AreLineFootings ways (Some token) folder sums footings) (rehashing folder)
+    sums token
 
 -- so it is of the lines of a text
 pub record AreAnew (ways : Ways) (before after : Option (List Kept)) (folder : List ℕ) (alg : Alg)
@@ -177,9 +138,7 @@ pub record AreAnew (ways : Ways) (before after : Option (List Kept)) (folder : L
 -- so it is of the text of a file, by the algorithm that the words name, and of the token that a file holds
 pub record AreRecordsAnew {F : Type 0} (holds contents : F → Option (List ℕ)) (words : RehashWords) : Type 0 where
   pub alg : Alg
-  pub named : words.alg.now ≡ name_of alg
   pub text : List ℕ
-  pub text_held : IsHeld holds text
   pub token : List ℕ
-  pub token_held : IsHeld holds token
+  pub given : AreGiven holds words.alg.now alg text token
   pub are : AreAnew (system_ways holds contents) None None words.into.now alg text token

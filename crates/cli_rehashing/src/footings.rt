@@ -3,7 +3,8 @@ ghost use Rattle.std.specs.Prelude.{◌≡◌, ◌≢◌, ◌⊎◌, [], IfErr, 
 ghost use Rattle.std.specs.Option.{option_copied};
 ghost use Rattle.digests.specs.declared.algorithm.Alg.{Alg};
 ghost use Rattle.digests.specs.declared.value.Digest.{Digest};
-ghost use Rattle.cli_renewing.specs.Footings.{IsRootOf, IsTreeOn};
+ghost use Rattle.cli_making.specs.Sums.{IsRootOf};
+ghost use Rattle.cli_renewing.specs.Footings.{IsTreeOn};
 ghost use Rattle.cli_renewing.specs.Steps.{AreOfFirst};
 ghost use Rattle.cli_rehashing.specs.Footings.{AreLineFootings, AreLines};
 ghost use Rattle.cli_rehashing.specs.Unrehashed.{StopsAt};

@@ -1,13 +1,13 @@
 //! The files below a folder that records are in.
 use cli_failures::{Failure, files};
+use cli_making::System;
 use std::rt::Files;
 
 /// Reads files and replaces them, each as `FOLDER/NAME.ers`: the system, or what stands for it in a test.
 pub trait KeepsBelow {
     ghost use Rattle.std.specs.Prelude.{ℕ, List, [], ◌∷◌, Option, IfErr, IfOk, OnErr, OnOk};
     ghost use Rattle.cli_failures.specs.Files.{path_below};
-    ghost use Rattle.cli_renewing.specs.Keeping.{Adds, Kept, kept};
-    ghost use Rattle.cli_rehashing.specs.Keeping.{Ways};
+    ghost use Rattle.cli_renewing.specs.Keeping.{Adds, Kept, Ways, kept};
 
     // What is known of reading files and replacing them. No contract of `Files` says which path is read or written:
     // here paths stand for what is asked of the system, by which the contracts say of which file what is read and put.
@@ -44,21 +44,9 @@ pub trait KeepsBelow {
 }
 
 /// The files of the system. No link below the folder is followed.
-#[derive(Drop)]
-pub struct System<'r, R> {
-    rt: &'r R,
-}
-
-impl<'r, R> System<'r, R> {
-    /// Those that `rt` gives.
-    pub fn new(rt: &'r R) -> System<'r, R> {
-        System { rt }
-    }
-}
-
 impl<R: Files + AllocGlobal> KeepsBelow for System<'_, R> {
     ghost use Rattle.std.specs.Prelude.{None};
-    ghost use Rattle.cli_rehashing.specs.Keeping.{system_ways};
+    ghost use Rattle.cli_renewing.specs.Keeping.{system_ways};
 
     ghost ways = { system_ways R.File.remaining R.File.contents };
 

@@ -10,6 +10,6 @@ mod rehash;
 mod request;
 mod step;
 
-pub use keeping::{KeepsBelow, System};
+pub use keeping::KeepsBelow;
 pub use rehash::{rehash_all, rehash_records};
 pub use request::{rehash_request, request_rehash};

@@ -1,27 +1,22 @@
 //! `evidence rehash` with a token: records that get a new chain by one hash tree, each in its place (RFC 4998 5.2).
 ghost use Rattle.std.specs.Prelude.{◌≡◌, List, ℕ, Option, [], IfErr, IfOk, OnOk};
 ghost use Rattle.digests.specs.declared.algorithm.Alg.{Alg};
-ghost use Rattle.evidence_types.specs.StampValue.{IsSequence};
+ghost use Rattle.cli_making.specs.Stamps.{IsStamp};
 ghost use Rattle.cli_making.specs.Sums.{AreNamed};
-ghost use Rattle.cli_renewing.specs.Steps.{StampsTree};
+ghost use Rattle.cli_renewing.specs.Records.{ArePut, AreTested, IsUntested, StopsAtPut};
 ghost use Rattle.cli_rehashing.specs.Footings.{AreLines};
-ghost use Rattle.cli_rehashing.specs.Rehashing.{AreAnew, AreAnewOn, AreLinesTested, ArePutAnew, AreRecordsAnew};
-ghost use Rattle.cli_rehashing.specs.Steps.{StopsAtPut};
-ghost use Rattle.cli_rehashing.specs.Unrehashed.{AreLinesNotAnew, AreNotAnew, IsUntested, RehashesNot};
+ghost use Rattle.cli_rehashing.specs.Rehashing.{AreAnew, AreAnewOn, AreRecordsAnew, rehashing};
+ghost use Rattle.cli_rehashing.specs.Unrehashed.{AreLinesNotAnew, AreNotAnew, RehashesNot};
 
 use crate::footings::{footings_of, tree_of};
-use crate::keeping::{KeepsBelow, System};
+use crate::keeping::KeepsBelow;
 use crate::step::{put_line, test_line};
-use cli_commands::alg_of;
-use cli_failures::{Failure, files};
-use cli_making::sums_in;
-use cli_renewing::test_order;
+use cli_failures::Failure;
+use cli_making::{Stamp, System, given_by, sums_in};
+use cli_renewing::later_stamp;
 use cli_tasks::RehashWords;
-use der_time::Moment;
 use digests::Alg;
-use evidence_making::stamp_of_root;
 use evidence_sums::Sums;
-use evidence_trees::Tree;
 use std::alloc::Global;
 use std::rt::Files;
 
@@ -42,17 +37,10 @@ pub fn rehash_records<'a, R: Files + AllocGlobal>(
     // what such a file holds.
     ensures renewed { OnOk result (AreRecordsAnew R.File.remaining R.File.contents words.now) }
 {
-    let alg = alg_of(words.alg)?;
-    let text = files::read_whole(rt, words.sums)?;
-    let token = files::read_whole(rt, words.token)?;
-    rehash_all(
-        rt.alloc(),
-        &mut System::new(rt),
-        words.into,
-        alg,
-        text.as_slice(),
-        token.as_slice(),
-    )?;
+    let given = given_by(rt, words.alg, words.sums, words.token)?;
+    let (text, token) = (given.text.as_slice(), given.token.as_slice());
+    let mut keeps = System::new(rt);
+    rehash_all(rt.alloc(), &mut keeps, words.into, given.alg, text, token)?;
     Ok(Vec::new(rt.alloc()))
 }
 
@@ -99,33 +87,32 @@ fn rehash_lines<'a, K: KeepsBelow>(
     ensures failed { IfErr result (AreLinesNotAnew K.ways (K.put keeps.old) (K.put keeps.new) folder.now sums.now
         token.now) }
 {
-    let footings = footings_of(alloc, keeps, folder, sums, Some(token))?;
-    let tree = tree_of(alloc, footings.as_slice())?;
-    let moment = stamp_of_root(token, &tree.root())?;
-    test_order(footings.as_slice(), moment)?;
-    test_lines(alloc, keeps, folder, sums, &tree, token, moment)?;
-    put_lines(alloc, keeps, folder, sums, &tree, token, moment)
+    let found = footings_of(alloc, keeps, folder, sums, Some(token))?;
+    let footings = found.as_slice();
+    let tree = tree_of(alloc, footings)?;
+    let by = later_stamp(&tree, footings, token)?;
+    test_lines(alloc, &by, keeps, folder, sums)?;
+    put_lines(alloc, &by, keeps, folder, sums)
 }
 
 /// Tests whether the record of each line can be given a new chain, and put into its place.
 fn test_lines<'a, K: KeepsBelow>(
     alloc: Global,
+    by: &Stamp,
     keeps: &K,
     folder: &str,
     sums: &Sums,
-    tree: &Tree,
-    token: &[u8],
-    moment: Moment,
 ) -> Result<(), Failure<'a>>
     requires named { AreNamed sums.now }
-    requires stamped { StampsTree tree.now token.now moment }
-    requires sequence { IsSequence token.now }
-    ensures tested { OnOk result (AreLinesTested K.ways tree.now token.now moment folder.now sums.now) }
-    ensures failed { IfErr result (IsUntested K.ways tree.now token.now moment folder.now sums.now) }
+    requires stamp { IsStamp by.now }
+    ensures tested { OnOk result (AreTested K.ways
+        (rehashing folder.now by.now.tree.now by.now.token.now by.now.moment) sums.now) }
+    ensures failed { IfErr result (IsUntested K.ways
+        (rehashing folder.now by.now.tree.now by.now.token.now by.now.moment) sums.now) }
 {
     let mut left = sums.again();
     while let Some((sum, others)) = left.next() {
-        test_line(alloc, keeps, folder, &sum, tree, token, moment)?;
+        test_line(alloc, by, keeps, folder, &sum)?;
         left = others;
     }
     Ok(())
@@ -134,24 +121,21 @@ fn test_lines<'a, K: KeepsBelow>(
 /// Gives the record of each line a new chain, one after the other.
 fn put_lines<'a, K: KeepsBelow>(
     alloc: Global,
+    by: &Stamp,
     keeps: &mut K,
     folder: &str,
     sums: &Sums,
-    tree: &Tree,
-    token: &[u8],
-    moment: Moment,
 ) -> Result<(), Failure<'a>>
     requires named { AreNamed sums.now }
-    requires stamped { StampsTree tree.now token.now moment }
-    requires sequence { IsSequence token.now }
-    ensures put { OnOk result ((news : List (Option (List ℕ)))
-        × ArePutAnew K.ways (K.put keeps.old) (K.put keeps.new) tree.now token.now moment folder.now sums.now news) }
-    ensures failed { IfErr result (StopsAtPut K.ways (K.put keeps.old) (K.put keeps.new) tree.now token.now moment
-        folder.now sums.now) }
+    requires stamp { IsStamp by.now }
+    ensures put { OnOk result ((news : List (Option (List ℕ))) × ArePut K.ways (K.put keeps.old) (K.put keeps.new)
+        (rehashing folder.now by.now.tree.now by.now.token.now by.now.moment) sums.now news) }
+    ensures failed { IfErr result (StopsAtPut K.ways (K.put keeps.old) (K.put keeps.new)
+        (rehashing folder.now by.now.tree.now by.now.token.now by.now.moment) sums.now) }
 {
     let mut left = sums.again();
     while let Some((sum, others)) = left.next() {
-        put_line(alloc, keeps, folder, &sum, tree, token, moment)?;
+        put_line(alloc, by, keeps, folder, &sum)?;
         left = others;
     }
     Ok(())

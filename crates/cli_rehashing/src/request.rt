@@ -4,17 +4,18 @@ ghost use Rattle.std.specs.Prelude.{◌≡◌, ◌⊎◌, ℕ, List, None, [], I
 ghost use Rattle.digests.specs.declared.algorithm.Alg.{Alg};
 ghost use Rattle.cli_failures.specs.Causes.{Names};
 ghost use Rattle.cli_making.specs.Sums.{AreNamed};
-ghost use Rattle.cli_rehashing.specs.Footings.{AreLines};
-ghost use Rattle.cli_rehashing.specs.Rehashing.{IsApart, IsRehashRequest, IsRehashRequestWritten, IsRequestOn};
+ghost use Rattle.cli_rehashing.specs.Footings.{AreLineFootings, AreLines};
+ghost use Rattle.cli_renewing.specs.Keeping.{system_ways};
+ghost use Rattle.cli_renewing.specs.Runs.{IsRequestOn};
+ghost use Rattle.cli_rehashing.specs.Rehashing.{IsApart, IsRehashRequest, IsRehashRequestWritten};
 ghost use Rattle.cli_rehashing.specs.Unrehashed.{HaveNoTree, MakesNoRehashRequest, StopsAt};
-ghost use Rattle.cli_rehashing.specs.Keeping.{system_ways};
 
 use crate::footings::{footings_of, tree_of};
-use crate::keeping::{KeepsBelow, System};
+use crate::keeping::KeepsBelow;
 use cli_commands::alg_of;
 use cli_failures::request::request_of;
 use cli_failures::{Failure, files};
-use cli_making::{sums_in, text_of};
+use cli_making::{System, sums_in, text_of};
 use cli_tasks::RehashRequestWords;
 use digests::Alg;
 use evidence_sums::Sums;
@@ -112,7 +113,8 @@ fn request_on<'a, K: KeepsBelow>(
     sums: &Sums,
 ) -> Result<Vec<u8>, Failure<'a>>
     requires { (alg : Alg) × (text : List ℕ) × AreLines alg text sums.now }
-    ensures made { IfOk result (λ octets. IsRequestOn K.ways folder.now sums.now octets.items) }
+    ensures made { IfOk result (λ octets.
+        IsRequestOn (λ footings. AreLineFootings K.ways None folder.now sums.now footings) octets.items) }
     ensures refused { IfErr result (λ f. (f ≡ Failure.Memory) ⊎ StopsAt K.ways None folder.now sums.now f) }
 {
     let footings = footings_of(alloc, keeps, folder, sums, None)?;

@@ -1,31 +1,21 @@
 //! The renewal of the record of one line.
-ghost use Rattle.std.specs.Prelude.{◌≡◌, ◌⊎◌, ◌↔◌, ◌<◌, [], IfErr, OnErr, OnOk, IsTrue, IsUtf8, vec_items};
-ghost use Rattle.evidence_types.specs.StampValue.{IsSequence};
+ghost use Rattle.std.specs.Prelude.{◌≡◌, ◌⊎◌, [], IfErr, OnErr, OnOk, IsUtf8, vec_items};
 ghost use Rattle.cli_failures.specs.Files.{IsUnread, path_below};
+ghost use Rattle.cli_making.specs.Stamps.{IsStamp};
 ghost use Rattle.cli_renewing.specs.Keeping.{Adds};
-ghost use Rattle.cli_renewing.specs.Steps.{StampsTree};
-ghost use Rattle.cli_rehashing.specs.Rehashing.{IsLineTested};
-ghost use Rattle.cli_rehashing.specs.Steps.{IsPutAnewAt, IsStepAnew};
-ghost use Rattle.cli_rehashing.specs.Unrehashed.{FailsAt, IsTooLongAt};
+ghost use Rattle.cli_renewing.specs.Records.{FailsAt, IsPutAt, IsTested, IsTooLongAt};
+ghost use Rattle.cli_renewing.specs.Steps.{IsStep};
+ghost use Rattle.cli_rehashing.specs.Rehashing.{BecomesAnew, IsTooLongAnew, rehashing};
 
 use crate::footing::standing_of;
 use crate::keeping::KeepsBelow;
 use cli_failures::{Failure, files};
-use cli_making::text_of;
-use cli_renewing::Unrenewed;
-use der_time::Moment;
+use cli_making::{Stamp, text_of};
+use cli_renewing::{Unrenewed, lists_of};
 use digests::Digest;
 use evidence_making::{MakeFault as MakeRecordFault, RenewFault, rehash_record};
 use evidence_sums::Sum;
-use evidence_trees::Tree;
 use std::alloc::Global;
-
-/// Whether a moment is later than another.
-fn is_later(moment: Moment, last: Moment) -> bool
-    ensures { IsTrue result ↔ (last < moment) }
-{
-    last < moment
-}
 
 /// The octets of a record with a new chain by the token, for the data object of this digest, or `None` if it is renewed
 /// so already.
@@ -33,32 +23,26 @@ fn is_later(moment: Moment, last: Moment) -> bool
 /// Errors: the octets don't encode a record that stands on a leaf of the tree, and is earlier; U10; memory is refused.
 fn rehashed_of(
     alloc: Global,
+    by: &Stamp,
     octets: &[u8],
     digest: &Digest,
-    tree: &Tree,
-    token: &[u8],
-    moment: Moment,
 ) -> Result<Option<Vec<u8>>, Unrenewed>
-    requires stamped { StampsTree tree.now token.now moment }
-    requires sequence { IsSequence token.now }
-    ensures { IsStepAnew vec_items tree.now token.now moment digest.now octets.now result }
+    requires { IsStamp by.now }
+    ensures { IsStep vec_items (BecomesAnew by.now.tree.now by.now.token.now by.now.moment digest.now octets.now)
+        (IsTooLongAnew by.now.tree.now by.now.token.now digest.now octets.now) result }
 {
-    let standing = match standing_of(alloc, octets, digest, Some(token)) {
+    let standing = match standing_of(alloc, octets, digest, Some(by.token)) {
         Ok(standing) => standing,
         Err(Failure::Memory) => return Err(Unrenewed::OutOfMemory),
         Err(_) => return Err(Unrenewed::Changed),
     };
-    let footing = standing.footing;
-    let Some(values) = tree.lists_of(&footing.leaf) else {
+    let Some(values) = lists_of(by, &standing.footing) else {
         return Err(Unrenewed::Changed);
     };
-    if !is_later(moment, footing.after) {
-        return Err(Unrenewed::Changed);
-    }
     if standing.done {
         return Ok(None);
     }
-    match rehash_record(alloc, octets, digest.alg(), &values, token) {
+    match rehash_record(alloc, octets, digest.alg(), &values, by.token) {
         Ok(rehashed) => Ok(Some(rehashed)),
         Err(RenewFault::TooLong) => Err(Unrenewed::TooLong),
         Err(RenewFault::OutOfMemory) => Err(Unrenewed::OutOfMemory),
@@ -82,26 +66,25 @@ fn changed<'a>(alloc: Global, folder: &str, name: &str) -> Failure<'a>
 /// refused.
 pub fn test_line<'a, K: KeepsBelow>(
     alloc: Global,
+    by: &Stamp,
     keeps: &K,
     folder: &str,
     sum: &Sum,
-    tree: &Tree,
-    token: &[u8],
-    moment: Moment,
 ) -> Result<(), Failure<'a>>
     requires named { IsUtf8 sum.now.name }
-    requires stamped { StampsTree tree.now token.now moment }
-    requires sequence { IsSequence token.now }
-    ensures tested { OnOk result (IsLineTested K.ways tree.now token.now moment folder.now sum.now) }
-    ensures fails { IfErr result (λ f. IsTooLongAt K.ways tree.now token.now folder.now sum.now f
-        ⊎ FailsAt K.ways folder.now sum.now f) }
+    requires stamp { IsStamp by.now }
+    ensures tested { OnOk result (IsTested K.ways
+        (rehashing folder.now by.now.tree.now by.now.token.now by.now.moment) sum.now) }
+    ensures fails { IfErr result (λ f. IsTooLongAt K.ways
+        (rehashing folder.now by.now.tree.now by.now.token.now by.now.moment) sum.now f
+        ⊎ FailsAt K.ways (path_below folder.now sum.now.name) f) }
 {
     let name = sum.name(alloc)?;
     let name = text_of(name.as_slice());
     keeps.test_file(folder, name)?;
     let octets = keeps.read_file(folder, name)?;
     let digest = sum.digest(alloc)?;
-    match rehashed_of(alloc, octets.as_slice(), &digest, tree, token, moment) {
+    match rehashed_of(alloc, by, octets.as_slice(), &digest) {
         Ok(_) => Ok(()),
         Err(Unrenewed::Changed) => Err(changed(alloc, folder, name)),
         Err(Unrenewed::TooLong) => Err(Failure::Unmade(MakeRecordFault::TooLong)),
@@ -115,26 +98,23 @@ pub fn test_line<'a, K: KeepsBelow>(
 /// Then no file was put.
 pub fn put_line<'a, K: KeepsBelow>(
     alloc: Global,
+    by: &Stamp,
     keeps: &mut K,
     folder: &str,
     sum: &Sum,
-    tree: &Tree,
-    token: &[u8],
-    moment: Moment,
 ) -> Result<(), Failure<'a>>
     requires named { IsUtf8 sum.now.name }
-    requires stamped { StampsTree tree.now token.now moment }
-    requires sequence { IsSequence token.now }
-    ensures put { OnOk result (IsPutAnewAt K.ways (K.put keeps.old) (K.put keeps.new) tree.now token.now moment
-        folder.now sum.now) }
-    ensures fails { IfErr result (FailsAt K.ways folder.now sum.now) }
+    requires stamp { IsStamp by.now }
+    ensures put { OnOk result (IsPutAt K.ways (K.put keeps.old) (K.put keeps.new)
+        (rehashing folder.now by.now.tree.now by.now.token.now by.now.moment) sum.now) }
+    ensures fails { IfErr result (FailsAt K.ways (path_below folder.now sum.now.name)) }
     ensures none { OnErr result (Adds (K.put keeps.old) (K.put keeps.new) []) }
 {
     let name = sum.name(alloc)?;
     let name = text_of(name.as_slice());
     let octets = keeps.read_file(folder, name)?;
     let digest = sum.digest(alloc)?;
-    match rehashed_of(alloc, octets.as_slice(), &digest, tree, token, moment) {
+    match rehashed_of(alloc, by, octets.as_slice(), &digest) {
         Ok(Some(rehashed)) => keeps.put_file(folder, name, rehashed.as_slice()),
         Ok(None) => Ok(()),
         Err(Unrenewed::Changed | Unrenewed::TooLong) => Err(changed(alloc, folder, name)),

@@ -2,7 +2,6 @@ pub mod Zips
 pub mod Standings
 pub mod Trees
 pub mod Puts
-pub mod Tested
 pub mod Renewals
 pub mod Runs
 pub mod Short

@@ -1,6 +1,6 @@
 -- How a run ends: which records are renewed, which request is made, and why not.
-use Rattle.std.proofs.Common.{◌≡◌, ◌≢◌, ◌⊎◌, ◌↔◌, ◌≤◌, ◌^◌, ℕ, List, [], ◌∷◌, Option, Some, None, Result, Ok, Err, refl}
-use Rattle.std.proofs.Common.{sym, ap, ◌∙◌, ◌<◌, subst, inl, inr, length, false, arith}
+use Rattle.std.proofs.Common.{◌≡◌, ◌⊎◌, ◌≤◌, ◌<◌, ◌^◌, ℕ, List, [], ◌∷◌, Option, None, Result, Ok, Err, refl}
+use Rattle.std.proofs.Common.{inl, inr, length, false, arith}
 use Rattle.std.specs.Prelude.{IfErr, IfOk, OnOk, codes}
 use Rattle.std.specs.Borrow.{Bor}
 use Rattle.std.specs.List.{AllZip}
@@ -8,28 +8,20 @@ use Rattle.digests.specs.declared.value.Digest.{Digest}
 use Rattle.tsp_types.specs.Asked.{asked}
 use Rattle.tsp_types.specs.RequestValue.{EncodesRequest, request_parts}
 use Rattle.evidence_trees.specs.HashTrees.{HashTree}
-use Rattle.evidence_making.specs.Stamping.{IsNoToken, StampsAnother, StampsRoot}
-use Rattle.evidence_making.specs.declared.fault.StampFault.{StampFault}
-use Rattle.evidence_making.specs.declared.fault.StampFault.TheVariants as stamp
 use Rattle.cli_failures.specs.declared.failure.Failure.{Failure}
 use Rattle.cli_failures.specs.declared.failure.Failure.TheVariants as failure
 use Rattle.cli_failures.specs.Causes.{Names}
+use Rattle.cli_making.specs.declared.stamp.Stamp.{Stamp}
+use Rattle.cli_making.specs.Stamps.{IsStamp, StampsTree}
+use Rattle.cli_making.specs.Sums.{IsRootOf}
+use Rattle.cli_making.proofs.Stamps.{as_of}
 use Rattle.cli_renewing.specs.declared.footing.Footing.{Footing}
 use Rattle.cli_renewing.specs.Footings.{AreFootings, ComesAfter, IsFootingRead, IsTreeOn}
 use Rattle.cli_renewing.specs.Keeping.{Kept, Ways}
-use Rattle.cli_renewing.specs.Renewing.{ArePut, AreRenewed, AreTested, IsRenewalRequest}
-use Rattle.cli_renewing.specs.Steps.{StopsAtPut}
-use Rattle.cli_renewing.specs.Unrenewed.{AreRefused, AreUnrenewed, HaveNoTree, IsTooEarly, IsUntested}
-use Rattle.cli_renewing.specs.Unrenewed.{StampsNot, StopsAt}
+use Rattle.cli_renewing.specs.Records.{ArePut, AreTested, IsUntested, Renewal, StopsAtPut}
+use Rattle.cli_renewing.specs.Runs.{AreDone, AreNotDone, AreRefused, AreStamped, IsNotLater, IsRequestOn}
+use Rattle.cli_renewing.specs.Unrenewed.{HaveNoTree, StopsAt}
 use Rattle.cli_renewing.proofs.Puts.{adds_none}
-
--- why a token doesn't stamp a root, by the fault that is returned
-pub stamps_not : (token : List ℕ) (root : Digest) (r : Result ℕ StampFault) (fault : StampFault) → r ≡ Err fault
-    → (r ≡ Err stamp.TokenMalformed) ↔ IsNoToken token → (r ≡ Err stamp.ImprintDiffers) ↔ StampsAnother token root
-    → r ≢ Err stamp.Order → StampsNot token root (failure.Unstamping fault)
-stamps_not token root r stamp.TokenMalformed is malformed differs order = inl (refl, malformed.0 is)
-stamps_not token root r stamp.ImprintDiffers is malformed differs order = inr (refl, differs.0 is)
-stamps_not token root r stamp.Order is malformed differs order = absurd (order is)
 
 -- no footing is only of no path
 none_of_none : {A B : Type 0} (R : A → B → Type 0) (xs : List A) (ys : List B) → AllZip R xs ys → ys ≡ [] → xs ≡ []
@@ -53,92 +45,97 @@ module _ (ways : Ways) (token : Option (List ℕ)) (paths : List (Bor (List ℕ)
 
 -- ---- the request
 
-module _ (ways : Ways) (paths : List (Bor (List ℕ))) (footings : List Footing)
-    (are : AreFootings ways None paths footings) (tree : HashTree) (root : Digest) (over : IsTreeOn footings tree root)
-  where
-    pub asks_if : {O E : Type 0} (items : O → List ℕ) (r : Result O E)
-        → IfOk r (λ o. EncodesRequest (items o) (asked root None None false))
-        → IfOk r (λ o. IsRenewalRequest ways paths (items o))
-    asks_if items (Err e) encoded = tt
-    asks_if items (Ok o) encoded =
-        record { footings = footings; are = are; tree = tree; root = root; over = over; encoded = encoded }
+pub asks_if : {O E : Type 0} (Are : List Footing → Type 0) (footings : List Footing) → Are footings
+    → (tree : HashTree) (root : Digest) → IsTreeOn footings tree root → (items : O → List ℕ) (r : Result O E)
+    → IfOk r (λ o. EncodesRequest (items o) (asked root None None false)) → IfOk r (λ o. IsRequestOn Are (items o))
+asks_if Are footings are tree root over items (Err e) encoded = tt
+asks_if Are footings are tree root over items (Ok o) encoded =
+    record { footings = footings; are = are; tree = tree; root = root; over = over; encoded = encoded }
 
-    pub asks_not : {O : Type 0} → length (request_parts (asked root None None false)) < 2 ^ 32 → (r : Result O Failure)
-        → IfErr r (λ f. (f ≡ failure.Memory) ⊎ (Names (codes "nonce") f
-        × (2 ^ 32 ≤ length (request_parts (asked root None None false)))))
-        → IfErr r (HaveNoTree ways None paths)
-    asks_not short (Ok o) why = tt
-    asks_not short (Err f) (inl m) = inr (inl m)
-    asks_not short (Err f) (inr (named, long)) = absurd (omega (arith, short, long))
+-- it isn't made only if memory ran out
+pub asks_not : {O : Type 0} (P : Failure → Type 0) → P failure.Memory → (root : Digest)
+    → length (request_parts (asked root None None false)) < 2 ^ 32 → (r : Result O Failure)
+    → IfErr r (λ f. (f ≡ failure.Memory) ⊎ (Names (codes "nonce") f
+    × (2 ^ 32 ≤ length (request_parts (asked root None None false))))) → IfErr r P
+asks_not P lacks root short (Ok o) why = tt
+asks_not P lacks root short (Err f) (inl m) = rw m lacks
+asks_not P lacks root short (Err f) (inr (named, long)) = absurd (omega (arith, short, long))
 
 -- ---- the records
 
-module _ (ways : Ways) (paths : List (Bor (List ℕ))) (token : List ℕ) where
-  pub refused : (put : Option (List Kept)) (f : Failure) → AreRefused ways paths token f
-      → AreUnrenewed ways put put paths token f
+module _ {A : Type 0} (ways : Ways) (NoTree : Failure → Type 0) (Are : List Footing → Type 0)
+    (renewal : HashTree → List ℕ → ℕ → Renewal A) (xs : List A) (token : List ℕ) where
+  refused : (put : Option (List Kept)) (f : Failure) → AreRefused ways NoTree Are renewal xs token f
+      → AreNotDone ways put put NoTree Are renewal xs token f
   refused put f why = inl (why, adds_none put)
 
-  pub treeless : (put : Option (List Kept)) (f : Failure) → HaveNoTree ways (Some token) paths f
-      → AreUnrenewed ways put put paths token f
+  pub treeless : (put : Option (List Kept)) (f : Failure) → NoTree f
+      → AreNotDone ways put put NoTree Are renewal xs token f
   treeless put f why = refused put f (inl why)
 
-  module _ (footings : List Footing) (are : AreFootings ways (Some token) paths footings) (tree : HashTree)
-      (root : Digest) (over : IsTreeOn footings tree root) where
-    pub unstamped : (put : Option (List Kept)) (f : Failure) → StampsNot token root f
-        → AreUnrenewed ways put put paths token f
-    unstamped put f why = refused put f (inr (footings, tree, root, are, over, inl why))
+  module _ (footings : List Footing) (are : Are footings) (tree : HashTree)
+      (over : (root : Digest) → IsRootOf tree root → IsTreeOn footings tree root) where
+    pub unstamped : (put : Option (List Kept)) (f : Failure) → IsNotLater tree footings token f
+        → AreNotDone ways put put NoTree Are renewal xs token f
+    unstamped put f (inl (root, is_root, not)) =
+        refused put f (inr (footings, tree, root, are, over root is_root, inl not))
+    unstamped put f (inr (m, (root, is_root, stamps), early)) =
+        refused put f (inr (footings, tree, root, are, over root is_root, inr (m, stamps, inl early)))
 
-    module _ (m : ℕ) (stamped : StampsRoot token root m) where
-      pub too_early : (put : Option (List Kept)) (f : Failure) → IsTooEarly m footings f
-          → AreUnrenewed ways put put paths token f
-      too_early put f why = refused put f (inr (footings, tree, root, are, over, inr (m, stamped, inl why)))
+    module _ (s : Stamp) (has : (s.tree.now ≡ tree) × (s.token.now ≡ token)) (stamps : IsStamp s) where
+      its : StampsTree tree token s.moment
+      its = as_of s tree token has (λ t octets. StampsTree t octets s.moment) stamps.0
 
-      pub untested : (put : Option (List Kept)) (f : Failure) → IsUntested ways tree token m paths f
-          → AreUnrenewed ways put put paths token f
-      untested put f why = refused put f (inr (footings, tree, root, are, over, inr (m, stamped, inr why)))
+      pub untested : (put : Option (List Kept)) (f : Failure)
+          → IsUntested ways (renewal s.tree.now s.token.now s.moment) xs f
+          → AreNotDone ways put put NoTree Are renewal xs token f
+      untested put f why =
+          let there = as_of s tree token has (λ t octets. IsUntested ways (renewal t octets s.moment) xs f) why in
+          refused put f (inr (footings, tree, its.0, are, over its.0 its.1, inr (s.moment, its.2, inr there)))
 
-      module _ (later : ComesAfter m footings) (tested : AreTested ways tree token m paths)
-          (before after : Option (List Kept)) where
-        stopped : (f : Failure) → StopsAtPut ways before after tree token m paths f
-            → AreUnrenewed ways before after paths token f
-        stopped f s = inr (record {
-          footings = footings;
-          are = are;
-          tree = tree;
-          root = root;
-          over = over;
-          moment = m;
-          stamped = stamped;
-          later = later;
-          tested = tested;
-          front = s.front;
-          path = s.path;
-          others = s.others;
-          all = s.all;
-          news = s.news;
-          made = s.made;
-          why = s.why;
-        })
+      module _ (later : ComesAfter s.moment footings)
+          (tested : AreTested ways (renewal s.tree.now s.token.now s.moment) xs) (before after : Option (List Kept))
+        where
+          stamped : AreStamped Are token tree s.moment
+          stamped = record {
+            footings = footings;
+            are = are;
+            root = its.0;
+            over = over its.0 its.1;
+            stamped = its.2;
+            later = later;
+          }
 
-        pub stopped_if : {T : Type 0} (r : Result T Failure) → IfErr r (StopsAtPut ways before after tree token m paths)
-            → IfErr r (AreUnrenewed ways before after paths token)
-        stopped_if (Ok t) why = tt
-        stopped_if (Err f) why = stopped f why
+          all_tested : AreTested ways (renewal tree token s.moment) xs
+          all_tested = as_of s tree token has (λ t octets. AreTested ways (renewal t octets s.moment) xs) tested
 
-        pub renewed_if : {T E : Type 0} (r : Result T E)
-            → OnOk r ((news : List (Option (List ℕ))) × ArePut ways before after tree token m paths news)
-            → OnOk r (AreRenewed ways before after paths token)
-        renewed_if (Err e) made = tt
-        renewed_if (Ok t) (news, made) = record {
-          footings = footings;
-          are = are;
-          tree = tree;
-          root = root;
-          over = over;
-          moment = m;
-          stamped = stamped;
-          later = later;
-          tested = tested;
-          news = news;
-          made = made;
-        }
+          -- how it ended: all are renewed; or those before one, which failed
+          pub ended : {T : Type 0} (r : Result T Failure)
+              → OnOk r ((news : List (Option (List ℕ)))
+              × ArePut ways before after (renewal s.tree.now s.token.now s.moment) xs news)
+              → IfErr r (StopsAtPut ways before after (renewal s.tree.now s.token.now s.moment) xs)
+              → OnOk r (AreDone ways before after Are renewal xs token)
+              × IfErr r (AreNotDone ways before after NoTree Are renewal xs token)
+          ended (Ok t) (news, made) why = (
+            record {
+              tree = tree;
+              moment = s.moment;
+              stamped = stamped;
+              tested = all_tested;
+              news = news;
+              made = as_of s tree token has
+                  (λ t octets. ArePut ways before after (renewal t octets s.moment) xs news) made;
+            },
+            tt,
+          )
+          ended (Err f) made why = (
+            tt,
+            inr (record {
+              tree = tree;
+              moment = s.moment;
+              stamped = stamped;
+              tested = all_tested;
+              stop = as_of s tree token has
+                  (λ t octets. StopsAtPut ways before after (renewal t octets s.moment) xs f) why;
+            }),
+          )

@@ -1,5 +1,5 @@
 -- A request without policy and nonce is short.
-use Rattle.std.proofs.Common.{◌≡◌, ◌<◌, ◌^◌, ℕ, None, false, length, refl, arith}
+use Rattle.std.proofs.Common.{◌≡◌, ◌<◌, ◌^◌, None, false, length, refl, arith}
 use Rattle.digests.specs.Algorithms.{length_of}
 use Rattle.digests.specs.Digests.{alg_of, octets_of}
 use Rattle.digests.specs.declared.value.Digest.{Digest}

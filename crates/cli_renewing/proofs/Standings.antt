@@ -1,10 +1,8 @@
 -- What the renewals of records stand on, one record after the other.
-use Rattle.std.proofs.Common.{◌≡◌, ◌≢◌, ◌⊎◌, ◌<◌, ◌+◌, ◌↔◌, ℕ, Bool, true, false, List, [], ◌∷◌, ◌++◌, Option, Some}
-use Rattle.std.proofs.Common.{None}
-use Rattle.std.proofs.Common.{Result, Ok, Err, refl, sym, ap, ◌∙◌, subst, inl, inr, length, take, get_or}
-use Rattle.std.specs.Prelude.{IfErr, IfOk, IsTrue}
+use Rattle.std.proofs.Common.{◌≡◌, ◌⊎◌, ◌<◌, ◌+◌, ◌↔◌, ℕ, Bool, true, false, List, [], ◌∷◌, ◌++◌, Option, Some}
+use Rattle.std.proofs.Common.{Result, Err, refl, sym, ◌∙◌, subst, inl, inr, length, take, get_or}
+use Rattle.std.specs.Prelude.{IsTrue}
 use Rattle.std.specs.Borrow.{Bor}
-use Rattle.std.specs.List.{AllByRecursion}
 use Rattle.digests.specs.Digests.{alg_of}
 use Rattle.digests.specs.declared.algorithm.Alg.{Alg}
 use Rattle.der_core.specs.declared.fault.Fault.{Fault}
@@ -20,9 +18,9 @@ use Rattle.cli_failures.specs.declared.failure.Failure.{Failure}
 use Rattle.cli_failures.specs.declared.failure.Failure.TheVariants as failure
 use Rattle.cli_failures.specs.Failures.{failure_of_leaf}
 use Rattle.cli_renewing.specs.declared.footing.Footing.{Footing}
-use Rattle.cli_renewing.specs.Footings.{AreBy, AreFootings, IsFooting, IsFootingRead}
+use Rattle.cli_renewing.specs.Footings.{AreFootings, IsFootingRead}
 use Rattle.cli_renewing.specs.Keeping.{Ways, kept}
-use Rattle.cli_renewing.specs.Standing.{HasNoFooting, IsFound, IsNotDone}
+use Rattle.cli_renewing.specs.Standing.{HasNoFooting, IsFound}
 use Rattle.cli_renewing.specs.Steps.{AreOfFirst, IsOfFirst}
 use Rattle.cli_renewing.specs.Unrenewed.{IsMixed, RefusesRecord, StopsAt}
 use Rattle.cli_renewing.proofs.Zips.{all_push, split_at, zip_next}
@@ -127,3 +125,13 @@ module _ (ways : Ways) (token : Option (List ℕ)) (paths : List (Bor (List ℕ)
         differs = λ e. never (sym e);
         told = refl;
       }
+
+-- what is lent of them is the same
+pub footings_as : (ways : Ways) (token : Option (List ℕ)) (paths : List (Bor (List ℕ))) (footings lent : List Footing)
+    → lent ≡ footings → AreFootings ways token paths footings → AreFootings ways token paths lent
+footings_as ways token paths footings lent same are =
+    subst (λ (fs : List Footing). AreFootings ways token paths fs) (sym same) are
+
+-- what they stand on with this token
+abbrev pub StandBy : Ways → (token : List ℕ) → List (Bor (List ℕ)) → List Footing → Type 0
+StandBy ways token paths footings = AreFootings ways (Some token) paths footings

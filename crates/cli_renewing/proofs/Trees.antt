@@ -1,16 +1,17 @@
 -- The tree on footings.
-use Rattle.std.proofs.Common.{◌≡◌, ◌≢◌, ◌⊎◌, ◌<◌, ℕ, List, [], ◌∷◌, map, Option, Some, None, Result, Ok, Err, All}
-use Rattle.std.proofs.Common.{refl, sym, ap, ◌∙◌, subst, length, arith}
-use Rattle.std.specs.Prelude.{IfOk}
+use Rattle.std.proofs.Common.{◌≡◌, ℕ, List, [], ◌∷◌, map, Option, Some, None, All}
+use Rattle.std.proofs.Common.{◌↔◌, Contains, refl, sym, ap, ◌∙◌, subst}
+use Rattle.std.specs.Prelude.{IfSome, IsSome}
 use Rattle.std.specs.List.{AllByRecursion, slice_get}
 use Rattle.std.proofs.lemmas.List.Elements.{All-from_recursion}
 use Rattle.digests.specs.Digests.{alg_of, octets_of}
 use Rattle.digests.specs.declared.algorithm.Alg.{Alg}
 use Rattle.digests.specs.declared.value.Digest.{Digest}
-use Rattle.evidence_trees.specs.HashTrees.{HashTree, IsTreeOf}
-use Rattle.cli_renewing.specs.Footings.{IsRootOf}
+use Rattle.evidence_trees.specs.HashTrees.{AreListsOf, HashTree, IsTreeOf, IsWayFrom}
+use Rattle.cli_making.specs.Sums.{IsRootOf}
 use Rattle.cli_renewing.specs.declared.footing.Footing.{Footing}
 use Rattle.cli_renewing.specs.Footings.{AreBy, IsTreeOn}
+use Rattle.cli_renewing.specs.Renewing.{LeadsUp}
 use Rattle.cli_renewing.specs.Steps.{AreOfFirst}
 
 -- all are by the algorithm of the first, which is at the front
@@ -37,12 +38,6 @@ leaves_by alg footings leaves by are =
     (All-from_recursion (λ (d : Digest). alg_of d ≡ alg) (map (λ (f : Footing). f.leaf) footings)
     (leaves_all alg footings by))
 
-pub some_leaves : (f : Footing) (footings others : List Footing) (leaves : List Digest) → footings ≡ f ∷ others
-    → leaves ≡ map (λ (g : Footing). g.leaf) footings → 0 < length leaves
-some_leaves f footings others leaves is are =
-    subst (λ (ds : List Digest). 0 < length ds)
-    (sym (are ∙ ap (λ (fs : List Footing). map (λ (g : Footing). g.leaf) fs) is)) (omega arith)
-
 pub tree_is_on : (alg : Alg) (footings : List Footing) (leaves : List Digest) (tree : HashTree) → AreBy alg footings
     → leaves ≡ map (λ (f : Footing). f.leaf) footings → IsTreeOf alg (map octets_of leaves) tree → (root : Digest)
     → IsRootOf tree root → IsTreeOn footings tree root
@@ -56,3 +51,12 @@ tree_is_on alg footings leaves tree by are over root is_root =
           (subst (λ (vs : List (List ℕ)). IsTreeOf alg vs tree) values over);
       is_root = is_root;
     }
+
+-- what leads from a leaf to the root
+pub leads_up : (tree : HashTree) (leaf : Digest) (r : Option (List (List ℕ)))
+    → IsSome r ↔ (alg_of leaf ≡ tree.algorithm) × Contains tree.leaves (octets_of leaf)
+    → IfSome r (IsWayFrom tree (octets_of leaf)) → IfSome r (AreListsOf tree (octets_of leaf))
+    → IfSome r (LeadsUp tree leaf)
+leads_up tree leaf None some way lists = tt
+leads_up tree leaf (Some values) some way lists =
+    record { by = (some.0 refl).0; there = (some.0 refl).1; way = way; lists = lists }

@@ -11,6 +11,7 @@ use Rattle.digests.specs.Digests.{alg_of, octets_of}
 use Rattle.evidence_trees.specs.HashTrees.{HashTree, IsTreeOf}
 use Rattle.evidence_making.specs.declared.leaves.LastStamp.{LastStamp}
 use Rattle.evidence_making.specs.Done.{StandsOn}
+use Rattle.cli_making.specs.Sums.{IsRootOf}
 use Rattle.cli_renewing.specs.declared.footing.Footing.{Footing}
 use Rattle.cli_renewing.specs.Keeping.{Ways, kept}
 
@@ -39,11 +40,6 @@ AreFootings ways token paths footings = AllZip (λ path f. IsFootingRead ways to
 -- all leaves are by this algorithm
 abbrev pub AreBy : Alg → List Footing → Type 0
 AreBy alg footings = AllByRecursion (λ f. alg_of f.leaf ≡ alg) footings
-
--- the root of a tree, as a digest by its algorithm
-pub record IsRootOf (tree : HashTree) (root : Digest) : Type 0 where
-  pub algorithm : alg_of root ≡ tree.algorithm
-  pub octets : octets_of root ≡ tree.root
 
 -- the tree over their leaves, by one algorithm, and its root
 pub record IsTreeOn (footings : List Footing) (tree : HashTree) (root : Digest) : Type 0 where

@@ -1,8 +1,7 @@
 -- Files that are read and replaced, each by its path. No contract of the system says which path is read or written:
 -- here paths stand for what is asked of it, by which contracts say of which file what is read, what is put into its
 -- place, and in which order.
-use Rattle.std.specs.Prelude.{◌≡◌, ⊤, ℕ, List, [], ◌∷◌, ◌++◌, Option, Some, None}
-use Rattle.std.specs.Borrow.{Bor}
+use Rattle.std.specs.Prelude.{◌≡◌, ⊤, ℕ, List, ◌++◌, Option, Some, None}
 use Rattle.std.specs.Io.KnownBytes.{Appends}
 use Rattle.cli_failures.specs.declared.failure.Failure.{Failure}
 use Rattle.cli_failures.specs.Files.{IsFailureToReadShown, IsFailureToReplaceShown, IsHeld}
@@ -30,13 +29,6 @@ Adds None after files = ⊤
 Adds (Some put) None files = ⊥
 Adds (Some put) (Some all) files = all ≡ put ++ files
 
--- the files that are put: of each path the new octets, where there are some
-abbrev pub puts_of : (paths : List (Bor (List ℕ))) → (news : List (Option (List ℕ))) → List Kept
-puts_of [] news = []
-puts_of (path ∷ paths) [] = []
-puts_of (path ∷ paths) (None ∷ news) = puts_of paths news
-puts_of (path ∷ paths) (Some octets ∷ news) = kept path.now octets ∷ puts_of paths news
-
 -- ---- of the system, by what its open files hold and what they have taken
 
 -- an open file took these octets after what it held, if it is known what such a file holds
@@ -50,4 +42,16 @@ system_ways holds contents = record {
   did = λ file. IsTaken contents file.octets;
   unread = λ path f. IsFailureToReadShown path f;
   unput = λ path f. IsFailureToReplaceShown path f;
+}
+
+-- ---- of a test
+
+-- nothing is known
+abbrev pub any_ways : Ways
+any_ways = record {
+  read = λ file. ⊤;
+  can = λ path. ⊤;
+  did = λ file. ⊤;
+  unread = λ path f. ⊤;
+  unput = λ path f. ⊤;
 }

@@ -1,14 +1,12 @@
 -- What `evidence renew` makes (Time-Stamp Renewal, RFC 4998, 5.2): the request for a stamp of the root of the tree over
 -- the last time-stamps of records, and with its token the records renewed, each in its place. `holds` is what an open
 -- file holds, and `contents` what it has taken, if that is known. Begin here.
-use Rattle.std.specs.Prelude.{◌≡◌, ◌≢◌, ℕ, ◌<◌, List, Option, None, Some, false, Contains, IfSome, codes}
+use Rattle.std.specs.Prelude.{◌≡◌, ◌≢◌, ◌<◌, ◌≤◌, ◌^◌, ℕ, List, Option, None, Some, Contains, codes, length}
 use Rattle.std.specs.Borrow.{Bor}
-use Rattle.std.specs.List.{AllByRecursion, AllZip}
+use Rattle.std.specs.List.{AllByRecursion}
 use Rattle.digests.specs.declared.value.Digest.{Digest}
-use Rattle.digests.specs.Digests.{octets_of}
-use Rattle.tsp_types.specs.Asked.{asked}
-use Rattle.tsp_types.specs.RequestValue.{EncodesRequest}
-use Rattle.evidence_types.specs.EvidenceValue.{EvidenceValue, EncodesEvidence}
+use Rattle.digests.specs.Digests.{alg_of, octets_of}
+use Rattle.evidence_types.specs.EvidenceValue.{EvidenceValue, EncodesEvidence, evidence_parts}
 use Rattle.check_evidence.specs.Grounds.{Grounds}
 use Rattle.check_evidence.specs.Showing.{Shows}
 use Rattle.judge_evidence.specs.ShowingLaws.{held_at}
@@ -19,25 +17,19 @@ use Rattle.evidence_making.specs.Laws.{TokenStands}
 use Rattle.evidence_making.specs.Leaves.{IsLastStamp}
 use Rattle.evidence_making.specs.Renewed.{renewed}
 use Rattle.evidence_making.specs.Renewing.{ChainsStandIn}
-use Rattle.evidence_making.specs.Stamping.{StampsRoot}
 use Rattle.cli_tasks.specs.declared.task.RenewWords.{RenewWords}
 use Rattle.cli_tasks.specs.declared.task.RenewalRequestWords.{RenewalRequestWords}
 use Rattle.cli_failures.specs.Files.{IsHeld}
-use Rattle.cli_renewing.specs.declared.footing.Footing.{Footing}
-use Rattle.cli_renewing.specs.Footings.{AreFootings, ComesAfter, IsTreeOn}
-use Rattle.cli_renewing.specs.Keeping.{Adds, IsTaken, Kept, Ways, kept, puts_of, system_ways}
+use Rattle.cli_renewing.specs.Footings.{AreFootings}
+use Rattle.cli_renewing.specs.Keeping.{IsTaken, Kept, Ways, system_ways}
+use Rattle.cli_renewing.specs.Records.{Renewal}
+use Rattle.cli_renewing.specs.Runs.{AreDone, IsRequestOn}
 
 -- ---- the request
 
--- these octets encode the request for a stamp of the root of the tree on the records of these paths, under no policy,
--- without a nonce, and without a certificate
-pub record IsRenewalRequest (ways : Ways) (paths : List (Bor (List ℕ))) (octets : List ℕ) : Type 0 where
-  pub footings : List Footing
-  pub are : AreFootings ways None paths footings
-  pub tree : HashTree
-  pub root : Digest
-  pub over : IsTreeOn footings tree root
-  pub encoded : EncodesRequest octets (asked root None None false)
+-- these octets encode the request for a stamp of the root of the tree on the records of these paths
+abbrev pub IsRenewalRequest : Ways → (paths : List (Bor (List ℕ))) → (octets : List ℕ) → Type 0
+IsRenewalRequest ways paths octets = IsRequestOn (λ footings. AreFootings ways None paths footings) octets
 
 -- a file took the octets of that request
 pub record IsRenewalRequestWritten {F : Type 0} (holds contents : F → Option (List ℕ)) (words : RenewalRequestWords)
@@ -58,18 +50,25 @@ ShowsAfter tree token octets new = (g : Grounds) (data_objects : List (List ℕ)
     → TokenStands g tree.algorithm tree.root token n → Shows (held_at n g) octets data_objects m
     → Shows g new data_objects m
 
+-- These are the values that lead from a leaf of the tree to its root: the leaf, which is by the tree's algorithm, and
+-- the neighbours on its way up, each in a list of its own.
+pub record LeadsUp (tree : HashTree) (leaf : Digest) (values : List (List ℕ)) : Type 0 where
+  pub by : alg_of leaf ≡ tree.algorithm
+  pub there : Contains tree.leaves (octets_of leaf)
+  pub way : IsWayFrom tree (octets_of leaf) values
+  pub lists : AreListsOf tree (octets_of leaf) values
+
 -- The octets `new` encode the record that these octets encode, renewed by the token at this moment: its last
 -- time-stamp is earlier, and its leaf is one of the tree, by the algorithm of the chain. The new archive time-stamp has
--- the leaf and the neighbours on its way up, each in a list of its own. The octets of the old chains, and of the
--- archive time-stamps of the last one, stand in the new record.
+-- the values that lead from there to the root. The octets of the old chains, and of the archive time-stamps of the last
+-- one, stand in the new record.
 pub record IsRenewalOf (tree : HashTree) (token : List ℕ) (m : ℕ) (octets new : List ℕ) : Type 0 where
   pub last : LastStamp
   pub stood : IsLastStamp octets last
   pub by : last.alg ≡ tree.algorithm
   pub later : last.moment < m
   pub values : List (List ℕ)
-  pub way : IsWayFrom tree (octets_of last.leaf) values
-  pub lists : AreListsOf tree (octets_of last.leaf) values
+  pub up : LeadsUp tree last.leaf values
   pub old : EvidenceValue
   pub was : EncodesEvidence octets old
   pub encoded : EncodesEvidence new (renewed old tree.algorithm values token)
@@ -90,47 +89,31 @@ abbrev pub Becomes : HashTree → (token : List ℕ) → (m : ℕ) → (octets :
 Becomes tree token m octets (Some new) = IsRenewalOf tree token m octets new
 Becomes tree token m octets None = IsDone tree token m octets
 
--- so does the record that was read from the file of this path
-pub record IsNewAt (ways : Ways) (tree : HashTree) (token : List ℕ) (m : ℕ) (path : List ℕ) (new : Option (List ℕ))
-    : Type 0 where
-  pub octets : List ℕ
-  pub read : ways.read (kept path octets)
-  pub becomes : Becomes tree token m octets new
-
--- a test found that the file of this path can be replaced, and what its record becomes
-pub record IsTested (ways : Ways) (tree : HashTree) (token : List ℕ) (m : ℕ) (path : List ℕ) : Type 0 where
-  pub can : ways.can path
-  pub new : Option (List ℕ)
-  pub is : IsNewAt ways tree token m path new
+-- the record, renewed, would be longer than an element can be
+pub record IsTooLong (tree : HashTree) (token octets : List ℕ) : Type 0 where
+  pub last : LastStamp
+  pub stood : IsLastStamp octets last
+  pub values : List (List ℕ)
+  pub up : LeadsUp tree last.leaf values
+  pub size : (old : EvidenceValue) × EncodesEvidence octets old
+      × (2 ^ 32 ≤ length (evidence_parts (renewed old tree.algorithm values token)))
 
 -- ---- all records
 
--- each was tested so
-abbrev pub AreTested : Ways → HashTree → (token : List ℕ) → (m : ℕ) → (paths : List (Bor (List ℕ))) → Type 0
-AreTested ways tree token m paths = AllByRecursion (λ path. IsTested ways tree token m path.now) paths
-
--- of each path such new octets, where they aren't renewed already, in their order; and these were put
-pub record ArePut (ways : Ways) (before after : Option (List Kept)) (tree : HashTree) (token : List ℕ) (m : ℕ)
-    (paths : List (Bor (List ℕ))) (news : List (Option (List ℕ))) : Type 0 where
-  pub each : AllZip (λ path new. IsNewAt ways tree token m path.now new
-      × IfSome new (λ octets. ways.did (kept path.now octets))) paths news
-  pub put : Adds before after (puts_of paths news)
+-- so it is done with the record of a path
+abbrev pub renewal : HashTree → (token : List ℕ) → (m : ℕ) → Renewal (Bor (List ℕ))
+renewal tree token m = record {
+  path = λ path. path.now;
+  Becomes = λ path octets new. Becomes tree token m octets new;
+  IsTooLong = λ path octets. IsTooLong tree token octets;
+}
 
 -- The token stamps the root of the tree on these records, later than their last time-stamps; a test found that all can
 -- be renewed; and then each record that isn't renewed already was replaced by the new one, and no other file.
-pub record AreRenewed (ways : Ways) (before after : Option (List Kept)) (paths : List (Bor (List ℕ)))
-    (token : List ℕ) : Type 0 where
-  pub footings : List Footing
-  pub are : AreFootings ways (Some token) paths footings
-  pub tree : HashTree
-  pub root : Digest
-  pub over : IsTreeOn footings tree root
-  pub moment : ℕ
-  pub stamped : StampsRoot token root moment
-  pub later : ComesAfter moment footings
-  pub tested : AreTested ways tree token moment paths
-  pub news : List (Option (List ℕ))
-  pub made : ArePut ways before after tree token moment paths news
+abbrev pub AreRenewed : Ways → (before after : Option (List Kept)) → (paths : List (Bor (List ℕ)))
+    → (token : List ℕ) → Type 0
+AreRenewed ways before after paths token =
+    AreDone ways before after (λ footings. AreFootings ways (Some token) paths footings) renewal paths token
 
 -- none of these is the standard input
 abbrev pub AreNoInput : List (Bor (List ℕ)) → Type 0

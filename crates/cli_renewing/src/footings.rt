@@ -1,16 +1,14 @@
 //! What the renewals of many records stand on.
-ghost use Rattle.std.specs.Prelude.{◌≡◌, ◌⊎◌, ◌↔◌, IfErr, IfOk, IsTrue, OnOk};
+ghost use Rattle.std.specs.Prelude.{◌≡◌, ◌⊎◌, ◌↔◌, IfErr, IfOk, IsTrue};
 ghost use Rattle.std.specs.Option.{option_copied};
-ghost use Rattle.cli_renewing.specs.Footings.{AreFootings, ComesAfter};
+ghost use Rattle.cli_renewing.specs.Footings.{AreFootings};
 ghost use Rattle.cli_renewing.specs.Steps.{AreOfFirst, IsOfFirst};
-ghost use Rattle.cli_renewing.specs.Unrenewed.{IsTooEarly, StopsAt};
+ghost use Rattle.cli_renewing.specs.Unrenewed.{StopsAt};
 
 use crate::footing::{Footing, footing_at};
 use crate::keeping::Keeps;
 use cli_failures::Failure;
-use der_time::Moment;
 use digests::Alg;
-use evidence_making::StampFault;
 use std::alloc::Global;
 
 /// Whether an algorithm is that of the first leaf, if there is one.
@@ -48,21 +46,4 @@ pub fn footings_at<'a, K: Keeps>(
         footings.push(footing)?;
     }
     Ok(footings)
-}
-
-/// Tests whether a moment is later than those of the last time-stamps.
-///
-/// Errors: U9.
-pub fn test_order<'a>(footings: &[Footing], moment: Moment) -> Result<(), Failure<'a>>
-    // After a success it is later than all of them.
-    ensures later { OnOk result (ComesAfter moment footings.now) }
-    // After a failure it is not later than one.
-    ensures refused { IfErr result (IsTooEarly moment footings.now) }
-{
-    for footing in footings {
-        if moment <= footing.after {
-            return Err(Failure::Unstamping(StampFault::Order));
-        }
-    }
-    Ok(())
 }

@@ -1,5 +1,6 @@
 //! The files that records are in.
 use cli_failures::{Failure, files};
+use cli_making::System;
 use std::rt::Files;
 
 /// Reads files and replaces them, each by its path: the system, or what stands for it in a test.
@@ -42,18 +43,6 @@ pub trait Keeps {
 
 /// The files of the system. A link is read as the file that it leads to, and never replaced. A failure names a path as
 /// it is shown.
-#[derive(Drop)]
-pub struct System<'r, R> {
-    rt: &'r R,
-}
-
-impl<'r, R> System<'r, R> {
-    /// Those that `rt` gives.
-    pub fn new(rt: &'r R) -> System<'r, R> {
-        System { rt }
-    }
-}
-
 impl<R: Files + AllocGlobal> Keeps for System<'_, R> {
     ghost use Rattle.std.specs.Prelude.{None};
     ghost use Rattle.cli_renewing.specs.Keeping.{system_ways};

@@ -7,13 +7,14 @@ mod footings;
 mod keeping;
 mod renew;
 mod request;
+mod stamp;
 mod step;
 mod tree;
 
 pub use footing::Footing;
-pub use footings::test_order;
-pub use keeping::{Keeps, System};
+pub use keeping::Keeps;
 pub use renew::{renew_all, renew_records};
 pub use request::{renewal_request, request_renewal};
-pub use step::Unrenewed;
+pub use stamp::later_stamp;
+pub use step::{Unrenewed, lists_of};
 pub use tree::tree_on;

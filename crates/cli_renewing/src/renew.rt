@@ -1,19 +1,18 @@
 //! `evidence renew` with a token: records renewed by a time-stamp, each in its place (RFC 4998 5.2).
 ghost use Rattle.std.specs.Prelude.{◌≡◌, List, ℕ, Option, [], IfErr, IfOk, OnOk};
-ghost use Rattle.evidence_types.specs.StampValue.{IsSequence};
-ghost use Rattle.cli_renewing.specs.Renewing.{AreNoInput, ArePut, AreRecordsRenewed, AreRenewed, AreTested};
-ghost use Rattle.cli_renewing.specs.Steps.{StampsTree, StopsAtPut};
-ghost use Rattle.cli_renewing.specs.Unrenewed.{AreUnrenewed, HaveInput, IsUntested, RenewsNot};
+ghost use Rattle.cli_making.specs.Stamps.{IsStamp};
+ghost use Rattle.cli_renewing.specs.Records.{ArePut, AreTested, IsUntested, StopsAtPut};
+ghost use Rattle.cli_renewing.specs.Renewing.{AreNoInput, AreRecordsRenewed, AreRenewed, renewal};
+ghost use Rattle.cli_renewing.specs.Unrenewed.{AreUnrenewed, HaveInput, RenewsNot};
 
-use crate::footings::{footings_at, test_order};
-use crate::keeping::{Keeps, System};
+use crate::footings::footings_at;
+use crate::keeping::Keeps;
+use crate::stamp::later_stamp;
 use crate::step::{put_record, test_record};
 use crate::tree::tree_on;
 use cli_failures::{Failure, files};
+use cli_making::{Stamp, System};
 use cli_tasks::RenewWords;
-use der_time::Moment;
-use evidence_making::stamp_of_root;
-use evidence_trees::Tree;
 use std::alloc::Global;
 use std::rt::Files;
 
@@ -80,30 +79,28 @@ pub fn renew_all<'a, K: Keeps>(
     // After a failure no file was put; or nothing was refused, and the first records are renewed.
     ensures failed { IfErr result (AreUnrenewed K.ways (K.put keeps.old) (K.put keeps.new) paths.now token.now) }
 {
-    let footings = footings_at(alloc, keeps, paths, Some(token))?;
-    let tree = tree_on(alloc, footings.as_slice())?;
-    let moment = stamp_of_root(token, &tree.root())?;
-    test_order(footings.as_slice(), moment)?;
-    test_records(alloc, keeps, paths, &tree, token, moment)?;
-    put_records(alloc, keeps, paths, &tree, token, moment)
+    let found = footings_at(alloc, keeps, paths, Some(token))?;
+    let footings = found.as_slice();
+    let tree = tree_on(alloc, footings)?;
+    let by = later_stamp(&tree, footings, token)?;
+    test_records(alloc, &by, keeps, paths)?;
+    put_records(alloc, &by, keeps, paths)
 }
 
 /// Tests whether each record can be renewed, and put into its place.
 fn test_records<'a, K: Keeps>(
     alloc: Global,
+    by: &Stamp,
     keeps: &K,
     paths: &[&str],
-    tree: &Tree,
-    token: &[u8],
-    moment: Moment,
 ) -> Result<(), Failure<'a>>
-    requires stamped { StampsTree tree.now token.now moment }
-    requires sequence { IsSequence token.now }
-    ensures tested { OnOk result (AreTested K.ways tree.now token.now moment paths.now) }
-    ensures failed { IfErr result (IsUntested K.ways tree.now token.now moment paths.now) }
+    requires { IsStamp by.now }
+    ensures tested { OnOk result (AreTested K.ways (renewal by.now.tree.now by.now.token.now by.now.moment) paths.now) }
+    ensures failed { IfErr result (IsUntested K.ways (renewal by.now.tree.now by.now.token.now by.now.moment)
+        paths.now) }
 {
     for path in paths {
-        test_record(alloc, keeps, path, tree, token, moment)?;
+        test_record(alloc, by, keeps, path)?;
     }
     Ok(())
 }
@@ -111,21 +108,18 @@ fn test_records<'a, K: Keeps>(
 /// Renews each record in turn.
 fn put_records<'a, K: Keeps>(
     alloc: Global,
+    by: &Stamp,
     keeps: &mut K,
     paths: &[&str],
-    tree: &Tree,
-    token: &[u8],
-    moment: Moment,
 ) -> Result<(), Failure<'a>>
-    requires stamped { StampsTree tree.now token.now moment }
-    requires sequence { IsSequence token.now }
-    ensures put { OnOk result ((news : List (Option (List ℕ)))
-        × ArePut K.ways (K.put keeps.old) (K.put keeps.new) tree.now token.now moment paths.now news) }
-    ensures failed { IfErr result (StopsAtPut K.ways (K.put keeps.old) (K.put keeps.new) tree.now token.now moment
-        paths.now) }
+    requires { IsStamp by.now }
+    ensures put { OnOk result ((news : List (Option (List ℕ))) × ArePut K.ways (K.put keeps.old) (K.put keeps.new)
+        (renewal by.now.tree.now by.now.token.now by.now.moment) paths.now news) }
+    ensures failed { IfErr result (StopsAtPut K.ways (K.put keeps.old) (K.put keeps.new)
+        (renewal by.now.tree.now by.now.token.now by.now.moment) paths.now) }
 {
     for path in paths {
-        put_record(alloc, keeps, path, tree, token, moment)?;
+        put_record(alloc, by, keeps, path)?;
     }
     Ok(())
 }

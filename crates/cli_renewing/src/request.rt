@@ -6,10 +6,11 @@ ghost use Rattle.cli_renewing.specs.Renewing.{IsApart, IsRenewalRequest, IsRenew
 ghost use Rattle.cli_renewing.specs.Unrenewed.{HaveNoTree, MakesNoRenewalRequest};
 
 use crate::footings::footings_at;
-use crate::keeping::{Keeps, System};
+use crate::keeping::Keeps;
 use crate::tree::tree_on;
 use cli_failures::request::request_of;
 use cli_failures::{Failure, files};
+use cli_making::System;
 use cli_tasks::RenewalRequestWords;
 use std::alloc::Global;
 use std::rt::Files;

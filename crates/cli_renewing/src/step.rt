@@ -1,17 +1,17 @@
 //! The renewal of one record.
-ghost use Rattle.std.specs.Prelude.{◌≡◌, ◌⊎◌, ◌↔◌, ◌<◌, [], IfErr, OnErr, OnOk, IsTrue, vec_items};
-ghost use Rattle.evidence_types.specs.StampValue.{IsSequence};
-ghost use Rattle.cli_renewing.specs.Keeping.{Adds, kept};
-ghost use Rattle.cli_renewing.specs.Renewing.{ArePut, Becomes, IsNewAt, IsTested};
-ghost use Rattle.cli_renewing.specs.Steps.{IsPutAt, IsStep, StampsTree};
-ghost use Rattle.cli_renewing.specs.Unrenewed.{FailsAt, IsTooLongAt};
+ghost use Rattle.std.specs.Prelude.{◌≡◌, ◌⊎◌, ◌<◌, [], IfErr, IfSome, OnErr, OnOk, vec_items};
+ghost use Rattle.cli_making.specs.Stamps.{IsStamp};
+ghost use Rattle.cli_renewing.specs.Keeping.{Adds};
+ghost use Rattle.cli_renewing.specs.Records.{FailsAt, IsPutAt, IsTested, IsTooLongAt};
+ghost use Rattle.cli_renewing.specs.Renewing.{Becomes, IsTooLong, LeadsUp, renewal};
+ghost use Rattle.cli_renewing.specs.Steps.{IsStep};
 
-use crate::footing::standing_of;
+use crate::footing::{Footing, standing_of};
 use crate::keeping::Keeps;
 use cli_failures::{Failure, files};
-use der_time::Moment;
+use cli_making::Stamp;
 use evidence_making::{MakeFault as MakeRecordFault, RenewFault, renew_record};
-use evidence_trees::Tree;
+use evidence_trees::LeafLists;
 use std::alloc::Global;
 
 /// Why one record isn't renewed, of which there was a footing.
@@ -25,43 +25,46 @@ pub enum Unrenewed {
     OutOfMemory,
 }
 
-/// Whether a moment is later than another.
-fn is_later(moment: Moment, last: Moment) -> bool
-    ensures { IsTrue result ↔ (last < moment) }
+/// The lists that lead from what a renewal stands on to the root of the tree, if it is a leaf, and the stamp is later.
+/// It allocates nothing.
+pub fn lists_of<'t>(by: &Stamp<'t>, footing: &Footing) -> Option<LeafLists<'t>>
+    // Their values are the leaf and the neighbours on its way up.
+    ensures up { IfSome result (LeadsUp by.now.tree.now footing.now.leaf) }
+    // The stamp is later.
+    ensures later { IfSome result (λ _. footing.now.after < by.now.moment) }
 {
-    last < moment
+    if footing.after < by.moment {
+        by.tree.lists_of(&footing.leaf)
+    } else {
+        None
+    }
 }
 
 /// The octets of a record, renewed by the token, or `None` if it is renewed by it already.
 ///
 /// Errors: the octets don't encode a record that stands on a leaf of the tree, and is earlier; U10; memory is refused.
-fn renewed_of(
-    alloc: Global,
-    octets: &[u8],
-    tree: &Tree,
-    token: &[u8],
-    moment: Moment,
-) -> Result<Option<Vec<u8>>, Unrenewed>
-    requires stamped { StampsTree tree.now token.now moment }
-    requires sequence { IsSequence token.now }
-    ensures { IsStep vec_items tree.now token.now moment octets.now result }
+fn renewed_of(alloc: Global, by: &Stamp, octets: &[u8]) -> Result<Option<Vec<u8>>, Unrenewed>
+    requires { IsStamp by.now }
+    ensures { IsStep vec_items (Becomes by.now.tree.now by.now.token.now by.now.moment octets.now)
+        (IsTooLong by.now.tree.now by.now.token.now octets.now) result }
 {
-    let standing = match standing_of(alloc, octets, Some(token)) {
+    let standing = match standing_of(alloc, octets, Some(by.token)) {
         Ok(standing) => standing,
         Err(Failure::Memory) => return Err(Unrenewed::OutOfMemory),
         Err(_) => return Err(Unrenewed::Changed),
     };
     let last = standing.last;
-    let Some(values) = tree.lists_of(&last.leaf) else {
+    let footing = Footing {
+        leaf: last.leaf,
+        after: last.moment,
+    };
+    let Some(values) = lists_of(by, &footing) else {
         return Err(Unrenewed::Changed);
     };
-    if !is_later(moment, last.moment) {
-        return Err(Unrenewed::Changed);
-    }
     if standing.done {
         return Ok(None);
     }
-    match renew_record(alloc, octets, last.alg, &values, token) {
+    match renew_record(alloc, octets, last.alg, &values, by.token) {
         Ok(renewed) => Ok(Some(renewed)),
         Err(RenewFault::TooLong) => Err(Unrenewed::TooLong),
         Err(RenewFault::OutOfMemory) => Err(Unrenewed::OutOfMemory),
@@ -75,20 +78,19 @@ fn renewed_of(
 /// refused.
 pub fn test_record<'a, K: Keeps>(
     alloc: Global,
+    by: &Stamp,
     keeps: &K,
     path: &str,
-    tree: &Tree,
-    token: &[u8],
-    moment: Moment,
 ) -> Result<(), Failure<'a>>
-    requires stamped { StampsTree tree.now token.now moment }
-    requires sequence { IsSequence token.now }
-    ensures tested { OnOk result (IsTested K.ways tree.now token.now moment path.now) }
-    ensures fails { IfErr result (λ f. IsTooLongAt K.ways tree.now token.now path.now f ⊎ FailsAt K.ways path.now f) }
+    requires { IsStamp by.now }
+    ensures tested { OnOk result (IsTested K.ways (renewal by.now.tree.now by.now.token.now by.now.moment)
+        path.entry) }
+    ensures fails { IfErr result (λ f. IsTooLongAt K.ways (renewal by.now.tree.now by.now.token.now by.now.moment)
+        path.entry f ⊎ FailsAt K.ways path.now f) }
 {
     keeps.test_file(path)?;
     let octets = keeps.read_file(path)?;
-    match renewed_of(alloc, octets.as_slice(), tree, token, moment) {
+    match renewed_of(alloc, by, octets.as_slice()) {
         Ok(_) => Ok(()),
         Err(Unrenewed::Changed) => Err(files::changed(alloc, path)),
         Err(Unrenewed::TooLong) => Err(Failure::Unmade(MakeRecordFault::TooLong)),
@@ -102,21 +104,18 @@ pub fn test_record<'a, K: Keeps>(
 /// Then no file was put.
 pub fn put_record<'a, K: Keeps>(
     alloc: Global,
+    by: &Stamp,
     keeps: &mut K,
     path: &str,
-    tree: &Tree,
-    token: &[u8],
-    moment: Moment,
 ) -> Result<(), Failure<'a>>
-    requires stamped { StampsTree tree.now token.now moment }
-    requires sequence { IsSequence token.now }
-    ensures put { OnOk result (IsPutAt K.ways (K.put keeps.old) (K.put keeps.new) tree.now token.now moment
-        path.entry) }
+    requires { IsStamp by.now }
+    ensures put { OnOk result (IsPutAt K.ways (K.put keeps.old) (K.put keeps.new)
+        (renewal by.now.tree.now by.now.token.now by.now.moment) path.entry) }
     ensures fails { IfErr result (FailsAt K.ways path.now) }
     ensures none { OnErr result (Adds (K.put keeps.old) (K.put keeps.new) []) }
 {
     let octets = keeps.read_file(path)?;
-    match renewed_of(alloc, octets.as_slice(), tree, token, moment) {
+    match renewed_of(alloc, by, octets.as_slice()) {
         Ok(Some(renewed)) => keeps.put_file(path, renewed.as_slice()),
         Ok(None) => Ok(()),
         Err(Unrenewed::Changed | Unrenewed::TooLong) => Err(files::changed(alloc, path)),

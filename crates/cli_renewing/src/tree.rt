@@ -2,7 +2,8 @@
 ghost use Rattle.std.specs.Prelude.{◌≡◌, ◌⊎◌, [], IfErr, IfOk, codes, map};
 ghost use Rattle.digests.specs.declared.value.Digest.{Digest};
 ghost use Rattle.cli_failures.specs.Causes.{Names};
-ghost use Rattle.cli_renewing.specs.Footings.{IsRootOf, IsTreeOn};
+ghost use Rattle.cli_making.specs.Sums.{IsRootOf};
+ghost use Rattle.cli_renewing.specs.Footings.{IsTreeOn};
 ghost use Rattle.cli_renewing.specs.Steps.{AreOfFirst};
 
 use crate::footing::Footing;

@@ -3,8 +3,6 @@
 #![tactic(auto)]
 
 #[cfg(test)]
-mod below;
-#[cfg(test)]
 mod commands;
 #[cfg(test)]
 mod documents;
@@ -13,16 +11,16 @@ mod double;
 #[cfg(test)]
 mod making;
 #[cfg(test)]
+mod memory;
+#[cfg(test)]
 mod records;
 #[cfg(test)]
-mod rehashed;
-#[cfg(test)]
-mod rehashing;
-#[cfg(test)]
-mod renewed;
+mod renewals;
 #[cfg(test)]
 mod renewing;
 #[cfg(test)]
 mod sums;
+#[cfg(test)]
+mod tokens;
 #[cfg(test)]
 mod trees;

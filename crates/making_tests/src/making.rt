@@ -5,9 +5,11 @@ ghost use Rattle.evidence_types.specs.StampValue.{IsSequence};
 
 use crate::documents::documents;
 use crate::records::{
-    GEN_TIME, NEW_CHAIN, NEW_STAMP, RECORDS, REHASH_LEAF, REHASHED, REHASHED_LEAF, RENEWED, ROOT,
-    SINGLE, STAMP_LEAF, TOKEN,
+    NEW_CHAIN, NEW_STAMP, RECORDS, REHASH_LEAF, REHASHED, REHASHED_LEAF, RENEWED, SINGLE,
+    STAMP_LEAF,
 };
+use crate::renewals::FIRST;
+use crate::tokens::{FIRST_TOKEN, GEN_TIME, ROOT, octets_of, record_of};
 use der_time::generalized_text;
 use digests::{Alg, Digest, digest};
 use evidence_making::{
@@ -45,29 +47,21 @@ fn before_token(alloc: Global, digits: &str, token: &[u8]) -> Result<Vec<u8>, Fa
     Ok(octets)
 }
 
-/// The record of a leaf of the tree over these digests.
-fn made(
-    alloc: Global,
-    alg: Alg,
-    leaves: &[Digest],
-    leaf: &Digest,
-    token: &[u8],
-) -> Result<Vec<u8>, Fail>
-    requires some { 0 < length leaves.now }
-    requires algorithm { All (λ d. alg_of d ≡ alg) leaves.now }
-    requires sequence { IsSequence token.now }
-{
-    let tree = Tree::of(alloc, alg, leaves)?;
-    let Some(lists) = tree.lists_of(leaf) else {
-        return Err(Fail::new("no leaf"));
-    };
-    Ok(make_record(alloc, alg, &lists, token)?)
+/// Which record is made.
+#[derive(Clone, Copy, Debug)]
+enum Way<'o> {
+    /// The first one of a leaf.
+    Made,
+    /// This one, renewed by a time-stamp.
+    Renewed(&'o [u8]),
+    /// This one, renewed by a hash tree.
+    Rehashed(&'o [u8]),
 }
 
-/// The record, renewed by a time-stamp with the lists of a leaf of the tree over these digests.
-fn renewed(
+/// The record, with the lists of a leaf of the tree over these digests.
+fn record(
     alloc: Global,
-    old: &[u8],
+    way: Way,
     alg: Alg,
     leaves: &[Digest],
     leaf: &Digest,
@@ -81,27 +75,11 @@ fn renewed(
     let Some(lists) = tree.lists_of(leaf) else {
         return Err(Fail::new("no leaf"));
     };
-    Ok(renew_record(alloc, old, alg, &lists, token)?)
-}
-
-/// The record, renewed by the tree over these digests.
-fn rehashed(
-    alloc: Global,
-    old: &[u8],
-    alg: Alg,
-    leaves: &[Digest],
-    leaf: &Digest,
-    token: &[u8],
-) -> Result<Vec<u8>, Fail>
-    requires some { 0 < length leaves.now }
-    requires algorithm { All (λ d. alg_of d ≡ alg) leaves.now }
-    requires sequence { IsSequence token.now }
-{
-    let tree = Tree::of(alloc, alg, leaves)?;
-    let Some(lists) = tree.lists_of(leaf) else {
-        return Err(Fail::new("no leaf"));
-    };
-    Ok(rehash_record(alloc, old, alg, &lists, token)?)
+    match way {
+        Way::Made => Ok(make_record(alloc, alg, &lists, token)?),
+        Way::Renewed(old) => Ok(renew_record(alloc, old, alg, &lists, token)?),
+        Way::Rehashed(old) => Ok(rehash_record(alloc, old, alg, &lists, token)?),
+    }
 }
 
 #[test]
@@ -114,7 +92,7 @@ fn records_are_those_of_another_program(rt: HostRuntime) -> Result<(), Fail> {
         let Some(leaf) = documents.get(number) else {
             return Err(Fail::new("no such document"));
         };
-        let record = made(rt.alloc(), alg, &documents, leaf, &token)?;
+        let record = record(rt.alloc(), Way::Made, alg, &documents, leaf, &token)?;
         let expected = before_token(rt.alloc(), front, &token)?;
         assert!(rt; record == expected, "{count} documents");
     }
@@ -134,7 +112,8 @@ fn a_new_chain_is_that_of_another_program(rt: HostRuntime) -> Result<(), Fail> {
     let new_token = token(rt.alloc(), 938)?;
     assert!(rt; is_sequence(&new_token));
     let old = before_token(rt.alloc(), SINGLE, &old_token)?;
-    let record = rehashed(rt.alloc(), &old, alg, &leaves, &leaf, &new_token)?;
+    let way = Way::Rehashed(&old);
+    let record = record(rt.alloc(), way, alg, &leaves, &leaf, &new_token)?;
     let mut expected = before_token(rt.alloc(), REHASHED, &old_token)?;
     let chain = before_token(rt.alloc(), NEW_CHAIN, &new_token)?;
     expected.extend_from_slice(&chain)?;
@@ -153,7 +132,7 @@ fn second_of_two(alloc: Global, token: &[u8]) -> Result<Vec<u8>, Fail>
     let Some(second) = leaves.get(1) else {
         return Err(Fail::new("no second document"));
     };
-    made(alloc, Alg::Sha256, &leaves, second, token)
+    record(alloc, Way::Made, Alg::Sha256, &leaves, second, token)
 }
 
 #[test]
@@ -167,7 +146,8 @@ fn a_new_time_stamp_is_in_the_last_chain(rt: HostRuntime) -> Result<(), Fail> {
     let leaf = digest(alg, &old_token);
     let leaves = with(alg, documents(rt.alloc(), alg, 2, 3)?, leaf)?;
     assert!(rt; !leaves.is_empty());
-    let record = renewed(rt.alloc(), &old, alg, &leaves, &leaf, &new_token)?;
+    let way = Way::Renewed(&old);
+    let record = record(rt.alloc(), way, alg, &leaves, &leaf, &new_token)?;
     let mut expected = before_token(rt.alloc(), RENEWED, &old_token)?;
     let stamp = before_token(rt.alloc(), NEW_STAMP, &new_token)?;
     expected.extend_from_slice(&stamp)?;
@@ -186,7 +166,7 @@ fn digest_of(alloc: Global, alg: Alg, digits: &str) -> Result<Digest, Fail> {
 
 #[test]
 fn a_token_stamps_its_root_alone(rt: HostRuntime) -> Result<(), Fail> {
-    let token = hex::decode(rt.alloc(), TOKEN)?;
+    let token = octets_of(rt.alloc(), FIRST_TOKEN)?;
     let root = digest_of(rt.alloc(), Alg::Sha256, ROOT)?;
     let Ok(moment) = stamp_of_root(&token, &root) else {
         return Err(Fail::new("no stamp"));
@@ -217,8 +197,7 @@ fn a_token_stamps_its_root_alone(rt: HostRuntime) -> Result<(), Fail> {
 
 #[test]
 fn leaves_are_those_of_another_program(rt: HostRuntime) -> Result<(), Fail> {
-    let stamp = hex::decode(rt.alloc(), TOKEN)?;
-    let record = before_token(rt.alloc(), RECORDS[1].4, &stamp)?;
+    let record = record_of(rt.alloc(), &[(FIRST, FIRST_TOKEN)])?;
     let Ok(last) = last_stamp(&record) else {
         return Err(Fail::new("no last stamp"));
     };

@@ -1,23 +1,30 @@
-use Rattle.std.proofs.Common.{inr}
 use Rattle.std.proofs.lemmas.Result.{err_from_is_err_and}
-use Rattle.cli_commands.proofs.Held.{held_as}
+use Rattle.cli_making.proofs.Givens.{given_as}
+use Rattle.cli_rehashing.proofs.Runs.{none_anew, none_given}
 use Rattle.cli_rehashing.proofs.rehash.rehash_records.Goals as goal
+
+pub returns-in_err-given-clause-failed : goal.returns-in_err-given-clause-failed
+returns-in_err-given-clause-failed g c =
+    let p = err_from_is_err_and c.from_residual.result c.from_residual.ensures.1 in
+    rw (p.1, p.2) (none_given g.R.File.Read.remaining g.R.File.Write.contents c.args.words.now _
+    c.in_err-given.ensures.refused)
 
 pub returns-in_err-rehash_all-clause-failed : goal.returns-in_err-rehash_all-clause-failed
 returns-in_err-rehash_all-clause-failed g c =
     let p = err_from_is_err_and c.from_residual-in_err-rehash_all.result
     c.from_residual-in_err-rehash_all.ensures.1 in
     rw (p.1, p.2)
-    (inr (
-      c.in_ok-alg.alg,
-      c.in_ok-alg.ensures.found,
-      inr (
-        c.as_slice.result.now,
-        held_as _ _ _ c.as_slice.ensures.value c.in_ok-text.ensures.whole,
-        inr (
-          c.as_slice-2.result.now,
-          held_as _ _ _ c.as_slice-2.ensures.value c.in_ok-token.ensures.whole,
-          c.in_err-rehash_all.ensures.failed,
-        ),
-      ),
-    ))
+    (none_anew g.R.File.Read.remaining g.R.File.Write.contents c.args.words.now _ c.in_ok-given.given.alg
+    c.as_slice-text.result.now c.as_slice-token.result.now
+    (given_as _ _ _ _ _ _ _ c.as_slice-text.ensures.value c.as_slice-token.ensures.value c.in_ok-given.ensures.found)
+    c.in_err-rehash_all.ensures.failed)
+
+pub returns-clause-renewed : goal.returns-clause-renewed
+returns-clause-renewed g c = record {
+  alg = c.in_ok-given.given.alg;
+  text = c.as_slice-text.result.now;
+  token = c.as_slice-token.result.now;
+  given =
+      given_as _ _ _ _ _ _ _ c.as_slice-text.ensures.value c.as_slice-token.ensures.value c.in_ok-given.ensures.found;
+  are = c.in_ok-rehash_all.ensures.renewed;
+}

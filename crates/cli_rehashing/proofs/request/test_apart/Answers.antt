@@ -1,8 +1,9 @@
 use Rattle.std.proofs.Common.{◌≡◌, ◌≢◌, ◌∙◌, List, ℕ, ap, subst, rules}
 use Rattle.std.specs.Str.{IsUtf8}
 use Rattle.cli_failures.specs.Files.{path_below}
+use Rattle.cli_renewing.proofs.Zips.{all_push}
 use Rattle.cli_rehashing.specs.Rehashing.{IsApart}
-use Rattle.cli_rehashing.proofs.Walks.{all_push, first_of, goes_on}
+use Rattle.cli_rehashing.proofs.Walks.{first_of, goes_on}
 use Rattle.cli_rehashing.proofs.request.test_apart.Goals as goal
 
 pub loop-sum-preserved : goal.loop-sum-preserved

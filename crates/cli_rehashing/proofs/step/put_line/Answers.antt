@@ -1,7 +1,9 @@
-use Rattle.std.proofs.Common.{◌≡◌, ◌∙◌, Some, None, rules}
+use Rattle.std.proofs.Common.{◌≡◌, ◌∙◌, List, ℕ, Some, None, ap, subst, rules}
 use Rattle.std.proofs.lemmas.Result.{err_from_is_err_and}
-use Rattle.cli_renewing.proofs.Puts.{adds_none}
-use Rattle.cli_rehashing.proofs.Puts.{put_if, stays}
+use Rattle.digests.specs.declared.value.Digest.{Digest}
+use Rattle.cli_failures.specs.Files.{path_below}
+use Rattle.cli_renewing.proofs.Puts.{adds_none, put_if, stays}
+use Rattle.cli_rehashing.specs.Rehashing.{BecomesAnew, rehashing}
 use Rattle.cli_rehashing.proofs.step.put_line.Goals as goal
 
 pub returns-in_err-octets-clause-none : goal.returns-in_err-octets-clause-none
@@ -13,17 +15,25 @@ pub returns-in-Ok-Some-clause-put : goal.returns-in-Ok-Some-clause-put
 returns-in-Ok-Some-clause-put g c =
     let some : c.in-Ok-Some.field-0 ≡ Some c.in-Ok-Some.rehashed = search rules in
     let same : c.as_slice-in-Ok-Some.result.now ≡ c.in-Ok-Some.rehashed.items = search rules in
-    put_if g.K.KeepsBelow.ways c.args.tree.now c.args.token.now c.args.moment c.args.folder.now c.args.sum.now
-    c.text_of-name.result.now c.as_slice-2.result.now c.in_ok-octets.octets.items c.in_ok-digest.digest
-    (c.text_of-name.ensures ∙ c.as_slice.ensures.value ∙ c.in_ok-name.ensures) c.as_slice-2.ensures.value
-    c.in_ok-digest.ensures c.in_ok-octets.ensures.read c.put_file.result _ _ c.in-Ok-Some.rehashed.items
-    c.as_slice-in-Ok-Some.result.now same (rw some at c.in-Ok-Some.ensures) c.put_file.ensures.did
-    c.put_file.ensures.adds
+    put_if g.K.KeepsBelow.ways (rehashing c.args.folder.now c.args.by.now.tree.now c.args.by.now.token.now
+    c.args.by.now.moment) c.args.sum.now _
+    c.as_slice-2.result.now c.in_ok-octets.octets.items
+    (ap (λ (n : List ℕ). path_below c.args.folder.now n)
+    (c.text_of-name.ensures ∙ c.as_slice.ensures.value ∙ c.in_ok-name.ensures)) c.as_slice-2.ensures.value
+    c.in_ok-octets.ensures.read c.put_file.result _ _ c.in-Ok-Some.rehashed.items
+    c.as_slice-in-Ok-Some.result.now same
+    (subst (λ (d : Digest). BecomesAnew c.args.by.now.tree.now c.args.by.now.token.now c.args.by.now.moment d
+    c.as_slice-2.result.now (Some c.in-Ok-Some.rehashed.items)) c.in_ok-digest.ensures
+    (rw some at c.in-Ok-Some.ensures)) c.put_file.ensures.did c.put_file.ensures.adds
 
 pub returns-in-Ok-None-clause-put : goal.returns-in-Ok-None-clause-put
 returns-in-Ok-None-clause-put g c =
     let none : c.in-Ok-None.field-0 ≡ None = search rules in
-    stays g.K.KeepsBelow.ways c.args.tree.now c.args.token.now c.args.moment c.args.folder.now c.args.sum.now
-    c.text_of-name.result.now c.as_slice-2.result.now c.in_ok-octets.octets.items c.in_ok-digest.digest
-    (c.text_of-name.ensures ∙ c.as_slice.ensures.value ∙ c.in_ok-name.ensures) c.as_slice-2.ensures.value
-    c.in_ok-digest.ensures c.in_ok-octets.ensures.read _ (rw none at c.in-Ok-None.ensures)
+    stays g.K.KeepsBelow.ways (rehashing c.args.folder.now c.args.by.now.tree.now c.args.by.now.token.now
+    c.args.by.now.moment) c.args.sum.now _
+    c.as_slice-2.result.now c.in_ok-octets.octets.items
+    (ap (λ (n : List ℕ). path_below c.args.folder.now n)
+    (c.text_of-name.ensures ∙ c.as_slice.ensures.value ∙ c.in_ok-name.ensures)) c.as_slice-2.ensures.value
+    c.in_ok-octets.ensures.read _
+    (subst (λ (d : Digest). BecomesAnew c.args.by.now.tree.now c.args.by.now.token.now c.args.by.now.moment d
+    c.as_slice-2.result.now None) c.in_ok-digest.ensures (rw none at c.in-Ok-None.ensures))

@@ -1,4 +1,4 @@
-use Rattle.std.proofs.Common.{◌≡◌, ◌+◌, ◌++◌, ◌∷◌, [], List, take, inr, sym, subst, arith}
+use Rattle.std.proofs.Common.{◌+◌, List, take, inr, sym, subst}
 use Rattle.std.proofs.lemmas.Result.{err_from_is_err_and}
 use Rattle.std.specs.Option.{option_copied}
 use Rattle.cli_renewing.specs.declared.footing.Footing.{Footing}

@@ -1,93 +1,58 @@
-use Rattle.std.proofs.Common.{◌≡◌, Some, List, Err, sym, subst, rules}
+use Rattle.std.proofs.Common.{Some}
 use Rattle.std.proofs.lemmas.Result.{err_from_is_err_and}
-use Rattle.cli_renewing.specs.declared.footing.Footing.{Footing}
-use Rattle.cli_renewing.specs.Footings.{AreFootings, ComesAfter, IsRootOf}
-use Rattle.cli_renewing.specs.Unrenewed.{IsTooEarly}
-use Rattle.cli_renewing.proofs.Runs.{no_footings, no_tree, renewed_if, stamps_not, stopped_if, too_early, treeless}
-use Rattle.cli_renewing.proofs.Runs.{unstamped, untested}
+use Rattle.cli_renewing.specs.Renewing.{renewal}
+use Rattle.cli_renewing.specs.Unrenewed.{HaveNoTree}
+use Rattle.cli_renewing.proofs.Runs.{ended, no_footings, no_tree, treeless, unstamped, untested}
+use Rattle.cli_renewing.proofs.Standings.{StandBy, footings_as}
 use Rattle.cli_renewing.proofs.renew.renew_all.Goals as goal
 
-pub returns-in_err-footings-clause-failed : goal.returns-in_err-footings-clause-failed
-returns-in_err-footings-clause-failed g c =
+pub returns-in_err-found-clause-failed : goal.returns-in_err-found-clause-failed
+returns-in_err-found-clause-failed g c =
     let p = err_from_is_err_and c.from_residual.result c.from_residual.ensures.1 in
     rw (p.1, p.2)
-    (treeless g.K.Keeps.ways c.args.paths.now c.args.token.now _ _
-    (no_footings g.K.Keeps.ways (Some c.args.token.now) c.args.paths.now _ c.in_err-footings.ensures.refused))
+    (treeless g.K.Keeps.ways (HaveNoTree g.K.Keeps.ways (Some c.args.token.now) c.args.paths.now)
+    (StandBy g.K.Keeps.ways c.args.token.now c.args.paths.now) renewal c.args.paths.now c.args.token.now _ _
+    (no_footings g.K.Keeps.ways (Some c.args.token.now) c.args.paths.now _ c.in_err-found.ensures.refused))
 
 pub returns-in_err-tree-clause-failed : goal.returns-in_err-tree-clause-failed
 returns-in_err-tree-clause-failed g c =
     let p = err_from_is_err_and c.from_residual-in_err-tree.result c.from_residual-in_err-tree.ensures.1 in
     rw (p.1, p.2)
-    (treeless g.K.Keeps.ways c.args.paths.now c.args.token.now _ _
-    (no_tree g.K.Keeps.ways (Some c.args.token.now) c.args.paths.now c.as_slice.result.now
-    (subst (λ (fs : List Footing). AreFootings g.K.Keeps.ways (Some c.args.token.now) c.args.paths.now fs)
-    (sym c.as_slice.ensures.value) c.in_ok-footings.ensures.found) _ c.in_err-tree.ensures.refused))
+    (treeless g.K.Keeps.ways (HaveNoTree g.K.Keeps.ways (Some c.args.token.now) c.args.paths.now)
+    (StandBy g.K.Keeps.ways c.args.token.now c.args.paths.now) renewal c.args.paths.now c.args.token.now _ _
+    (no_tree g.K.Keeps.ways (Some c.args.token.now) c.args.paths.now c.as_slice-footings.result.now
+    (footings_as _ _ _ _ _ c.as_slice-footings.ensures.value c.in_ok-found.ensures.found) _
+    c.in_err-tree.ensures.refused))
 
-pub returns-in_err-moment-clause-failed : goal.returns-in_err-moment-clause-failed
-returns-in_err-moment-clause-failed g c =
-    let p = err_from_is_err_and c.from_residual-in_err-moment.result c.from_residual-in_err-moment.ensures.1 in
-    let is_root : IsRootOf c.in_ok-tree.tree c.root.result =
-    record { algorithm = c.root.ensures.algorithm; octets = c.root.ensures.octets } in
-    let failed : c.stamp_of_root.result ≡ Err c.in_err-moment.field-0.0 = search rules in
+pub returns-in_err-by-clause-failed : goal.returns-in_err-by-clause-failed
+returns-in_err-by-clause-failed g c =
+    let p = err_from_is_err_and c.from_residual-in_err-by.result c.from_residual-in_err-by.ensures.1 in
     rw (p.1, p.2)
-    (unstamped g.K.Keeps.ways c.args.paths.now c.args.token.now c.as_slice.result.now
-    (subst (λ (fs : List Footing). AreFootings g.K.Keeps.ways (Some c.args.token.now) c.args.paths.now fs)
-    (sym c.as_slice.ensures.value) c.in_ok-footings.ensures.found)
-    c.in_ok-tree.tree c.root.result (c.in_ok-tree.ensures.found c.root.result is_root) _ _
-    (stamps_not c.args.token.now c.root.result c.stamp_of_root.result c.in_err-moment.field-0.0 failed
-    c.stamp_of_root.ensures.malformed c.stamp_of_root.ensures.differs c.stamp_of_root.ensures.no_order))
-
-pub returns-in_err-test_order-clause-failed : goal.returns-in_err-test_order-clause-failed
-returns-in_err-test_order-clause-failed g c =
-    let p = err_from_is_err_and c.from_residual-in_err-test_order.result
-    c.from_residual-in_err-test_order.ensures.1 in
-    let is_root : IsRootOf c.in_ok-tree.tree c.root.result =
-    record { algorithm = c.root.ensures.algorithm; octets = c.root.ensures.octets } in
-    let same : c.as_slice-2.result.now ≡ c.as_slice.result.now = search rules in
-    rw (p.1, p.2)
-    (too_early g.K.Keeps.ways c.args.paths.now c.args.token.now c.as_slice.result.now
-    (subst (λ (fs : List Footing). AreFootings g.K.Keeps.ways (Some c.args.token.now) c.args.paths.now fs)
-    (sym c.as_slice.ensures.value) c.in_ok-footings.ensures.found)
-    c.in_ok-tree.tree c.root.result (c.in_ok-tree.ensures.found c.root.result is_root) c.in_ok-moment.moment
-    c.in_ok-moment.ensures.found _ _
-    (subst (λ (fs : List Footing). IsTooEarly c.in_ok-moment.moment fs c.in_err-test_order.field-0.0) same
-    c.in_err-test_order.ensures.refused))
+    (unstamped g.K.Keeps.ways (HaveNoTree g.K.Keeps.ways (Some c.args.token.now) c.args.paths.now)
+    (StandBy g.K.Keeps.ways c.args.token.now c.args.paths.now) renewal c.args.paths.now c.args.token.now
+    c.as_slice-footings.result.now
+    (footings_as _ _ _ _ _ c.as_slice-footings.ensures.value c.in_ok-found.ensures.found)
+    c.in_ok-tree.tree c.in_ok-tree.ensures.found _ _ c.in_err-by.ensures.refused)
 
 pub returns-in_err-test_records-clause-failed : goal.returns-in_err-test_records-clause-failed
 returns-in_err-test_records-clause-failed g c =
     let p = err_from_is_err_and c.from_residual-in_err-test_records.result
     c.from_residual-in_err-test_records.ensures.1 in
-    let is_root : IsRootOf c.in_ok-tree.tree c.root.result =
-    record { algorithm = c.root.ensures.algorithm; octets = c.root.ensures.octets } in
     rw (p.1, p.2)
-    (untested g.K.Keeps.ways c.args.paths.now c.args.token.now c.as_slice.result.now
-    (subst (λ (fs : List Footing). AreFootings g.K.Keeps.ways (Some c.args.token.now) c.args.paths.now fs)
-    (sym c.as_slice.ensures.value) c.in_ok-footings.ensures.found)
-    c.in_ok-tree.tree c.root.result (c.in_ok-tree.ensures.found c.root.result is_root) c.in_ok-moment.moment
-    c.in_ok-moment.ensures.found _ _ c.in_err-test_records.ensures.failed)
+    (untested g.K.Keeps.ways (HaveNoTree g.K.Keeps.ways (Some c.args.token.now) c.args.paths.now)
+    (StandBy g.K.Keeps.ways c.args.token.now c.args.paths.now) renewal c.args.paths.now c.args.token.now
+    c.as_slice-footings.result.now
+    (footings_as _ _ _ _ _ c.as_slice-footings.ensures.value c.in_ok-found.ensures.found)
+    c.in_ok-tree.tree c.in_ok-tree.ensures.found c.in_ok-by.by c.in_ok-by.ensures.has c.in_ok-by.ensures.stamps _ _
+    c.in_err-test_records.ensures.failed)
 
-pub returns-clause-renewed : goal.returns-clause-renewed
-returns-clause-renewed g c =
-    let is_root : IsRootOf c.in_ok-tree.tree c.root.result =
-    record { algorithm = c.root.ensures.algorithm; octets = c.root.ensures.octets } in
-    let same : c.as_slice-2.result.now ≡ c.as_slice.result.now = search rules in
-    renewed_if g.K.Keeps.ways c.args.paths.now c.args.token.now c.as_slice.result.now
-    (subst (λ (fs : List Footing). AreFootings g.K.Keeps.ways (Some c.args.token.now) c.args.paths.now fs)
-    (sym c.as_slice.ensures.value) c.in_ok-footings.ensures.found)
-    c.in_ok-tree.tree c.root.result (c.in_ok-tree.ensures.found c.root.result is_root) c.in_ok-moment.moment
-    c.in_ok-moment.ensures.found
-    (subst (λ (fs : List Footing). ComesAfter c.in_ok-moment.moment fs) same c.in_ok-test_order.ensures.later)
-    c.in_ok-test_records.ensures.tested _ _ c.put_records.result c.put_records.ensures.put
-
-pub returns-clause-failed : goal.returns-clause-failed
-returns-clause-failed g c =
-    let is_root : IsRootOf c.in_ok-tree.tree c.root.result =
-    record { algorithm = c.root.ensures.algorithm; octets = c.root.ensures.octets } in
-    let same : c.as_slice-2.result.now ≡ c.as_slice.result.now = search rules in
-    stopped_if g.K.Keeps.ways c.args.paths.now c.args.token.now c.as_slice.result.now
-    (subst (λ (fs : List Footing). AreFootings g.K.Keeps.ways (Some c.args.token.now) c.args.paths.now fs)
-    (sym c.as_slice.ensures.value) c.in_ok-footings.ensures.found)
-    c.in_ok-tree.tree c.root.result (c.in_ok-tree.ensures.found c.root.result is_root) c.in_ok-moment.moment
-    c.in_ok-moment.ensures.found
-    (subst (λ (fs : List Footing). ComesAfter c.in_ok-moment.moment fs) same c.in_ok-test_order.ensures.later)
-    c.in_ok-test_records.ensures.tested _ _ c.put_records.result c.put_records.ensures.failed
+pub returns : goal.returns
+returns g c =
+    let how = ended g.K.Keeps.ways (HaveNoTree g.K.Keeps.ways (Some c.args.token.now) c.args.paths.now)
+    (StandBy g.K.Keeps.ways c.args.token.now c.args.paths.now) renewal c.args.paths.now c.args.token.now
+    c.as_slice-footings.result.now
+    (footings_as _ _ _ _ _ c.as_slice-footings.ensures.value c.in_ok-found.ensures.found)
+    c.in_ok-tree.tree c.in_ok-tree.ensures.found c.in_ok-by.by c.in_ok-by.ensures.has c.in_ok-by.ensures.stamps
+    c.in_ok-by.ensures.later c.in_ok-test_records.ensures.tested _ _ c.put_records.result c.put_records.ensures.put
+    c.put_records.ensures.failed in
+    record { renewed = how.0; failed = how.1 }

@@ -1,4 +1,4 @@
-use Rattle.std.proofs.Common.{List, ℕ, Option, None, inr, sym, subst}
+use Rattle.std.proofs.Common.{List, ℕ, None, inr, sym, subst}
 use Rattle.std.specs.Borrow.{Bor}
 use Rattle.std.proofs.lemmas.Result.{err_from_is_err_and}
 use Rattle.cli_failures.specs.Files.{IsHeld}

@@ -1,7 +1,8 @@
-use Rattle.std.proofs.Common.{◌≡◌, List, Option, None, sym, subst, refl}
+use Rattle.std.proofs.Common.{List, None, inl, inr, sym, subst, refl}
 use Rattle.std.proofs.lemmas.Result.{err_from_is_err_and}
 use Rattle.cli_renewing.specs.declared.footing.Footing.{Footing}
-use Rattle.cli_renewing.specs.Footings.{AreFootings, IsRootOf}
+use Rattle.cli_renewing.specs.Footings.{AreFootings}
+use Rattle.cli_renewing.specs.Unrenewed.{HaveNoTree}
 use Rattle.cli_renewing.proofs.Runs.{asks_not, no_tree}
 use Rattle.cli_renewing.proofs.Short.{short_request}
 use Rattle.cli_renewing.proofs.request.renewal_request.Goals as goal
@@ -16,10 +17,5 @@ returns-in_err-tree-clause-refused g c =
 
 pub returns-clause-refused : goal.returns-clause-refused
 returns-clause-refused g c =
-    let is_root : IsRootOf c.in_ok-tree.tree c.root-root.result =
-    record { algorithm = c.root-root.ensures.algorithm; octets = c.root-root.ensures.octets } in
-    asks_not g.K.Keeps.ways c.args.paths.now c.as_slice.result.now
-    (subst (λ (fs : List Footing). AreFootings g.K.Keeps.ways None c.args.paths.now fs) (sym c.as_slice.ensures.value)
-    c.in_ok-footings.ensures.found)
-    c.in_ok-tree.tree c.root-root.result (c.in_ok-tree.ensures.found c.root-root.result is_root)
+    asks_not (HaveNoTree g.K.Keeps.ways None c.args.paths.now) (inr (inl refl)) c.root-root.result
     (short_request c.root-root.result c.bytes-octets.ensures.count) c.request_of.result c.request_of.ensures.refused

@@ -1,4 +1,4 @@
-use Rattle.std.proofs.Common.{◌≡◌, ◌≢◌, take}
+use Rattle.std.proofs.Common.{◌≢◌, take}
 use Rattle.std.specs.List.{AllByRecursion}
 use Rattle.cli_renewing.proofs.request.test_apart.Given as goal
 

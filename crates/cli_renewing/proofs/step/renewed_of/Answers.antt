@@ -1,33 +1,30 @@
-use Rattle.std.proofs.Common.{◌<◌, Some, rules}
+use Rattle.std.proofs.Common.{Some}
 use Rattle.cli_renewing.proofs.Renewals.{is_done, is_renewal, too_long}
 use Rattle.cli_renewing.proofs.Standings.{found_done, found_last}
 use Rattle.cli_renewing.proofs.step.renewed_of.Goals as goal
 
 pub returns-then-standing : goal.returns-then-standing
 returns-then-standing c =
-    let later : c.in-Ok.standing.last.moment < c.args.moment = c.is_later.ensures.0 c.if-not-is_later.false in
-    is_done c.args.tree.now c.args.token.now c.args.moment c.requires.stamped c.args.octets.now c.in-Ok.standing.last
-    (c.in-Some.ensures.some.0 (search rules)) later
-    (found_done (Some c.args.token.now) c.args.octets.now c.in-Ok.standing.done c.in-Ok.standing.last
+    is_done c.args.by.now.tree.now c.args.by.now.token.now c.args.by.now.moment c.requires.0 c.args.octets.now
+    c.in-Ok.standing.last c.in-Some.values c.in-Some.ensures.up c.in-Some.ensures.later
+    (found_done (Some c.args.by.now.token.now) c.args.octets.now c.in-Ok.standing.done c.in-Ok.standing.last
     c.if-standing.true c.in-Ok.ensures.found)
 
 pub returns-in-Ok-renew_record : goal.returns-in-Ok-renew_record
 returns-in-Ok-renew_record c =
-    let later : c.in-Ok.standing.last.moment < c.args.moment = c.is_later.ensures.0 c.if-not-is_later.false in
     let (v, was, encoded) = c.in-Ok-renew_record.ensures.answer in
-    is_renewal c.args.tree.now c.args.token.now c.args.moment c.requires.stamped c.args.octets.now
-    c.in-Ok.standing.last (c.in-Some.ensures.some.0 (search rules)) later
-    (found_last (Some c.args.token.now) c.args.octets.now c.in-Ok.standing.done c.in-Ok.standing.last
+    is_renewal c.args.by.now.tree.now c.args.by.now.token.now c.args.by.now.moment c.requires.0 c.args.octets.now
+    c.in-Ok.standing.last c.in-Some.values c.in-Some.ensures.up c.in-Some.ensures.later
+    (found_last (Some c.args.by.now.token.now) c.args.octets.now c.in-Ok.standing.done c.in-Ok.standing.last
     c.if-standing.false c.in-Ok.ensures.found)
-    c.in-Some.values c.in-Some.ensures.way c.in-Some.ensures.lists v c.in-Ok-renew_record.renewed.items was encoded
-    (c.in-Ok-renew_record.ensures.kept v was) (c.in-Ok-renew_record.ensures.shows v was)
+    v c.in-Ok-renew_record.renewed.items was encoded (c.in-Ok-renew_record.ensures.kept v was)
+    (c.in-Ok-renew_record.ensures.shows v was)
 
 pub returns-in-Err-TooLong : goal.returns-in-Err-TooLong
 returns-in-Err-TooLong c =
-    let later : c.in-Ok.standing.last.moment < c.args.moment = c.is_later.ensures.0 c.if-not-is_later.false in
     let answer = rw c.in-Err-TooLong.field-0-is at c.in-Err-TooLong.ensures.answer in
-    too_long c.args.tree.now c.args.token.now c.args.moment c.requires.stamped c.args.octets.now
-    c.in-Ok.standing.last (c.in-Some.ensures.some.0 (search rules)) later
-    (found_last (Some c.args.token.now) c.args.octets.now c.in-Ok.standing.done c.in-Ok.standing.last
+    too_long c.args.by.now.tree.now c.args.by.now.token.now c.args.by.now.moment c.requires.0 c.args.octets.now
+    c.in-Ok.standing.last c.in-Some.values c.in-Some.ensures.up c.in-Some.ensures.later
+    (found_last (Some c.args.by.now.token.now) c.args.octets.now c.in-Ok.standing.done c.in-Ok.standing.last
     c.if-standing.false c.in-Ok.ensures.found)
-    c.in-Some.values c.in-Some.ensures.way c.in-Some.ensures.lists answer.0 answer.1 answer.2
+    answer.0 answer.1 answer.2

@@ -11,8 +11,8 @@
  * What the caller owes at every call
  *   No pointer is null, and each is aligned as its type is; an empty text is any other pointer with the length 0, as "". A length
  *   is at most that of the memory at its pointer, and below 2^63. A `bool` is 0 or 1, also where another language hands it in.
- *   What one call writes overlaps nothing else that is handed to it. A list is CMSPROOF_EMPTY before its first call: a struct
- *   that nobody set is taken for one that holds a list, which is then freed.
+ *   What one call writes overlaps nothing else that is handed to it. A list or a tree is CMSPROOF_EMPTY before its first call: a
+ *   struct that nobody set is taken for one that holds a list, which is then freed.
  *   While a call runs, nobody changes, frees or unmaps what it was handed, or cuts a file that is mapped there, and nobody else
  *   uses a handle that it was handed. So a handle is for one call at a time, in any thread; threads that check at once have a handle
  *   each, which may hold one list (cmsproof_trust_share). A handle goes from thread to thread by a lock, by the start or the end of
@@ -29,11 +29,12 @@
  *   with their line feeds, or the octets of a file that it writes.
  *   A call that judges (check, fit, compare, match) tells its verdict by a line, whatever the verdict is: with `room` 0 it makes
  *   no line, and returns the status of the verdict.
- *   A call that makes a text (questions, request, token, attach, show) returns CMSPROOF_DONE only with the whole text. With
- *   `room` 0 it says the length alone. If it is refused, all of these but those of questions have the line that says why as
- *   their text: it is written if `*length` is at most `room`, and the status stays that of the refusal.
- *   So what such a call wrote is a token, a file or a request only if the status is CMSPROOF_DONE: look before you keep it. Without
- *   memory for a refusal's line, `*length` is 0; with NO_MEMORY the text is as it was, or the line `failed memory`.
+ *   A call that makes a text (questions, request, token, attach, show, and those that make and renew evidence records) returns
+ *   CMSPROOF_DONE only with the whole text. With `room` 0 it says the length alone. If it is refused, all of these but those of
+ *   questions have the line that says why as their text: it is written if `*length` is at most `room`, and the status stays that of
+ *   the refusal.
+ *   So what such a call wrote is a token, a file, a record or a request only if the status is CMSPROOF_DONE: look before you keep it.
+ *   Without memory for a refusal's line, `*length` is 0; with NO_MEMORY the text is as it was, or the line `failed memory`.
  */
 #ifndef CMSPROOF_H
 #define CMSPROOF_H
@@ -54,11 +55,11 @@ typedef uint32_t cmsproof_status;
 #define CMSPROOF_DONE UINT32_C(1)      /* it did what it says; of a check: accepted */
 #define CMSPROOF_REFUSED UINT32_C(2)   /* a rule refuses; of a comparison: different, or a collision */
 #define CMSPROOF_MALFORMED UINT32_C(3) /* octets are not of the form that they should have, or a list is refused */
-#define CMSPROOF_USAGE UINT32_C(4)     /* a value of a request or of an evidence check is not as it must be, or no type to show */
+#define CMSPROOF_USAGE UINT32_C(4)     /* a value that a call takes is not as it must be, or no type to show */
 #define CMSPROOF_FAILED UINT32_C(5)    /* a content has more than 2^40 octets */
 #define CMSPROOF_NO_ROOM UINT32_C(6)   /* the text is longer than its room; `*length` would do */
 #define CMSPROOF_NO_MEMORY UINT32_C(7) /* memory was refused */
-#define CMSPROOF_NO_LIST UINT32_C(8)   /* a list that was handed in holds none: it was never read, refused, or freed */
+#define CMSPROOF_NO_LIST UINT32_C(8)   /* a list or a tree that was handed in holds none: it was never read, refused, or freed */
 
 /* What a call says, in numbers. 0 in any field: it does not apply. */
 typedef struct cmsproof_answer {
@@ -72,7 +73,7 @@ typedef struct cmsproof_answer {
     uint64_t at;          /* of a fault of form, if `kind` is not 0 */
     uint64_t signer;      /* the signer's number, from 1; of a file that fits, how many; of an evidence record the chain's */
     uint64_t token;       /* the token's number, from 1; of an evidence record the archive time-stamp's in its chain */
-    uint64_t line;        /* the line of a list, from 1; of two inputs, which one, 1 or 2 */
+    uint64_t line;        /* the line of a list, from 1; of two inputs, which one, 1 or 2; of a record beside a file 2 */
 } cmsproof_answer;
 
 #define CMSPROOF_NONE UINT32_C(0) /* no verdict: the call could not be made */
@@ -101,7 +102,7 @@ typedef struct cmsproof_answers {
     bool held;
 } cmsproof_answers;
 
-#define CMSPROOF_EMPTY {NULL, false} /* as in: cmsproof_trust trust = CMSPROOF_EMPTY; */
+#define CMSPROOF_EMPTY {NULL, false} /* as in: cmsproof_trust trust = CMSPROOF_EMPTY; also of a tree */
 
 /* The library's version: its first number in the upper half, its second in the lower one. */
 uint32_t cmsproof_version(void);
@@ -179,11 +180,93 @@ cmsproof_status cmsproof_evidence_check(cmsproof_trust *trust, cmsproof_answers 
                                         size_t count, const char *ends, size_t ends_length, const char *at, size_t at_length,
                                         bool whole, char *text, size_t room, size_t *length, cmsproof_answer *answer);
 
+/* Whether each signature of a file existed by a moment, under an evidence record that shows the file, and the content if it is given,
+ * as `cmsproof check --evidence` says it: with no clock, the file's own time-stamps count though an authority or an algorithm ended since.
+ * File and content are handed in as for `cmsproof_check`, `ends` and `at` as for `cmsproof_evidence_check`. The answers list has the
+ * answers to the questions of both, `cmsproof_questions` and `cmsproof_evidence_questions`.
+ * Statuses: DONE, only if it is accepted; REFUSED and MALFORMED, of the record as `cmsproof_evidence_check` says it, and then `line` of
+ * `answer` is 2, or of the file as `cmsproof_check` says it, and then `line` is 0; FAILED (X5); USAGE, with no verdict, and the line
+ * names the first that is not as it must be, of `end` and `at`; NO_ROOM; NO_MEMORY; NO_LIST. `answer` has the whole verdict also with
+ * NO_ROOM; with NO_MEMORY it has it, or says CMSPROOF_NONE, also if `room` is 0. */
+cmsproof_status cmsproof_check_under(cmsproof_trust *trust, cmsproof_answers *answers, const uint8_t *file, size_t file_length,
+                                     const uint8_t *content, size_t content_length, bool content_given, const uint8_t *record,
+                                     size_t record_length, const char *ends, size_t ends_length, const char *at, size_t at_length,
+                                     char *text, size_t room, size_t *length, cmsproof_answer *answer);
+
 /* The questions of an evidence record, as `cmsproof evidence questions` prints them.
  * Statuses: DONE, and `text` has the questions; REFUSED, with V2 in `answer`, or MALFORMED, with V1 and the fault; NO_ROOM;
  * NO_MEMORY; NO_LIST. If it is refused, no text is made. */
 cmsproof_status cmsproof_evidence_questions(cmsproof_trust *trust, const uint8_t *record, size_t record_length, char *text,
                                             size_t room, size_t *length, cmsproof_answer *answer);
+
+/* A handle of a hash tree (RFC 4998 4.2), by which evidence records are made and renewed; as that of a list. */
+typedef struct cmsproof_tree {
+    void *inside;
+    bool held;
+} cmsproof_tree;
+
+/* Evidence records are made of digests, and renewed, as by `cmsproof evidence request`, `make`, `renew` and `rehash`, a record a call:
+ * 1. `cmsproof_tree_make` makes the tree. Its leaves are the digests of the data objects; for `renew` the leaf of each record by
+ *    `cmsproof_evidence_renew_leaf`, and the algorithm is that of `cmsproof_evidence_renew_algorithm`; for `rehash` the leaf of each
+ *    record by `cmsproof_evidence_rehash_leaf`.
+ * 2. An authority stamps its root, `cmsproof_tree_root`: `cmsproof_request` makes the request, and `cmsproof_token` has the token.
+ * 3. `cmsproof_evidence_make`, `cmsproof_evidence_renew` or `cmsproof_evidence_rehash` gives each record.
+ * Records that are renewed, and stored one by one in the place of the old ones, are of two kinds where that was cut off. Where `token`
+ * is handed in, a record that it has renewed already has the leaf that it had before, and stays as it is: so the tree is the same. In
+ * the calls for leaves `token` may have the length 0, where there is none yet. Nothing is verified: not who signed a token, nor what a
+ * record shows. */
+
+/* Makes the tree over digests by the algorithm of this name ("sha256", as the program's --alg), `digests`, one after the other. What
+ * `tree` held before is freed first. Statuses: DONE; USAGE (no algorithm has the name, or these are not one digest or more by it), or
+ * NO_MEMORY, and `tree` holds none. */
+cmsproof_status cmsproof_tree_make(cmsproof_tree *tree, const char *algorithm, size_t algorithm_length, const uint8_t *digests,
+                                   size_t digests_length, cmsproof_answer *answer);
+
+/* Its root, a digest by its algorithm. Statuses: DONE, and `root` has the octets; NO_ROOM; NO_LIST. */
+cmsproof_status cmsproof_tree_root(cmsproof_tree *tree, uint8_t *root, size_t room, size_t *length, cmsproof_answer *answer);
+
+/* Frees it, and `tree` holds none. Freed again, or never made, it stays as it is. */
+void cmsproof_tree_free(cmsproof_tree *tree);
+
+/* The evidence record of a digest, a leaf of the tree, with a token over the root, as `cmsproof evidence make` writes it.
+ * Statuses: DONE, and `record` has the octets; USAGE, and it has the line `usage digest`, of one that is no leaf; REFUSED, with U7, U8 or
+ * U10, and it has the line; NO_ROOM; NO_MEMORY; NO_LIST. */
+cmsproof_status cmsproof_evidence_make(cmsproof_tree *tree, const uint8_t *digest, size_t digest_length, const uint8_t *token,
+                                       size_t token_length, uint8_t *record, size_t room, size_t *length, cmsproof_answer *answer);
+
+/* The name of the algorithm of the tree by which a record is renewed: that of its last chain. Records by another one need another tree and
+ * token. Statuses: DONE, and `name` has it; MALFORMED, with the fault, or REFUSED, with U3, and it has the line; NO_ROOM; NO_MEMORY. */
+cmsproof_status cmsproof_evidence_renew_algorithm(const uint8_t *record, size_t record_length, char *name, size_t room,
+                                                  size_t *length, cmsproof_answer *answer);
+
+/* The leaf of that tree, by the algorithm of this name: the digest of the record's last time-stamp. Statuses: DONE, and `leaf` has the
+ * octets; MALFORMED, with the fault, or REFUSED, with U3, or U4 (its leaf is by another algorithm), or USAGE (`usage alg`: no algorithm
+ * has the name), and it has the line; NO_ROOM; NO_MEMORY. */
+cmsproof_status cmsproof_evidence_renew_leaf(const uint8_t *record, size_t record_length, const char *algorithm,
+                                             size_t algorithm_length, const uint8_t *token, size_t token_length, uint8_t *leaf,
+                                             size_t room, size_t *length, cmsproof_answer *answer);
+
+/* A record, renewed by a token over the root of the tree, as `cmsproof evidence renew` writes it.
+ * Statuses: DONE, and `renewed` has the octets; MALFORMED, with the fault, or REFUSED, with U3, U4 (its leaf is by another algorithm than
+ * the tree) or U7 to U10, and it has the line; USAGE, and it has the line `usage record`, where its leaf is none of the tree; NO_ROOM;
+ * NO_MEMORY; NO_LIST. */
+cmsproof_status cmsproof_evidence_renew(cmsproof_tree *tree, const uint8_t *record, size_t record_length, const uint8_t *token,
+                                        size_t token_length, uint8_t *renewed, size_t room, size_t *length, cmsproof_answer *answer);
+
+/* The leaf of the tree by which a record gets a new chain, for the data object of this digest by the algorithm of this name, that of the
+ * tree. Statuses: as for `cmsproof_evidence_renew_leaf`, but U4; and USAGE also with the line `usage digest`, where the digest isn't as
+ * long as one by the algorithm. */
+cmsproof_status cmsproof_evidence_rehash_leaf(const uint8_t *record, size_t record_length, const char *algorithm,
+                                              size_t algorithm_length, const uint8_t *digest, size_t digest_length,
+                                              const uint8_t *token, size_t token_length, uint8_t *leaf, size_t room, size_t *length,
+                                              cmsproof_answer *answer);
+
+/* A record with a new chain by a token over the root of the tree, for the data object of this digest by the algorithm of the tree, as
+ * `cmsproof evidence rehash` writes it. Statuses: as for `cmsproof_evidence_renew`, but U4; and USAGE also of a digest that isn't as long
+ * as one by that algorithm, with the line `usage digest`. */
+cmsproof_status cmsproof_evidence_rehash(cmsproof_tree *tree, const uint8_t *record, size_t record_length, const uint8_t *digest,
+                                         size_t digest_length, const uint8_t *token, size_t token_length, uint8_t *rehashed,
+                                         size_t room, size_t *length, cmsproof_answer *answer);
 
 /* Whether the content and the signed attributes of each signer of a file belong together, as `cmsproof fit` says it. File and
  * content are handed in as for `cmsproof_check`. Statuses: DONE, with CMSPROOF_FITS and how many signers there are in `signer`;

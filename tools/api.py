@@ -29,14 +29,14 @@ WHOLE = ("check_names", "cli_commands", "cli_files", "cli_making", "cli_rehashin
 VERBS = ("read", "write", "make", "ask")  # what the methods are called that read, write and make whole values, and that ask
 DEVICES = ("telling",)  # the clauses that say of a device what the document says of all
 READS = ("Certificate::read", "SigningCert::read_v1", "SigningCert::read_v2", "cmsproof_check", "cmsproof_check_token")
-READS += ("cmsproof_evidence_check", "cmsproof_stamp_check")
+READS += ("cmsproof_check_under", "cmsproof_evidence_check", "cmsproof_stamp_check")
 # devices, verifiers for tests, parts of other types, calls that judge nothing, and those of cli_commands that cli_files makes
 LEFT_OUT = ("Sink", "Source", "Puts", "Keeps", "KeepsBelow", "FusedVerifier", "Int", "Oid", "Signers", "print")
 LEFT_OUT += ("answers_in", "ask_by", "check_by", "line_of", "stamp_questions_by", "text_of", "trust_in")
 # and those that cli_making makes
 LEFT_OUT += ("alg_of", "nonce_contents", "nonce_in", "policy_contents")
 # and those of cli_making and cli_renewing that cli_rehashing makes
-LEFT_OUT += ("sums_in", "test_order", "tree_on")
+LEFT_OUT += ("given_by", "later_stamp", "lists_of", "stamp_of", "sums_in", "tree_on")
 TEXTS = ("Display", "Debug")  # the traits that print
 EXACT = "The exact text."
 FEW = 4  # words that are as short as a reference to them

@@ -130,12 +130,17 @@ def put_trust(row, place):
     place.put("trusted.txt", ("cmsproof trust " + text_of(row.text("trust"), row.blobs)).encode())
 
 
-def put_answers(row, place, asking):
-    """Makes the answers list of the questions that these words print, without those with a silent word; of none where they are untold."""
+def asked_by(place, asking):
+    """The lines that these words print; none where they are untold."""
     try:
-        asked = place.run(words_of(asking)).printed.splitlines(keepends=True)
+        return place.run(words_of(asking)).printed.splitlines(keepends=True)
     except Untold:
-        asked = []
+        return []
+
+
+def put_answers(row, place, *asking):
+    """Makes the answers list of the questions that each of these words print, without those with a silent word."""
+    asked = [line for words in asking for line in asked_by(place, words)]
     silent = row.values.get("silent", "")
     lines = [line for line in asked if line.startswith("30") and silent not in line.rstrip("\n").split(" ")]
     place.put("answers.txt", "".join(["cmsproof answers 1\n", *lines]).encode())
@@ -216,6 +221,20 @@ def evidence(row, place):
         place.put(f"data-{number}", octets_of(part, row.blobs))
         words.append(f"data-{number}")
     return place.run(words).said()
+
+
+def under(row, place):
+    """What `check --evidence` says of a file beside a record."""
+    row.takes("trust file content record silent words")
+    put_trust(row, place)
+    place.put("record.er", row.octets("record"))
+    place.put("signed.p7s", row.octets("file"))
+    put_answers(row, place, "evidence+questions+--trust+trusted.txt+record.er", "questions+--trust+trusted.txt+signed.p7s")
+    words = words_of("check+--trust+trusted.txt+--answers+answers.txt+--evidence+record.er")
+    if "content" in row.values:
+        place.put("content.txt", row.octets("content"))
+        words += words_of("--content+content.txt")
+    return place.run([*words, *words_of(row.values.get("words", "")), "signed.p7s"]).said()
 
 
 def cuts(row, place):
@@ -350,7 +369,7 @@ def untold(why):
 
 KINDS = {
     "commands": {
-        **{"run": run, "check": check, "ask": ask, "stamp": stamp, "evidence": evidence, "cuts": cuts, "lengths": lengths},
+        **{"run": run, "check": check, "ask": ask, "stamp": stamp, "evidence": evidence, "under": under, "cuts": cuts, "lengths": lengths},
         "task": untold("the task that words ask for is not printed"),
     },
     "files": {

@@ -10,7 +10,7 @@ need_tools()
 import cmsproof
 from cmsproof import commands
 from cmsproof.calls import asked_of, written
-from cmsproof.evidence import words_of
+from cmsproof.evidence import verdict_under, words_of
 from cmsproof.lists import Held
 from cmsproof.octets import of_bytes
 from cmsproof import library as lib
@@ -94,6 +94,10 @@ def stated(file):
 
 def check(given):
     """What `check` says, in memory: as with a buffer in which the file has room."""
+    if "--evidence" in given.found:
+        return check_under(given)
+    if "--at" in given.found or "--end" in given.many:
+        raise Untold("no call of the library has such words")
     (name,) = given.files
     trust, answers = cmsproof.TrustList(given.option("--trust")), Held("answers", given.option("--answers"))
     content = given.option("--content") if "--content" in given.found else None
@@ -103,6 +107,30 @@ def check(given):
     with trust.held.taken() as trusted, answers.taken() as vouched:
         words = (*of_bytes(file), *of_bytes(content or b""), content is not None, "--sha1" in given.flags)
         return written(lib.library().cmsproof_check, trusted, vouched, *words)
+
+
+def stated_in(given):
+    """The ends and the moment of the words."""
+    ends, at = given.many.get("--end", []), given.found.get("--at")
+    if at == "" or any(not word or " " in word for word in ends):
+        raise Untold("an empty value is none, and a space ends a word")
+    return " ".join(ends).encode(), (at or "").encode()
+
+
+def check_under(given):
+    """What `check --evidence` says, in memory."""
+    if "--sha1" in given.flags or "--buffer" in given.found:
+        raise Untold("the library has no such word")
+    ends, at = stated_in(given)
+    trust, answers = cmsproof.TrustList(given.option("--trust")), Held("answers", given.option("--answers"))
+    record, file = of_bytes(given.option("--evidence")), of_bytes(given.octets(given.files[0]))
+    content = given.option("--content") if "--content" in given.found else None
+    words = (*file, *of_bytes(content or b""), content is not None, *record, ends, len(ends), at, len(at))
+    with trust.held.taken() as trusted, answers.taken() as vouched:
+        status, answer, text = written(lib.library().cmsproof_check_under, trusted, vouched, *words)
+    if status != lib.USAGE:
+        assert verdict_under(status, answer, text).accepted == (status == lib.DONE)
+    return status, answer, text
 
 
 def questions(given):
@@ -150,12 +178,10 @@ def evidence(given):
         return said
     if kind != "check" or len(files) < 2:
         raise Untold("no call of the library has such words")
-    ends, at = given.many.get("--end", []), given.found.get("--at")
-    if at == "" or any(not word or " " in word for word in ends):
-        raise Untold("an empty value is none, and a space ends a word")
+    ends, at = stated_in(given)
     answers, octets = Held("answers", given.option("--answers")), of_bytes(given.octets(files[0]))
     objects = [of_bytes(given.octets(name)) for name in files[1:]]
-    words = words_of(objects, " ".join(ends).encode(), (at or "").encode(), "--whole" in given.flags)
+    words = words_of(objects, ends, at, "--whole" in given.flags)
     with trust.held.taken() as trusted, answers.taken() as vouched:
         return written(lib.library().cmsproof_evidence_check, trusted, vouched, *octets, *words)
 
@@ -245,7 +271,7 @@ def show(given):
 
 # each call, its options, those that stand alone, and how many files it may have
 CALLS = {
-    "check": (check, ("--trust", "--answers", "--content", "--buffer"), ("--sha1",), (1,)),
+    "check": (check, ("--trust", "--answers", "--content", "--buffer", "--evidence", "--end", "--at"), ("--sha1",), (1,)),
     "questions": (questions, ("--trust",), (), (1,)),
     "stamp": (stamp, ("--trust", "--answers"), ("--sha1",), (2, 3)),
     "evidence": (evidence, ("--trust", "--answers", "--end", "--at"), ("--whole",), range(2, 99)),

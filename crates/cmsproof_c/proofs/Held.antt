@@ -4,6 +4,7 @@ use Rattle.cms_types.specs.SignedDataValue.{EncodesAnotherType}
 use Rattle.trust_lists.specs.Asking.{Asked}
 use Rattle.trust_lists.specs.Entries.{EntryValue}
 use Rattle.check_verdict.specs.Questions.{Answers, with_answers}
+use Rattle.check_under.specs.Laws.{RefusalsUnderSuffice, YesUnderSuffices}
 use Rattle.check_questions.specs.FileQuestions.{AreQuestionsOf}
 use Rattle.check_questions.specs.QuestionsText.{questions_text}
 use Rattle.check_questions.specs.Written.{EncodesNothing}
@@ -14,13 +15,17 @@ use Rattle.library_calls.specs.Evidence.{AnswersAlike, IsEvidenceChecked, SaysSh
 use Rattle.library_calls.specs.Questions.{IsAskedIfMemory}
 use Rattle.library_calls.specs.Stamps.{SaysStamped}
 use Rattle.library_calls.specs.Stated.{EvidenceCheck}
+use Rattle.library_calls.specs.Under.{AnswersUnderAlike, IsUnderChecked, SaysYesUnder, UnderCheck}
 use Rattle.library_calls.proofs.Asking.{checked_by_asked}
 use Rattle.library_calls.proofs.Checking.{says_yes, says_moment, checked_suffices}
 use Rattle.library_calls.proofs.CheckingTokens.{says_passes}
 use Rattle.library_calls.proofs.EvidenceAlike.{checked_alike}
 use Rattle.library_calls.proofs.EvidenceSaid.{says_shown}
 use Rattle.library_calls.proofs.StampsSaid.{says_stamped}
+use Rattle.library_calls.proofs.UnderAlike.{under_alike}
+use Rattle.library_calls.proofs.UnderSaid.{says_yes_under}
 use Rattle.cmsproof_c.specs.Held.{SaysNoList, IsCheck, IsEvidenceCheck, IsStampCheck, IsTokenCheck, AsksFile}
+use Rattle.cmsproof_c.specs.Held.{IsUnderCheck}
 
 module _ (octets : List ℕ) (content : Option (List ℕ)) (sha1 : Bool) (said : Answer) (status : ℕ) (before : List ℕ)
     (size : ℕ) (after : List ℕ) where
@@ -100,6 +105,24 @@ alike_held input said status before size after (Some l) (Some a) h = λ others a
     checked_alike l a others input alike said status before size after h
 alike_held input said status before size after (Some l) None h = tt
 alike_held input said status before size after None asked h = tt
+
+module _ (input : UnderCheck) (said : Answer) (status : ℕ) (before : List ℕ) (size : ℕ) (after : List ℕ) where
+  pub yes_under_held : (list : Option (List EntryValue)) (asked : Option (List Asked))
+      → IsUnderCheck list asked input said status before size after
+      → IfSome list (λ l. IfSome asked (λ a. (m : ℕ) → SaysYesUnder l a input said status m))
+  yes_under_held (Some l) (Some a) h = λ m. says_yes_under said status before size after l a input m h
+  yes_under_held (Some l) None h = tt
+  yes_under_held None asked h = tt
+
+  pub under_alike_held : YesUnderSuffices → RefusalsUnderSuffice → (list : Option (List EntryValue))
+      (asked : Option (List Asked)) → IsUnderCheck list asked input said status before size after
+      → IfSome list (λ l. IfSome asked (λ a. (others : List Asked)
+      → AnswersUnderAlike l input.evidence input.file a others
+      → IsUnderChecked l others input said status before size after))
+  under_alike_held suffices refusals (Some l) (Some a) h = λ others alike.
+      under_alike suffices refusals l a others input alike said status before size after h
+  under_alike_held suffices refusals (Some l) None h = tt
+  under_alike_held suffices refusals None asked h = tt
 
 module _ (octets : List ℕ) (said : Answer) (status : ℕ) (before : List ℕ) (size : ℕ) (after : List ℕ) where
   pub only_held : (list : Option (List EntryValue)) → AsksFile list octets said status before size after

@@ -4,12 +4,13 @@ use Rattle.trust_lists.specs.Asking.{Asked, is_among}
 use Rattle.trust_lists.specs.Entries.{EntryValue}
 use Rattle.library_answers.specs.declared.answer.Answer.{Answer}
 use Rattle.library_answers.specs.Numbers.{nothing}
-use Rattle.library_calls.specs.Checked.{terms_under, IsChecked}
+use Rattle.library_calls.specs.Checked.{handed, terms_under, IsChecked}
 use Rattle.library_calls.specs.CheckedTokens.{IsTokenChecked}
 use Rattle.library_calls.specs.Evidence.{IsEvidenceChecked, IsEvidenceQuestioned}
 use Rattle.library_calls.specs.Questions.{IsQuestioned}
 use Rattle.library_calls.specs.Stamps.{IsStampChecked, IsStampQuestioned}
 use Rattle.library_calls.specs.Stated.{EvidenceCheck}
+use Rattle.library_calls.specs.Under.{IsUnderChecked, UnderCheck}
 
 -- the number of entries, with status 1; without a list 0, and status 8
 abbrev pub CountsEntries : (held : Option (List EntryValue)) → (count status : ℕ) → Type 0
@@ -56,12 +57,40 @@ abbrev pub AsksStamp : (list : Option (List EntryValue)) → (stamp : List ℕ) 
 AsksStamp (Some list) stamp said status before size after = IsStampQuestioned list stamp said status before size after
 AsksStamp None stamp said status before size after = SaysNoList said status before size after
 
+-- what a caller states for a check of an evidence record
+abbrev pub stated : (evidence joined lengths ends at : List ℕ) → (whole : Bool) → EvidenceCheck
+stated evidence joined lengths ends at whole = record {
+  evidence = evidence;
+  joined = joined;
+  lengths = lengths;
+  ends = ends;
+  at = at;
+  whole = whole;
+}
+
 -- the same for an evidence record
 abbrev pub IsEvidenceCheck : (list : Option (List EntryValue)) → (asked : Option (List Asked)) → EvidenceCheck
     → (said : Answer) (status : ℕ) (before : List ℕ) (size : ℕ) (after : List ℕ) → Type 0
 IsEvidenceCheck (Some list) (Some asked) input said status before size after =
     IsEvidenceChecked list asked input said status before size after
 IsEvidenceCheck list asked input said status before size after = SaysNoList said status before size after
+
+-- what a caller states for a check of a file under an evidence record
+abbrev pub stated_under : (file content : List ℕ) → (given : Bool) → (evidence ends at : List ℕ) → UnderCheck
+stated_under file content given evidence ends at = record {
+  evidence = evidence;
+  file = file;
+  content = handed given content;
+  ends = ends;
+  at = at;
+}
+
+-- the same for a file under an evidence record
+abbrev pub IsUnderCheck : (list : Option (List EntryValue)) → (asked : Option (List Asked)) → UnderCheck
+    → (said : Answer) (status : ℕ) (before : List ℕ) (size : ℕ) (after : List ℕ) → Type 0
+IsUnderCheck (Some list) (Some asked) input said status before size after =
+    IsUnderChecked list asked input said status before size after
+IsUnderCheck list asked input said status before size after = SaysNoList said status before size after
 
 -- with a list what is said of the record's questions; without one nothing
 abbrev pub AsksEvidence : (list : Option (List EntryValue)) → (octets : List ℕ) → (said : Answer)

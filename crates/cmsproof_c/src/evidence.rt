@@ -1,8 +1,7 @@
 ghost use Rattle.std.specs.Prelude.{◌≡◌, ℕ, List, IfSome};
 ghost use Rattle.trust_lists.specs.Asking.{Asked};
 ghost use Rattle.library_calls.specs.Evidence.{AnswersAlike, IsEvidenceChecked, SaysShown};
-ghost use Rattle.library_calls.specs.Stated.{EvidenceCheck};
-ghost use Rattle.cmsproof_c.specs.Held.{AsksEvidence, IsEvidenceCheck, VouchesSame};
+ghost use Rattle.cmsproof_c.specs.Held.{AsksEvidence, IsEvidenceCheck, VouchesSame, stated};
 
 use crate::answers_handle::AnswersHandle;
 use crate::lists::take_both;
@@ -53,37 +52,17 @@ pub extern "C" fn cmsproof_evidence_check(
 ) -> u32
     // With both lists the numbers say that the record shows a moment for the data objects exactly if it does, by the
     // definition, unless memory is refused.
-    ensures headline { let input : EvidenceCheck = record {
-      evidence = evidence.now;
-      joined = joined.now;
-      lengths = lengths.now;
-      ends = ends.now;
-      at = at.now;
-      whole = whole;
-    } in IfSome trust.old.inside.kept (λ list. IfSome answers.old.inside.kept (λ asked. (m : ℕ)
-        → SaysShown list asked input said.new result m)) }
+    ensures headline { IfSome trust.old.inside.kept (λ list. IfSome answers.old.inside.kept (λ asked. (m : ℕ)
+        → SaysShown list asked (stated evidence.now joined.now lengths.now ends.now at.now whole) said.new result m)) }
     // With both lists the verdict of the definitions, in numbers and as its line, or which of the ends, the moment and
     // the lengths is not as it must be; without one of them no verdict.
-    ensures verdict { let input : EvidenceCheck = record {
-      evidence = evidence.now;
-      joined = joined.now;
-      lengths = lengths.now;
-      ends = ends.now;
-      at = at.now;
-      whole = whole;
-    } in IsEvidenceCheck trust.old.inside.kept answers.old.inside.kept input said.new result text.old size.new
-        text.new }
+    ensures verdict { IsEvidenceCheck trust.old.inside.kept answers.old.inside.kept
+        (stated evidence.now joined.now lengths.now ends.now at.now whole) said.new result text.old size.new text.new }
     // The verdict is right with each list that answers the record's questions as the answers list does.
-    ensures sufficient { let input : EvidenceCheck = record {
-      evidence = evidence.now;
-      joined = joined.now;
-      lengths = lengths.now;
-      ends = ends.now;
-      at = at.now;
-      whole = whole;
-    } in IfSome trust.old.inside.kept (λ list. IfSome answers.old.inside.kept (λ asked. (others : List Asked)
-        → AnswersAlike list evidence.now asked others
-        → IsEvidenceChecked list others input said.new result text.old size.new text.new)) }
+    ensures sufficient { IfSome trust.old.inside.kept (λ list. IfSome answers.old.inside.kept (λ asked.
+        (others : List Asked) → AnswersAlike list evidence.now asked others → IsEvidenceChecked list others
+        (stated evidence.now joined.now lengths.now ends.now at.now whole) said.new result text.old size.new
+        text.new)) }
     // The trust list stays as it was.
     ensures trust { trust.new.inside.kept ≡ trust.old.inside.kept }
     // The answers list vouches for what it vouched for.

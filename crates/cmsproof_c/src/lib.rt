@@ -3,20 +3,37 @@
 //! owes.
 #![tactic(auto)]
 
+/// What is told of the tree of a handle: it is taken out, and put back then. Without one nothing is told.
+macro_rules! told_by_tree {
+    ($alloc:ident, $handle:ident, $tree:ident => $told:expr) => {{
+        let Some($tree) = $handle.take($alloc) else {
+            return Told::without_text(NO_LIST, Answer::nothing());
+        };
+        let told = $told;
+        *$handle = TreeHandle::of($tree);
+        told
+    }};
+}
+
 mod answers;
 mod answers_handle;
 mod answers_seal;
 mod check;
 mod evidence;
 mod lists;
+mod making;
 mod parts;
 mod questions;
 mod requests;
 mod stamp;
 mod token;
+mod tree;
+mod tree_handle;
+mod tree_seal;
 mod trust;
 mod trust_handle;
 mod trust_seal;
+mod under;
 mod verdicts;
 mod version;
 
@@ -25,6 +42,10 @@ pub use answers_handle::AnswersHandle;
 pub use answers_seal::AnswersSeal;
 pub use check::cmsproof_check;
 pub use evidence::{cmsproof_evidence_check, cmsproof_evidence_questions};
+pub use making::{
+    cmsproof_evidence_make, cmsproof_evidence_rehash, cmsproof_evidence_rehash_leaf,
+    cmsproof_evidence_renew, cmsproof_evidence_renew_algorithm, cmsproof_evidence_renew_leaf,
+};
 pub use questions::cmsproof_questions;
 pub use requests::{
     cmsproof_attach, cmsproof_request, cmsproof_request_of, cmsproof_request_of_signature,
@@ -32,10 +53,14 @@ pub use requests::{
 };
 pub use stamp::{cmsproof_stamp_check, cmsproof_stamp_questions};
 pub use token::cmsproof_check_token;
+pub use tree::{cmsproof_tree_free, cmsproof_tree_make, cmsproof_tree_root};
+pub use tree_handle::TreeHandle;
+pub use tree_seal::TreeSeal;
 pub use trust::{
     cmsproof_trust_count, cmsproof_trust_free, cmsproof_trust_read, cmsproof_trust_share,
 };
 pub use trust_handle::TrustHandle;
 pub use trust_seal::TrustSeal;
+pub use under::cmsproof_check_under;
 pub use verdicts::{cmsproof_compare, cmsproof_fit, cmsproof_match, cmsproof_show};
 pub use version::cmsproof_version;

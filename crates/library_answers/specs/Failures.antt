@@ -11,6 +11,12 @@ use Rattle.tsp_requester.specs.declared.rules.MatchFault.{MatchFault}
 use Rattle.tsp_requester.specs.declared.rules.MatchFault.TheVariants as match
 use Rattle.tsp_requester.specs.declared.fault.AttachFault.{AttachFault}
 use Rattle.tsp_requester.specs.declared.fault.AttachFault.TheVariants as attach
+use Rattle.evidence_making.specs.declared.fault.LeafFault.{LeafFault}
+use Rattle.evidence_making.specs.declared.fault.LeafFault.TheVariants as leaf
+use Rattle.evidence_making.specs.declared.fault.MakeFault.{MakeFault}
+use Rattle.evidence_making.specs.declared.fault.MakeFault.TheVariants as make
+use Rattle.evidence_making.specs.declared.fault.StampFault.{StampFault}
+use Rattle.evidence_making.specs.declared.fault.StampFault.TheVariants as stamp
 use Rattle.cli_failures.specs.declared.failure.Failure.{Failure}
 use Rattle.cli_failures.specs.declared.failure.Failure.TheVariants as failure
 use Rattle.cli_failures.specs.declared.failure.Message.{Message}
@@ -67,6 +73,20 @@ attach_numbers attach.ImprintDiffers = ruled 2 65 4
 attach_numbers attach.TooLong = ruled 2 65 5
 attach_numbers attach.WriteFailed = nothing
 
+-- U3, U4 and U7 to U10: 85 is the letter U, and 86 is V. A lack of memory is no verdict
+abbrev pub stamping_numbers : StampFault → Answer
+stamping_numbers stamp.TokenMalformed = ruled 2 85 7
+stamping_numbers stamp.ImprintDiffers = ruled 2 85 8
+stamping_numbers stamp.Order = ruled 2 85 9
+
+abbrev pub making_numbers : MakeFault → Answer
+making_numbers make.TooLong = ruled 2 85 10
+making_numbers make.OutOfMemory = nothing
+
+abbrev pub leaf_numbers : LeafFault → Answer
+leaf_numbers (leaf.Malformed fault) = with_fault (ruled 3 86 1) fault
+leaf_numbers leaf.NoStamp = ruled 2 85 3
+
 abbrev pub failure_numbers : Failure → Answer
 failure_numbers (failure.Malformed fault) = fault_numbers fault
 failure_numbers (failure.MalformedMessage m fault) = record (fault_numbers fault) { line = message_number m }
@@ -79,6 +99,11 @@ failure_numbers (failure.Uncompared why) = uncompared_numbers why
 failure_numbers (failure.Unattached why) = attach_numbers why
 failure_numbers (failure.Unstamped why) = token_numbers why
 failure_numbers (failure.Unshown why) = evidence_numbers why
+failure_numbers (failure.Unevidenced why) = record (evidence_numbers why.refused) { line = 2 }
+failure_numbers (failure.Unstamping why) = stamping_numbers why
+failure_numbers (failure.Unmade why) = making_numbers why
+failure_numbers (failure.Unrenewable why) = leaf_numbers why
+failure_numbers failure.Mixed = ruled 2 85 4
 failure_numbers why = nothing
 
 -- one more than the exit status of the program

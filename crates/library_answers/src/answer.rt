@@ -35,7 +35,7 @@ pub struct Answer {
     pub signer: u64,
     /// The number of the token, from 1; of an evidence record that of the archive time-stamp in its chain.
     pub token: u64,
-    /// The line of a list, from 1; of two inputs, which one, 1 or 2.
+    /// The line of a list, from 1; of two inputs, which one, 1 or 2; of an evidence record beside a signed file 2.
     pub line: u64,
 }
 

@@ -5,6 +5,7 @@ ghost use Rattle.cli_failures.specs.Failures.{failure_text};
 ghost use Rattle.library_answers.specs.Failures.{fault_numbers, message_number, compare_rule_numbers};
 ghost use Rattle.library_answers.specs.Failures.{uncompared_numbers};
 ghost use Rattle.library_answers.specs.Failures.{match_numbers, attach_numbers, failure_numbers, status_number};
+ghost use Rattle.library_answers.specs.Failures.{stamping_numbers, making_numbers, leaf_numbers};
 ghost use Rattle.library_answers.specs.Failures.{failure_status, IsLine, IsMade, IsUnmade};
 
 use crate::answer::{
@@ -18,6 +19,7 @@ use cli_failures::{Failure, Message, Status};
 use cms_compare::{CompareFault, CompareRule, Which};
 use cms_types::CmsFault;
 use der_core::Fault;
+use evidence_making::{LeafFault, MakeFault, StampFault};
 use std::alloc::Global;
 use tsp_requester::{AttachFault, MatchFault};
 
@@ -113,6 +115,38 @@ fn attach_answer(fault: AttachFault) -> Answer
     }
 }
 
+/// The rule by which a token isn't the stamp of a root, in numbers.
+fn stamping_answer(fault: StampFault) -> Answer
+    ensures { result ≡ stamping_numbers fault }
+{
+    let number = match fault {
+        StampFault::TokenMalformed => 7,
+        StampFault::ImprintDiffers => 8,
+        StampFault::Order => 9,
+    };
+    Answer::ruled(REFUSES, b'U', number)
+}
+
+/// Why no evidence record was made, in numbers.
+fn making_answer(fault: MakeFault) -> Answer
+    ensures { result ≡ making_numbers fault }
+{
+    match fault {
+        MakeFault::TooLong => Answer::ruled(REFUSES, b'U', 10),
+        MakeFault::OutOfMemory => Answer::nothing(),
+    }
+}
+
+/// Why there is nothing on which the renewal of an evidence record stands, in numbers.
+fn leaf_answer(fault: LeafFault) -> Answer
+    ensures { result ≡ leaf_numbers fault }
+{
+    match fault {
+        LeafFault::Malformed(fault) => Answer::ruled(IS_MALFORMED, b'V', 1).with_fault(fault),
+        LeafFault::NoStamp => Answer::ruled(REFUSES, b'U', 3),
+    }
+}
+
 /// The numbers of a failure.
 pub fn failure_answer(failure: &Failure) -> Answer
     ensures { result ≡ failure_numbers failure.now }
@@ -129,6 +163,14 @@ pub fn failure_answer(failure: &Failure) -> Answer
         Failure::Unattached(fault) => attach_answer(*fault),
         Failure::Unstamped(rule) => token_answer(*rule),
         Failure::Unshown(refused) => evidence_answer(*refused),
+        Failure::Unevidenced(record) => Answer {
+            line: 2,
+            ..evidence_answer(record.refused)
+        },
+        Failure::Unstamping(fault) => stamping_answer(*fault),
+        Failure::Unmade(fault) => making_answer(*fault),
+        Failure::Unrenewable(fault) => leaf_answer(*fault),
+        Failure::Mixed => Answer::ruled(REFUSES, b'U', 4),
         _ => Answer::nothing(),
     }
 }

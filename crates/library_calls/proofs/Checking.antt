@@ -21,12 +21,12 @@ use Rattle.library_calls.proofs.Moments.{accepted_is, refused_is_no}
 abbrev accepted : ℕ → Result ℕ Refused
 accepted m = Ok m
 
-too_long : (handed : Option (List ℕ)) (answer : Result ℕ Refused) (said : Answer) → said ≡ numbers_of answer
+pub too_long : (handed : Option (List ℕ)) (answer : Result ℕ Refused) (said : Answer) → said ≡ numbers_of answer
     → IsTooLong handed answer → SaysTooLong handed said
 too_long None answer said e long = long
 too_long (Some content) answer said e (is, many) = (e ∙ ap (λ (r : Result ℕ Refused). numbers_of r) is, many)
 
-long_is_no : (handed : Option (List ℕ)) (m : ℕ) → IsTooLong handed (Ok m) → ⊥
+pub long_is_no : (handed : Option (List ℕ)) (m : ℕ) → IsTooLong handed (Ok m) → ⊥
 long_is_no None m long = long
 long_is_no (Some content) m (is, many) = cc
 
@@ -96,7 +96,7 @@ says_moment t octets handed said status before size after (answer, v, e, told) =
 
 -- ---- the verdict with a list of answers that agrees on the questions
 
-known_suffices : (t : Terms) (octets : List ℕ) (handed : Option (List ℕ)) (answers : Asked → Bool)
+pub known_suffices : (t : Terms) (octets : List ℕ) (handed : Option (List ℕ)) (answers : Asked → Bool)
     → Answers t octets answers
     → (answer : Result ℕ Refused) → IsKnownVerdict t octets handed answer
     → IsKnownVerdict (with_answers t answers) octets handed answer

@@ -1,5 +1,5 @@
 -- What is said of an evidence record rests on the answers to its questions alone.
-use Rattle.std.proofs.Common.{◌≡◌, ◌⊎◌, ◌↔◌, ℕ, List, Option, Result, Ok, Err, inl, inr}
+use Rattle.std.proofs.Common.{◌↔◌, ℕ, List, Option, Result, Ok, Err, inl, inr}
 use Rattle.trust_lists.specs.Asking.{Asked, is_among}
 use Rattle.trust_lists.specs.Entries.{EntryValue}
 use Rattle.check_evidence.specs.Grounds.{AlgEnd}

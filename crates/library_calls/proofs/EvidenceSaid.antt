@@ -105,12 +105,12 @@ judged_by_digests g octets ds answer verdict complete count = record {
 
 -- ---- what is said
 
-record_rule_is_no : (failed : RecordRule) → (record_rule_numbers failed).verdict ≡ 1 → ⊥
+pub record_rule_is_no : (failed : RecordRule) → (record_rule_numbers failed).verdict ≡ 1 → ⊥
 record_rule_is_no (record_rule.Malformed fault) e = cc
 record_rule_is_no record_rule.Encrypted e = cc
 record_rule_is_no record_rule.NoData e = cc
 
-stamp_rule_is_no : (failed : StampRule) → (stamp_rule_numbers failed).verdict ≡ 1 → ⊥
+pub stamp_rule_is_no : (failed : StampRule) → (stamp_rule_numbers failed).verdict ≡ 1 → ⊥
 stamp_rule_is_no stamp.Algorithm e = cc
 stamp_rule_is_no stamp.HashLength e = cc
 stamp_rule_is_no stamp.NotCovered e = cc
@@ -121,7 +121,7 @@ stamp_rule_is_no stamp.Lapsed e = cc
 stamp_rule_is_no stamp.Others e = cc
 
 -- what names a value says no verdict
-names_no_verdict : (value : List ℕ) (f : Failure) → Names value f → failure_numbers f ≡ nothing
+pub names_no_verdict : (value : List ℕ) (f : Failure) → Names value f → failure_numbers f ≡ nothing
 names_no_verdict value (failure.Usage named) h = refl
 names_no_verdict value (failure.Words text) h = refl
 names_no_verdict value failure.NotText h = refl
@@ -132,6 +132,7 @@ names_no_verdict value (failure.Unmatched fault) h = absurd h
 names_no_verdict value (failure.Refused why) h = absurd h
 names_no_verdict value (failure.Unstamped rule) h = absurd h
 names_no_verdict value (failure.Unshown why) h = absurd h
+names_no_verdict value (failure.Unevidenced why) h = absurd h
 names_no_verdict value (failure.Unasked fault) h = refl
 names_no_verdict value failure.Different h = absurd h
 names_no_verdict value failure.Collision h = absurd h
@@ -140,10 +141,10 @@ names_no_verdict value (failure.Unattached fault) h = absurd h
 names_no_verdict value (failure.Trust fault) h = refl
 names_no_verdict value (failure.Answers fault) h = refl
 names_no_verdict value (failure.Sums fault) h = refl
-names_no_verdict value (failure.Unstamping why) h = refl
-names_no_verdict value (failure.Unmade why) h = refl
-names_no_verdict value (failure.Unrenewable why) h = refl
-names_no_verdict value failure.Mixed h = refl
+names_no_verdict value (failure.Unstamping why) h = absurd h
+names_no_verdict value (failure.Unmade why) h = absurd h
+names_no_verdict value (failure.Unrenewable why) h = absurd h
+names_no_verdict value failure.Mixed h = absurd h
 names_no_verdict value (failure.Open path) h = refl
 names_no_verdict value (failure.Read path) h = refl
 names_no_verdict value (failure.Size path) h = refl
@@ -155,7 +156,7 @@ names_no_verdict value (failure.Unput path) h = refl
 names_no_verdict value (failure.Taken path) h = refl
 names_no_verdict value failure.Memory h = refl
 
-no_verdict : (said : Answer) (m : ℕ) → said ≡ nothing → said ≡ accepted_numbers m → ⊥
+pub no_verdict : (said : Answer) (m : ℕ) → said ≡ nothing → said ≡ accepted_numbers m → ⊥
 no_verdict said m none one =
     let no : nothing.verdict ≡ (accepted_numbers m).verdict = ap (λ (a : Answer). a.verdict) (sym none ∙ one) in cc
 

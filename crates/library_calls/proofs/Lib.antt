@@ -7,9 +7,17 @@ pub mod EvidenceAlike
 pub mod EvidenceSaid
 pub mod InMemory
 pub mod Moments
+pub mod NewChains
+pub mod NewRecords
+pub mod Records
+pub mod Renewals
 pub mod Requested
 pub mod Stamped
 pub mod Told
 pub mod StampsHeld
 pub mod StampsSaid
 pub mod Stated
+pub mod TreeRenewals
+pub mod Trees
+pub mod UnderAlike
+pub mod UnderSaid

@@ -14,6 +14,7 @@ use Rattle.digests.specs.declared.algorithm.Alg.TheVariants as alg
 use Rattle.check_evidence.specs.Grounds.{AlgEnd}
 use Rattle.cli_failures.specs.declared.failure.Failure.{Failure}
 use Rattle.cli_failures.specs.Ends.{IsEndIn, IsTimeIn, StatesNoEnd}
+use Rattle.cli_failures.proofs.StatedEnds.{is_equals, joined, time_after}
 use Rattle.library_calls.specs.Stated.{EvidenceCheck, States, StatesEnds, StatesAt, words_of}
 use Rattle.library_calls.specs.Stated.{RefusesEnds, RefusesAt, RefusesStated}
 
@@ -84,15 +85,8 @@ module _ (text left : List ℕ) (ends : List AlgEnd) (h : EndsSoFar text left en
 
 -- ---- what is stated is one thing
 
-abbrev is_equals : ℕ → Bool
-is_equals b = eqb b 61
-
--- a name, `=` and a time
-abbrev word_of : Alg → (time : List ℕ) → List ℕ
-word_of a time = name_of a ++ (codes "=" ++ time)
-
 -- no name of an algorithm has `=`
-name_before : (a : Alg) (time : List ℕ) → before_first is_equals (word_of a time) ≡ name_of a
+name_before : (a : Alg) (time : List ℕ) → before_first is_equals (joined a time) ≡ name_of a
 name_before alg.Sha1 time = refl
 name_before alg.Sha224 time = refl
 name_before alg.Sha256 time = refl
@@ -100,15 +94,6 @@ name_before alg.Sha384 time = refl
 name_before alg.Sha512 time = refl
 name_before alg.Sha512_224 time = refl
 name_before alg.Sha512_256 time = refl
-
-time_after : (a : Alg) (time : List ℕ) → after_first is_equals (word_of a time) ≡ time
-time_after alg.Sha1 time = refl
-time_after alg.Sha224 time = refl
-time_after alg.Sha256 time = refl
-time_after alg.Sha384 time = refl
-time_after alg.Sha512 time = refl
-time_after alg.Sha512_224 time = refl
-time_after alg.Sha512_256 time = refl
 
 -- the algorithm of a name, by its length and the octets that tell it from others
 abbrev alg_by : (name : List ℕ) → Alg
@@ -161,10 +146,10 @@ none_in_nothing text es none h = no es (subst (λ (t : List ℕ). AllZip IsEndIn
     no [] h = h
     no (e ∷ es) (is, others) =
         let k : length is.time + 1 ≤ length (codes "=" ++ is.time) = omega arith in
-        let l : 0 ≡ length (word_of e.alg is.time) = ap (λ (w : List ℕ). length w) is.parts in
+        let l : 0 ≡ length (joined e.alg is.time) = ap (λ (w : List ℕ). length w) is.parts in
         omega (arith, length-append (name_of e.alg) (codes "=" ++ is.time))
 
-one_list : (text : List ℕ) (es fs : List AlgEnd) → StatesEnds text es → StatesEnds text fs → es ≡ fs
+pub one_list : (text : List ℕ) (es fs : List AlgEnd) → StatesEnds text es → StatesEnds text fs → es ≡ fs
 one_list text es fs (inl (none, is)) (inl (none', its)) = is ∙ sym its
 one_list text es fs (inl (none, is)) (inr (formed, its)) = absurd (none_in_nothing text fs none its)
 one_list text es fs (inr (formed, is)) (inl (none, its)) = absurd (none_in_nothing text es none is)
@@ -174,7 +159,7 @@ one_list text es fs (inr (formed, is)) (inr (formed', its)) = ends_in_words (wor
 no_time : (text : List ℕ) (m : ℕ) → text ≡ [] → IsTimeIn text m → ⊥
 no_time text m none is = let t : is_generalized [] ≡ true = sym (ap is_generalized none) ∙ is.is_time in cc
 
-one_at : (text : List ℕ) (a b : Option ℕ) → StatesAt text a → StatesAt text b → a ≡ b
+pub one_at : (text : List ℕ) (a b : Option ℕ) → StatesAt text a → StatesAt text b → a ≡ b
 one_at text None None is its = refl
 one_at text None (Some n) is its = absurd (no_time text n is its.1)
 one_at text (Some m) None is its = absurd (no_time text m its is.1)
@@ -193,14 +178,14 @@ end_of_word (w ∷ words) [] k word h lt is = absurd h
 end_of_word (w ∷ words) (e ∷ es) zero word h lt is = (e, subst (λ (x : List ℕ). IsEndIn x e) is h.0)
 end_of_word (w ∷ words) (e ∷ es) (suc k) word h lt is = end_of_word words es k word h.1 (omega arith) is
 
-ends_refused : (text : List ℕ) (f : Failure) (es : List AlgEnd) → RefusesEnds text f → StatesEnds text es → ⊥
+pub ends_refused : (text : List ℕ) (f : Failure) (es : List AlgEnd) → RefusesEnds text f → StatesEnds text es → ⊥
 ends_refused text f es (some, why) (inl (none, is)) =
     let e : length text ≡ 0 = ap (λ (t : List ℕ). length t) none in omega arith
 ends_refused text f es (some, inl (names, (word, (k, lt, at), none))) (inr (formed, is)) =
     let e = end_of_word (words_of text) es k word is lt at in none e.0 e.1
 ends_refused text f es (some, inr (names, unformed)) (inr (formed, is)) = unformed formed
 
-at_refused : (text : List ℕ) (f : Failure) (a : Option ℕ) → RefusesAt text f → StatesAt text a → ⊥
+pub at_refused : (text : List ℕ) (f : Failure) (a : Option ℕ) → RefusesAt text f → StatesAt text a → ⊥
 at_refused text f None (names, some, why) is =
     let e : length text ≡ 0 = ap (λ (t : List ℕ). length t) is in omega arith
 at_refused text f (Some m) (names, some, inl unformed) is = unformed is.0

@@ -27,6 +27,19 @@ line_as a b m n status before size after e i h = subst (λ (x : ℕ). IsLine b x
 pub memory_of : {T V E : Type 0} (r : Result T E) (f g : E) → r ≡ Err f → (r ≡ Err g → V) → f ≡ g → V
 memory_of {T} {V} {E} r f g is m e = m (subst (λ (x : E). r ≡ Err x) e is)
 
+-- what is told of octets that can't be shown: the fault that they have, and that memory ran out only if it was asked
+-- for
+pub unshown : {T V E : Type 0} (Has : E → Type 0) (memory : E) (failed : E → Failure) (r : Result T E) (fault : E)
+    (f : Failure) (said : Answer) (status : ℕ) (before : List ℕ) (size : ℕ) (after : List ℕ) → r ≡ Err fault
+    → Has fault → (r ≡ Err memory → V) → f ≡ failed fault → IsUnmade f said status before size after
+    → (e : E) × Has e × (e ≡ memory → V) × IsUnmade (failed e) said status before size after
+unshown Has memory failed r fault f said status before size after is has asked made told = (
+  fault,
+  has,
+  memory_of r fault memory is asked,
+  unmade_as f (failed fault) said status before size after made told,
+)
+
 -- if octets are to be written, only writing fails
 pub put_only : (octets : List ℕ) (fault : AttachFault) (tells : Type 0) (taken taken' : List ℕ) (count count' : ℕ)
     → Puts octets (Err fault) tells taken taken' count count' → fault ≡ attach.WriteFailed

@@ -7,8 +7,14 @@ pub mod Fit
 pub mod Known
 pub mod Lists
 pub mod Matching
+pub mod NewChains
 pub mod Questions
+pub mod Records
+pub mod Renewals
 pub mod Requests
 pub mod Shown
 pub mod Stamps
 pub mod Stated
+pub mod TreeRenewals
+pub mod Trees
+pub mod Under

@@ -23,7 +23,7 @@ pub(crate) fn have_lengths(joined: &[u8], lengths: &[u64]) -> bool
 }
 
 /// The digests of a data object by these algorithms.
-fn digests_by(wanted: Algs, data_object: &[u8]) -> WantedDigests
+pub(crate) fn digests_by(wanted: Algs, data_object: &[u8]) -> WantedDigests
     ensures set { set_given result ≡ wanted }
     ensures digests { AreOfWanted result data_object.now }
 {

@@ -122,7 +122,7 @@ fn tell_evidence_verdict(
 }
 
 /// Why what a caller states is not as it must be, in numbers and as its line; or that memory was refused, without one.
-fn tell_unstated(alloc: Global, why: &Failure, room: &mut [u8]) -> Told
+pub(crate) fn tell_unstated(alloc: Global, why: &Failure, room: &mut [u8]) -> Told
     ensures memory { why.now ≡ Failure.Memory
         → SaysNoMemory result.said result.status room.old result.size room.new }
     ensures other { why.now ≢ Failure.Memory

@@ -19,7 +19,7 @@ use std::alloc::Global;
 use std::str;
 
 /// The algorithm of this name.
-fn alg_of(name: &[u8]) -> Result<Alg, Failure<'static>>
+pub(crate) fn alg_of(name: &[u8]) -> Result<Alg, Failure<'static>>
     ensures found { IfOk result (λ alg. name.now ≡ name_of alg) }
     ensures refused { IfErr result (RefusesAlg name.now) }
 {
@@ -33,7 +33,7 @@ fn alg_of(name: &[u8]) -> Result<Alg, Failure<'static>>
 }
 
 /// The digest by the algorithm of this name that has these octets.
-fn given(name: &[u8], octets: &[u8]) -> Result<Digest, Failure<'static>>
+pub(crate) fn given(name: &[u8], octets: &[u8]) -> Result<Digest, Failure<'static>>
     ensures found { IfOk result (IsGiven name.now octets.now) }
     ensures refused { IfErr result
         (λ f. RefusesAlg name.now f ⊎ RefusesDigest name.now (IsGiven name.now octets.now) f) }
@@ -126,7 +126,7 @@ fn octets_of_signature(
 }
 
 /// Puts what was made into its room, or says why nothing was.
-fn tell(alloc: Global, made: Result<Vec<u8>, Failure<'static>>, room: &mut [u8]) -> Told
+pub(crate) fn tell(alloc: Global, made: Result<Vec<u8>, Failure<'static>>, room: &mut [u8]) -> Told
     ensures { MatchResult made.entry
         (λ octets. IsMade octets.items result.said result.status room.old result.size room.new)
         (λ why. IsUnmade why result.said result.status room.old result.size room.new) }

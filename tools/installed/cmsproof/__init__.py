@@ -6,10 +6,11 @@
 
 `check` is what the commands `cmsproof questions`, `cmsproof-verify` and `cmsproof check` are together, and says the same line.
 `fit`, `compare`, `match`, `attach`, `request` and `show` are the commands of these names, `request_of_signature` is
-`request --of`, `stamp.check` judges a time-stamp by itself, and `evidence.check` an evidence record (RFC 4998). A refusal is a
-value, a `Verdict` with `accepted` False, or a `Result` with `done` False. Exceptions are for wrong use, for files that cannot be
-read or that change meanwhile, for lists that are none (`ListRefused`), and for memory that is refused (`MemoryError`). These
-modules are tested, and nothing about them is proved.
+`request --of`, `stamp.check` judges a time-stamp by itself, and `evidence.check` an evidence record (RFC 4998); `evidence.make`, `renew`
+and `rehash` make and renew such records. A refusal is a value, a `Verdict` with `accepted` False, or a `Result` with `done` False.
+Exceptions are for wrong use, for files that cannot be read or that change meanwhile, for lists that are none (`ListRefused`), for records
+that are not made (`evidence.Unmade`), and for memory that is refused (`MemoryError`). These modules are tested, and nothing about them is
+proved.
 """
 from __future__ import annotations
 

@@ -46,7 +46,9 @@ class Room:
 
     def make(self, size: int) -> None:
         """Makes room for so many octets of a text."""
-        self.text, self.size = (ctypes.c_char * size)(), size
+        # (of an array of this type a part is `bytes`)
+        self.text: Any = (ctypes.c_char * size)()
+        self.size = size
         at, length = ctypes.c_void_p(ctypes.addressof(self.text)), ctypes.byref(self.length)
         self.words = at, size, length, self.to_answer
         self.ready = ctypes.c_void_p.from_param(at), ctypes.c_size_t.from_param(size), length, self.to_answer
@@ -88,35 +90,35 @@ class Room:
 
     def asked_short(self, trust: TrustList, octets: bytes) -> bytes:
         """As `asked`, of octets in memory."""
-        held, self.of_file.value = trust.held, len(octets)
+        held, of_file = trust.held, self.of_file
+        of_file.value = len(octets)
         with held.lock:
-            status = self.calls.questions(held.reference, octets, self.of_file, *self.ready)
+            status = self.calls.questions(held.reference, octets, of_file, *self.ready)
         length = self.length.value
         if status == lib.DONE and length <= self.size:
-            return cast(bytes, self.text[:length])
+            text: bytes = self.text[:length]
+            return text
         return self.asked(trust, of_bytes(octets))
 
     def said(self, trust: TrustList, octets: bytes, answers: bytes, sha1: bool) -> Said:
         """What a check of octets in memory says, with these answers and no content beside them."""
         if type(octets) is not bytes or type(answers) is not bytes:
             raise TypeError("bytes are needed")  # (nobody else looks at what is handed to these calls)
-        held, calls, list_of_answers, numbers = trust.held, self.calls, self.to_answers, self.to_answer
-        self.of_file.value, self.of_answers.value = len(octets), len(answers)
-        room, size, length, _ = self.ready
-        allowed = YES if sha1 else NO
+        held, (_, check, read, free), to_answers, allowed = trust.held, self.calls, self.to_answers, YES if sha1 else NO
+        of_file, of_answers, (room, size, length, numbers) = self.of_file, self.of_answers, self.ready
+        of_file.value, of_answers.value = len(octets), len(answers)
         try:
-            status = calls.read(list_of_answers, answers, self.of_answers, numbers)
+            status = read(to_answers, answers, of_answers, numbers)
             if status != lib.DONE:
                 raise refused("answers", status, self.answer)
             with held.lock:
-                status = calls.check(
-                    held.reference, list_of_answers, octets, self.of_file, b"", NONE, NO, allowed, room, size, length, numbers
-                )
+                words = held.reference, to_answers, octets, of_file, b"", NONE, NO, allowed, room, size, length, numbers
+                status = check(*words)
         finally:
-            calls.free(list_of_answers)
+            free(to_answers)
         written = self.length.value
         if status in JUDGED and written <= self.size:
-            return said_of(status, self.answer, cast(bytes, self.text[:written]))
+            return said_of(status, self.answer, self.text[:written])
         status, line = self.checked(trust, of_bytes(octets), (b"", 0, False, sha1), answers)
         return said_of(status, self.answer, line)
 
@@ -139,9 +141,13 @@ def give_back(used: Room) -> None:
         SPARE.append(used)
 
 
+# the answers list where nothing is asked
+NO_ANSWERS = answers_of([])
+
+
 def answers_to(text: bytes, verifier: Vouching) -> bytes:
     """The answers list for a questions text."""
-    return verifier.answers(text) if text else answers_of([])
+    return verifier.answers(text) if text else NO_ANSWERS
 
 
 def written(call: Callable[..., int], *words: Any) -> tuple[int, lib.Answer, bytes]:
@@ -223,7 +229,7 @@ def check_several(
         for number, text in enumerate(texts):
             if found[number] is None:
                 try:
-                    texts[number] = answers_to(text, verifiers[number])
+                    texts[number] = verifiers[number].answers(text) if text else NO_ANSWERS
                 except Exception as error:
                     found[number] = error
         for number, one in enumerate(octets):

@@ -1,7 +1,14 @@
-"""Evidence records (RFC 4998): whether one shows that data existed, and by which moment.
+"""Evidence records (RFC 4998): whether one shows that data existed, and by which moment; how they are made, and renewed.
 
 `check` is what the commands `cmsproof evidence questions`, `cmsproof-verify` and `cmsproof evidence check` are together, and says the same
-line. No certificate in a record is trusted: the entries `tsa` of the trust list alone are.
+line; `check_signed` says that of `cmsproof check --evidence`, of a signed file under a record. No certificate in a record is trusted: the
+entries `tsa` of the trust list alone are.
+
+    asked = cmsproof.request(digest=evidence.root(digests), certificate=True)
+    records = evidence.make(digests, cmsproof.match(asked, response).octets)
+
+An authority answers `asked` by `response`. `renewal_root` and `renew`, `rehash_root` and `rehash` go likewise with records. None of these
+verifies a signature, or checks what a record shows: do so before and after, by `check`.
 """
 from __future__ import annotations
 
@@ -14,14 +21,31 @@ from typing import Any, Mapping, NamedTuple, Optional, Sequence, Union
 from cmsproof import library as lib
 from cmsproof.calls import Questions, answers_to, give_back, questions_of, room, written
 from cmsproof.lists import TrustList
-from cmsproof.octets import Given, Octets, octets_of
-from cmsproof.verdicts import Unexpected, moment_of, said_of
+from cmsproof.making import LENGTHS, Root, Unmade, make, rehash, rehash_root, renew, renewal_root, root
+from cmsproof.octets import Given, Octets, octets_if_any, octets_of
+from cmsproof.verdicts import Unexpected, Verdict, moment_of, said_of, verdict_of
 from cmsproof.verifiers import Verifier, vouching
+from cmsproof_tools.texts import QUESTIONS, question_lines
+
+__all__ = [
+    "EvidenceVerdict",
+    "Root",
+    "Unmade",
+    "check",
+    "check_signed",
+    "make",
+    "questions",
+    "rehash",
+    "rehash_root",
+    "renew",
+    "renewal_root",
+    "root",
+]
 
 # a moment: as the program writes it, or with a time zone
 Moment = Union[str, datetime]
 # the names of the digest algorithms
-ALGORITHMS = ("sha1", "sha224", "sha256", "sha384", "sha512", "sha512-224", "sha512-256")
+ALGORITHMS = tuple(LENGTHS)
 # a moment by its form alone: the library knows the calendar
 TIME = re.compile(r"[0-9]{14}(\.[0-9]+)?Z")
 REFUSED = re.compile(r"refused (?:chain ([1-9][0-9]*) stamp ([1-9][0-9]*) )?([VW])([1-9])(?: (.*))?")
@@ -170,6 +194,62 @@ def check(
         if status == lib.USAGE:
             raise ValueError(line.decode("ascii", "replace").rstrip("\n"))
         return verdict_by(status, own.answer, line)
+    finally:
+        give_back(own)
+
+
+def verdict_under(status: int, answer: lib.Answer, text: bytes) -> Verdict:
+    """The verdict about a signed file under a record, of a status, numbers and line, which must agree: a refusal of the record is one of
+    the second input, and its line names the record."""
+    of_record = text.split(b" ")[1:2] == [b"record"]
+    if answer.line != (2 if of_record else 0):
+        raise Unexpected(f"the library said a refusal of input {answer.line}, and the line {text!r}")
+    if not of_record:
+        return verdict_of(status, answer, text)
+    found = verdict_by(status, answer, text.replace(b" record ", b" ", 1))
+    if found.accepted:
+        raise Unexpected(f"the library accepted, and said the line {text!r}")
+    line = text.decode("ascii").rstrip("\n")
+    return Verdict(False, found.verdict, None, None, found.code, found.name, None, None, line)
+
+
+def of_both(first: bytes, second: bytes) -> bytes:
+    """The questions of two questions texts, each once; no octets if there are none."""
+    lines = dict.fromkeys(line for text in (first, second) if text for _, line in question_lines(text))
+    return b"\n".join([QUESTIONS, *lines, b""]) if lines else b""
+
+
+def check_signed(
+    record: Given,
+    file: Given,
+    *,
+    trust: TrustList,
+    content: Optional[Given] = None,
+    answers: Optional[bytes] = None,
+    verifier: Verifier = "openssl",
+    ends: Optional[Mapping[str, Moment]] = None,
+    at: Optional[Moment] = None,
+) -> Verdict:
+    """By which moment a file was signed by all its signers, under an evidence record that shows the file, and the content if that is given.
+
+    `file` and `content` are as for `check` of signed files, all else is as for `check` here. Of a refusal of the record the line names the
+    record, and `signer` and `token` are None.
+    """
+    until, moment = ends_text(ends), b"" if at is None else time_of(at).encode("ascii")
+    if answers is not None and not isinstance(answers, bytes):
+        raise TypeError(f"an answers list is bytes, and not {type(answers).__name__}")
+    asked, own = vouching(verifier), room()
+    try:
+        with octets_of(record) as evidence, octets_of(file) as octets, octets_if_any(content) as beside:
+            if answers is None:
+                texts = own.asked(trust, evidence, "cmsproof_evidence_questions"), own.asked(trust, octets)
+                answers = answers_to(of_both(*texts), asked)
+            words = (*beside, content is not None, *evidence, until, len(until), moment, len(moment))
+            status, line = own.checked(trust, octets, words, answers, "cmsproof_check_under")
+        # (only here, where the files are known to be as they were)
+        if status == lib.USAGE:
+            raise ValueError(line.decode("ascii", "replace").rstrip("\n"))
+        return verdict_under(status, own.answer, line)
     finally:
         give_back(own)
 

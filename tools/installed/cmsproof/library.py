@@ -5,6 +5,7 @@ import ctypes
 import os
 from ctypes import POINTER, Structure, c_bool, c_int64, c_size_t, c_uint32, c_uint64, c_void_p
 from functools import lru_cache
+from struct import Struct
 from typing import Any, NamedTuple
 
 SONAME = "libcmsproof.so.1"
@@ -32,8 +33,12 @@ class Answer(Structure):
     ]
 
 
+# verdict, letter, kind, nanoseconds and seconds of an Answer, all at once
+NUMBERS_SAID = Struct("=2I8x2Iq")
+
+
 class Handle(Structure):
-    """A list that the library holds: `cmsproof_trust` or `cmsproof_answers`. One of zeros holds none."""
+    """A list or a tree that the library holds: `cmsproof_trust`, `cmsproof_answers` or `cmsproof_tree`. One of zeros holds none."""
 
     _fields_ = [("inside", c_void_p), ("held", c_bool)]
 
@@ -47,11 +52,20 @@ SIGNATURES: dict[str, tuple[Any, ...]] = {
     "cmsproof_answers_read": (*LIST, *OCTETS, *SAID),
     "cmsproof_questions": (*LIST, *OCTETS, *TEXT, *SAID),
     "cmsproof_check": (*LIST, *LIST, *OCTETS, *OCTETS, c_bool, c_bool, *TEXT, *SAID),
+    "cmsproof_check_under": (*LIST, *LIST, *OCTETS, *OCTETS, c_bool, *OCTETS, *OCTETS, *OCTETS, *TEXT, *SAID),
     "cmsproof_check_token": (*LIST, *LIST, *OCTETS, *OCTETS, c_bool, *SAID),
     "cmsproof_stamp_check": (*LIST, *LIST, *OCTETS, *OCTETS, c_bool, *TEXT, *SAID),
     "cmsproof_stamp_questions": (*LIST, *OCTETS, *TEXT, *SAID),
     "cmsproof_evidence_check": (*LIST, *LIST, *OCTETS, *OCTETS, *NUMBERS, *OCTETS, *OCTETS, c_bool, *TEXT, *SAID),
     "cmsproof_evidence_questions": (*LIST, *OCTETS, *TEXT, *SAID),
+    "cmsproof_tree_make": (*LIST, *OCTETS, *OCTETS, *SAID),
+    "cmsproof_tree_root": (*LIST, *TEXT, *SAID),
+    "cmsproof_evidence_make": (*LIST, *OCTETS, *OCTETS, *TEXT, *SAID),
+    "cmsproof_evidence_renew_algorithm": (*OCTETS, *TEXT, *SAID),
+    "cmsproof_evidence_renew_leaf": (*OCTETS, *OCTETS, *OCTETS, *TEXT, *SAID),
+    "cmsproof_evidence_renew": (*LIST, *OCTETS, *OCTETS, *TEXT, *SAID),
+    "cmsproof_evidence_rehash_leaf": (*OCTETS, *OCTETS, *OCTETS, *OCTETS, *TEXT, *SAID),
+    "cmsproof_evidence_rehash": (*LIST, *OCTETS, *OCTETS, *OCTETS, *TEXT, *SAID),
     "cmsproof_fit": (*OCTETS, *OCTETS, c_bool, c_bool, *TEXT, *SAID),
     "cmsproof_compare": (*OCTETS, c_uint64, *OCTETS, c_uint64, *TEXT, *SAID),
     "cmsproof_request": (*OCTETS, *OCTETS, *OCTETS, *OCTETS, c_bool, *TEXT, *SAID),
@@ -78,7 +92,7 @@ def library() -> ctypes.CDLL:
         for name, words in SIGNATURES.items():
             call = getattr(loaded, name)
             call.argtypes, call.restype = words, c_uint32
-        for name in ("cmsproof_trust_free", "cmsproof_answers_free"):
+        for name in ("cmsproof_trust_free", "cmsproof_answers_free", "cmsproof_tree_free"):
             call = getattr(loaded, name)
             call.argtypes, call.restype = LIST, None
     except (OSError, AttributeError) as error:

@@ -2,8 +2,9 @@
 # run.sh LIBRARY: the C program beside this file, built on the library in that folder, in four ways: with the sanitizers of gcc on
 # the library of objects; as C99 on the shared library, under valgrind; as C++; by clang. For each real file the first line that it
 # prints must be the line of the command ./cmsproof, and the answer in numbers the same in all four. Then the library beside abi.txt;
-# each allocation refused in turn, also of evidence records, under valgrind; 8 threads under TSan, helgrind and drd. It prints a line
-# for each file, and ends with status 1 at the first that differs. `soak.sh` does more of this for longer.
+# each allocation refused in turn, also of evidence records that are checked, made and renewed, and of a file under one, under
+# valgrind: what is made must be what the command writes, and show its document; 8 threads under TSan, helgrind and drd. It prints a
+# line for each file, and ends with status 1 at the first that differs. `soak.sh` does more of this for longer.
 set -eu
 unset CDPATH
 cd "$(dirname "$0")/../../.."
@@ -51,6 +52,34 @@ records=data/records
 for name in one_document renewed_by_a_hash_tree renewed_five_times; do
     valgrind -q --error-exitcode=9 --leak-check=no "$folder/evidence" $records/trust.txt $records/answers.txt sha1=20160101000000Z '' 0 \
         $records/records/bouncy_castle_$name.ers $records/files/document_0 | grep -q '^accepted '
+done
+build under -Wl,--wrap=malloc,--wrap=realloc,--wrap=free
+python3 tools/tests/library/under_inputs.py "$folder"
+under="$folder/under.trust $folder/under.answers"
+# shellcheck disable=SC2086 # two words
+valgrind -q --error-exitcode=9 --leak-check=no "$folder/under" $under '' 20261231000000Z "$folder/under.record" "$folder/under.file" |
+    grep -q '^accepted 20240115100000Z$'
+# shellcheck disable=SC2086
+valgrind -q --error-exitcode=9 --leak-check=no "$folder/under" $under '' '' "$folder/under.record" "$folder/under.file" "$folder/under.file" |
+    grep -q '^refused C5 ContentTwice$'
+# shellcheck disable=SC2086
+valgrind -q --error-exitcode=9 --leak-check=no "$folder/under" $under sha256=20240119235959Z '' "$folder/under.record" "$folder/under.file" |
+    grep -q '^refused record chain 1 stamp 1 W6 Weak$'
+build making -Wl,--wrap=malloc,--wrap=realloc,--wrap=free
+python3 tools/tests/library/making_inputs.py "$folder"
+valgrind -q --error-exitcode=9 --leak-check=no "$folder/making" "$folder"
+mkdir "$folder/written"
+echo "$(sha256sum < $records/files/document_0 | cut -c-64)  make" > "$folder/sums"
+./cmsproof evidence make --token "$folder/make.token" --into "$folder/written" "$folder/sums"
+cp "$folder/renew.old" "$folder/written/renew.ers"
+./cmsproof evidence renew --token "$folder/renew.token" "$folder/written/renew.ers"
+cp "$folder/rehash.old" "$folder/written/rehash.ers"
+echo "$(sha512sum < $records/files/document_0 | cut -c-128)  rehash" > "$folder/sums"
+./cmsproof evidence rehash --alg sha512 --token "$folder/rehash.token" --into "$folder/written" "$folder/sums"
+for name in make renew rehash; do
+    cmp "$folder/$name.new" "$folder/written/$name.ers"
+    "$folder/evidence" $records/trust.txt $records/answers.txt sha1=20160101000000Z '' 0 "$folder/$name.new" $records/files/document_0 |
+        grep -q '^accepted '
 done
 build threads -fsanitize=thread
 # shellcheck disable=SC2086

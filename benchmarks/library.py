@@ -9,6 +9,9 @@ All of data/real/rsa_attached_ts.p7s, a file of 7,010 octets with one signer and
   in one process       microseconds of the processor: `cmsproof_check` with its answers read (library_check.c), OpenSSL's `CMS_verify`
                        of the same file (cms_verify.c), and in Python `cmsproof.check` from the questions to the verdict, with each
                        signature verified; the verification of these signatures alone, by `cryptography`
+  a worker             microseconds of the processor a file, the least of groups of 64 files, which what else the machine does changes least:
+                       a worker of `cmsproof-archive`, without a state and with one, and a process that reads each file and calls
+                       `cryptography` for its signatures, and nothing else
   starting             seconds of the processor and on the clock: `cmsproof-archive` of one file, and its help
   many files           files a second by the clock, and microseconds of the processor a file: `cmsproof-archive --jobs N` over N copies,
                        each named --again times, without a state and with a new one, `cmsproof check` of all of them in one command
@@ -20,7 +23,9 @@ The copies are in a new folder (in FOLDER: of memory, say), where Python keeps c
 from __future__ import annotations
 
 import argparse
+import gc
 import os
+import pickle
 import re
 import resource
 import shutil
@@ -30,12 +35,14 @@ import tempfile
 import time
 from pathlib import Path
 
+from states import work_of
 from timing import REAL, TOP, timed
 
 INSTALLED = TOP / "tools" / "installed"
 sys.path.insert(0, str(INSTALLED))
 import cmsproof  # noqa: E402
-from cmsproof_tools import verifying  # noqa: E402
+from cmsproof_tools import checking, outcomes, telling, verifying  # noqa: E402
+from cmsproof_tools.workers import MOST, PROTOCOL  # noqa: E402
 
 FILE, TRUST = REAL / "rsa_attached_ts.p7s", REAL / "trust.txt"
 VERIFY = 'openssl cms -verify -noverify -binary -inform DER -in "$file" -out /dev/null 2> /dev/null'
@@ -98,6 +105,39 @@ def in_one_process(folder, turns):
         print(
             f"{name:34} {microseconds:8.1f} microseconds  {microseconds / least['CMS_verify']:6.2f} of CMS_verify", flush=True
         )
+
+
+def in_a_worker(folder, turns):
+    """Times groups of files as a worker has them, and prints the least time of each way."""
+    names = [folder / f"worker{number}.p7s" for number in range(16 * MOST)]
+    for name in names:
+        shutil.copyfile(FILE, name)
+    verify = alone(cmsproof.questions(FILE, trust=cmsproof.TrustList.from_file(TRUST)).asked)
+
+    def judging(work):
+        lines = outcomes.text_lines
+        return lambda some: pickle.dumps(
+            telling.all_told(work, lines, checking.outcomes_of_several(work, list(map(str, some)))), PROTOCOL
+        )
+
+    ways = {
+        "cmsproof-archive, a worker": judging(work_of(False)),
+        "the same with a state": judging(work_of(True)),
+        "cryptography alone, a process": lambda some: [(name.read_bytes(), verify()) for name in some],
+    }
+    # (as workers begin)
+    gc.collect()
+    gc.freeze()
+    least = dict.fromkeys(ways, float("inf"))
+    for way, done in [*ways.items()] * 2 * turns:
+        for at in range(0, len(names), MOST):
+            began = time.thread_time()
+            done(names[at : at + MOST])
+            least[way] = min(least[way], (time.thread_time() - began) / MOST * 1e6)
+    gc.unfreeze()
+    for way, microseconds in least.items():
+        part = least["cryptography alone, a process"] / microseconds
+        print(f"{way:34} {microseconds:8.1f} microseconds  {part:6.2f} of cryptography alone", flush=True)
 
 
 def memory_of_workers(process):
@@ -233,6 +273,7 @@ def main():
         os.environ.pop("PYTHONDONTWRITEBYTECODE", None)
         os.environ["PYTHONPYCACHEPREFIX"] = str(Path(temporary) / "compiled")
         in_one_process(Path(temporary), given.turns)
+        in_a_worker(Path(temporary), given.turns)
         starting(5 * given.turns)
         many_files(Path(temporary), given.files, given.again, given.loop, given.jobs, given.turns)
 

@@ -38,7 +38,7 @@ archive.outcomes_of = killed
 FAILING = """
 def failing(*_, **__):
     raise {raised}
-checking.cmsproof.calls.verdict_of = failing
+checking.cmsproof.calls.verdict_of = checking.cmsproof.calls.said_of = failing
 """
 
 

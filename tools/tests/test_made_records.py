@@ -10,12 +10,15 @@ import subprocess
 import time
 import unittest
 
-from making import NOBODY, PROGRAM, folder_of, lacking_tools
+from making import NOBODY, PROGRAM, TOP, folder_of, lacking_tools
 from oracle import sums
 from samples.authority import STAMPING, configure, make_certificate, openssl
 
 # names that a shell, a list or a path could take for something else
 NAMES = [" ", " a ", "-", "--", "*", "a\\", "\\n", "a\nb", "\n", "a\rb", "é", ".hidden", "..a", "...", "a.ers", "#", "x" * 240, "d/e/f", "d/e.ers", "d/f"]
+# where Debian has Bouncy Castle, and why it can't be asked
+JARS = [f"/usr/share/java/{name}.jar" for name in ("bcpkix", "bcprov", "bcutil")]
+NO_BOUNCY_CASTLE = "" if shutil.which("java") and all(map(os.path.exists, JARS)) else "there is no java with /usr/share/java/bcpkix.jar"
 
 
 def run(folder, *words, **how):
@@ -86,6 +89,20 @@ class Folder(unittest.TestCase):
             status, said, _ = run(self.folder, *check, record, f"files/{name}")
             self.assertEqual((status, said[:9]), (0, b"accepted "), name)
             self.assertEqual(run(self.folder, *check, record, f"files/{other}")[0], 1, name)
+
+    @unittest.skipIf(NO_BOUNCY_CASTLE, NO_BOUNCY_CASTLE)
+    def test_read_by_another_program(self):
+        """Bouncy Castle takes the record of each file, and of no other; long after the time-stamp too."""
+        names = ["one", "two", "d/three"]
+        self.make(names)
+        self.assertEqual(self.makes(), (0, b"", b""))
+        asked = ["java", "-cp", ":".join(JARS), TOP / "tools" / "compared" / "Records.java"]
+        for name, other in zip(names, names[1:] + names[:1]):
+            said = []
+            for file in (name, other):
+                words = [*asked, f"records/{name}.ers", f"files/{file}", "99981231Z"]
+                said.append(subprocess.run(words, cwd=self.folder, capture_output=True, text=True, check=True).stdout)
+            self.assertEqual((said[0], said[1][:8]), ("valid\n", "refused:"), name)
 
     def test_killed(self):
         """Of a run that was killed whole records are there, and others in no place of theirs; the next one makes the rest."""

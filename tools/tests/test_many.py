@@ -16,15 +16,21 @@ need_tools()
 from samples import hierarchy
 from samples.hierarchy import issue, root, signed, together
 
-from cmsproof import ListRefused, TrustList, check
+from cmsproof import ListRefused, TrustList, check, questions
 from cmsproof.calls import check_several
 from cmsproof.verdicts import Said
 from cmsproof.verifiers import ByCryptography, Vouching
-from cmsproof_tools import checking, descriptors, issuing, verify
+from cmsproof_tools import checking, descriptors, issuing, pairs, telling, verify, verifying
+from cmsproof_tools.containers import twofold
+from cmsproof_tools.deciding import usual_grounds
 from cmsproof_tools.issuer_words import Asked
 from cmsproof_tools.names import BLOCK, Names
-from cmsproof_tools.pairs import USUAL, Pairs
+from cmsproof_tools.outcomes import Outcome, text_lines
+from cmsproof_tools.pairs import USUAL, Pairs, is_regular
+from cmsproof_tools.rows import Noting, keys_of
 from cmsproof_tools.running import Stop
+from cmsproof_tools.texts import PLACE
+from cmsproof_tools.workers import MOST
 
 # a time in each of these months
 TIMES = [f"2024{month:02}15093000Z" for month in range(1, 13)]
@@ -252,6 +258,150 @@ class Several(unittest.TestCase):
                     self.assertIsNone(checking.short(work, str(name)))
                 called.assert_not_called()
             name.rmdir() if name.is_dir() else name.unlink()
+
+    def test_words_that_are_looked_for_in_pairs(self):
+        """They are found wherever they stand, and nowhere else."""
+        chance = random.Random(7)
+        self.assertEqual([word for word, _, _ in (twofold.OBJECT, twofold.ENDS)], [b"obj", b"PK\5\6"])
+        for _ in range(20000):
+            letters = chance.choice([b"objPK\5\6", b"ob", b"objx", b"PK\5\6\0\xff", bytes(range(256))])
+            octets = bytes(chance.choices(letters, k=chance.randrange(14)))
+            if chance.random() < 0.3:
+                at = chance.randrange(len(octets) + 1)
+                octets = octets[:at] + chance.choice([b"obj", b"PK\5\6"]) + octets[at:]
+            for word, even, odd in (twofold.OBJECT, twofold.ENDS):
+                self.assertEqual(twofold.has_word(octets, twofold.in_pairs(octets), word, even, odd), word in octets, octets)
+
+    def test_whether_a_regular_file_is_there(self):
+        """It is asked in two ways, of which one needs a newer system; both say the same."""
+        folder = folder_of(self)
+        (folder / "file").write_bytes(b""), (folder / "folder").mkdir(), os.mkfifo(folder / "pipe")
+        (folder / "link").symlink_to("file"), (folder / "lost").symlink_to("none")
+        for name in ("file", "folder", "pipe", "link", "lost", "none", "file/none", "", "a\0b", "\udcff", "x" * 300):
+            path = f"{folder}/{name}"
+            with mock.patch.object(pairs, "ASKED_SO", True):
+                found = is_regular(path)
+            with mock.patch.object(pairs, "ASKED_SO", False):
+                self.assertEqual((found, is_regular(path)), (name == "file",) * 2, name)
+        with mock.patch.object(pairs.os, "access", lambda *_, **__: False):
+            self.assertFalse(pairs.is_asked_so())
+        with mock.patch.object(pairs.os, "access", side_effect=NotImplementedError):
+            self.assertFalse(pairs.is_asked_so())
+
+    def test_what_is_kept_by_a_part_of_a_key(self):
+        """It is that of the line which is asked about, also where another one has the same octets in that place."""
+        trust, octets = TrustList.from_file(REAL / "trust.txt"), (REAL / "rsa_attached_ts.p7s").read_bytes()
+        good = [one.line for one in questions(octets, trust=trust).asked]
+        fields = [line.split(b" ") for line in good]
+        other = [b" ".join([key, b"300b0609608648016503040202", *rest]) for key, _, *rest in fields]
+        changed = [b" ".join([key[:-2] + b"00", *rest]) for key, *rest in fields]
+        self.assertEqual([line[PLACE] for line in good], [line[PLACE] for line in changed])
+        self.keep_nothing()
+        once = {line: verifying.fault_in(line) for line in (*good, *other, *changed)}
+        self.assertEqual([once[line] for line in good], [None] * 2)
+        self.assertNotIn(None, [once[line] for line in (*other, *changed)])
+        chance, noting = random.Random(8), Noting(keys_of(trust.text), b"", {})
+        for line in chance.choices(list(once), k=200):
+            self.assertEqual(verifying.fault_in(line), once[line])
+        for bad in (b"", b"no", b"- - - - -", good[0] + b" 00", good[0][:-1], good[0].rpartition(b" ")[0], b" " + good[0]):
+            with self.subTest(bad):
+                self.keep_nothing()
+                first = self.said_of_line(bad)
+                verifying.fault_in(good[0])
+                self.assertEqual(self.said_of_line(bad), first)
+        for two in chance.choices([good, [good[0], other[1]], [good[0], changed[1]], [changed[0], good[1]]], k=40):
+            fresh = noting._replace(usual={})
+            self.assertEqual(usual_grounds(octets, two, noting), usual_grounds(octets, two, fresh))
+        self.assertEqual(usual_grounds(octets, [good[0], good[0]], noting), "")
+
+    def keep_nothing(self):
+        """Lets go what is kept of keys."""
+        verifying.KEPT.clear(), verifying.BY_FIELDS.clear()
+
+    def test_keys_with_several_algorithms(self):
+        """What each of them asks is found out once, in whatever order they come; and of no more is kept than is said."""
+        trust, octets = TrustList.from_file(REAL / "trust.txt"), (REAL / "rsa_attached_ts.p7s").read_bytes()
+        good = questions(octets, trust=trust).asked[0].line
+        key, _, *rest = good.split(b" ")
+        lines = [good, *(b" ".join([key, b"300b060960864801650304020%d" % number, *rest]) for number in (2, 3, 4))]
+        self.assertEqual(len({line[PLACE] for line in lines}), 1)
+        self.keep_nothing()
+        with mock.patch.object(verifying, "asking_in", wraps=verifying.asking_in) as asked:
+            for _ in range(3):
+                found = [verifying.fault_in(line) for line in lines]
+                self.assertEqual(found, [None] + [verifying.UNHOLDING] * 3)
+            self.assertEqual(asked.call_count, len(lines))
+            # (what is no question is none, whatever is kept of its fields)
+            for bad in (good + b" 00", good[:-1], good.rpartition(b" ")[0], b" ".join([key, *lines[1].split(b" ")[1:3]])):
+                self.assertRaises(ValueError, verifying.fault_in, bad)
+            self.keep_nothing()
+            with mock.patch.object(verifying, "MOST_KEPT", 2):
+                for line in lines * 2:
+                    self.assertEqual(verifying.fault_in(line), None if line == good else verifying.UNHOLDING)
+            self.assertLessEqual(max(len(verifying.BY_FIELDS), len(verifying.KEPT)), 2)
+        self.keep_nothing()
+
+    def said_of_line(self, line):
+        """What is said of a line, or the fault by which it is none."""
+        try:
+            return verifying.fault_in(line)
+        except ValueError as error:
+            return type(error)
+
+    def test_what_is_noted_of_files_in_turn(self):
+        """It is what is noted of each alone."""
+        folder, trust = folder_of(self), TrustList.from_file(REAL / "trust.txt")
+        names = []
+        for number, (name, octets) in enumerate(all_files(World(), random.Random(9)).items()):
+            if name.startswith(("real", "changed")) and number % 3 == 0:
+                names.append(str(folder / str(number)))
+                (folder / str(number)).write_bytes(octets)
+        noting = Noting(keys_of(trust.text), b"", {})
+        work = checking.Work(trust, None, False, False, {}, Pairs({}, USUAL), frozenset(), False, False, noting)
+        alone = [checking.all_noted(work, [checking.outcomes_of(work, name)]) for name in names]
+        several = checking.all_noted(work, checking.outcomes_of_several(work, names))
+        # (a mark is there only if the file is older than a moment, which it is not for both alike)
+        self.assertEqual([self.noted(one) for one in several], [self.noted(one) for (one,) in alone])
+        self.assertTrue(any(one[0].status == 0 for one in several))
+        self.assertNotIn(None, [one.record for outcomes in several for one in outcomes])
+
+    def noted(self, outcomes):
+        """What is said of the parts of a file and kept of them, but the marks."""
+        return [(one[:-1], one.record[:2], one.record[3:]) for one in outcomes]
+
+    def test_what_is_said_of_many_at_a_time(self):
+        """It is in the order of the files; what is said of one alone stands by itself."""
+        usual = [(b"%d\n" % number, (), number % 3, [str(number)], [[]], []) for number in range(200)]
+        apart = {
+            40: (b"a\n", ("!",), 1, ["a"], [[]], []),
+            41: (b"b\n", (), 1, ["b"], [[]], [1]),
+            199: (b"c\n", ("!",), 0, ["c"], [[]], []),
+        }
+        several = [apart.get(number, told) for number, told in enumerate(usual)]
+        found = telling.joined(several)
+        self.assertEqual([count for count, _ in found], [40, 1, 1, 64, 64, 29, 1])
+        self.assertEqual(b"".join(told[0] for _, told in found), b"".join(told[0] for told in several))
+        self.assertEqual([one for _, told in found for one in told[3]], [one for told in several for one in told[3]])
+        self.assertEqual([told for count, told in found if count == 1], list(apart.values()))
+        self.assertEqual((telling.joined([]), found[0][1][1:3], len(found[0][1][4])), ([], ((), 2), 40))
+
+    def test_lines_that_are_made_at_once(self):
+        """They are those that are made one by one, and each file has what is said of it."""
+        good, bad = Outcome("a\n", 0, "accepted 20260101000000Z"), Outcome("b", 1, "refused C2 NoSigners", part="x")
+        loud = [bad._replace(notes=("a note",)), bad._replace(kind="a kind"), good._replace(faults=("a fault",))]
+        ways = [[good], [bad], [], [good, bad], [good, loud[0]], *([one] for one in loud)]
+        work = checking.Work(TrustList(b"cmsproof trust 2\n"), None, False, False, {}, Pairs({}, {}), frozenset(), False, False)
+        chance = random.Random(10)
+        for count, is_known in [(0, False), (1, False), (70, False), (300, False), (40, True)]:
+            several = chance.choices(ways[:1] * 200 + ways, k=count)
+            alone = [telling.told_of(one, text_lines, False, is_known) for one in several]
+            found = telling.all_told(work, text_lines, several, is_known)
+            at = 0
+            for number, told in found:
+                ((_, wanted),) = telling.joined(alone[at : at + number])
+                self.assertEqual((told, number <= MOST), (wanted, True))
+                at += number
+            self.assertEqual(at, count)
 
     def test_names_that_workers_do_not_have(self):
         """They are those of the list, whatever is in them, and are handed out and judged as those of few files."""

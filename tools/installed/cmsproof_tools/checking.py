@@ -16,9 +16,9 @@ from cmsproof.verifiers import Vouching
 from cmsproof_tools import descriptors
 from cmsproof_tools.descriptors import path_of
 from cmsproof_tools.evidenced import Records
-from cmsproof_tools.finding import again_in_der, found_in, found_in_der, is_in_der
+from cmsproof_tools.finding import again_in_der, found_in, is_alone_in_der
 from cmsproof_tools.found import Found, Unfound
-from cmsproof_tools.outcomes import Outcome
+from cmsproof_tools.outcomes import Outcome, accepted
 from cmsproof_tools.pairs import Pairs
 from cmsproof_tools.running import DONE, FAILED, MALFORMED, REFUSED, Started, module, shown
 from cmsproof_tools.stamps import may_have
@@ -73,8 +73,9 @@ class Judge(Vouching):
         """The answers list for a questions text."""
         verifying, vouched = module("verifying"), self.vouched
         fault_in = verifying.fault_kept if self.of_record else verifying.fault_in
-        for line in lines_asked(text):
-            self.asked += 1
+        lines = lines_asked(text)
+        self.asked += len(lines)
+        for line in lines:
             fault = fault_in(line)
             if fault is None:
                 vouched.append(line)
@@ -271,6 +272,10 @@ class Reading(NamedTuple):
     others: tuple[Union[File, None], ...] = ()
 
 
+# what was said of a short file, its octets, and when its reading began
+Short = tuple[os.stat_result, bytes, int]
+
+
 class Draft(NamedTuple):
     """What a record is made of: the file, what was found in it, its content, the line of the library, and the lines of the questions that
     were vouched for. Nothing was found where a front end judged the whole file."""
@@ -280,6 +285,15 @@ class Draft(NamedTuple):
     content: Union[Buffer, None] = None
     line: str = ""
     vouched: Sequence[bytes] = ()
+
+
+class Usual(NamedTuple):
+    """As Draft, of a short signed file in DER that is accepted without a content beside it: a Short, and the lines that were vouched for."""
+
+    found: os.stat_result
+    octets: bytes
+    begun: int
+    vouched: Sequence[bytes]
 
 
 def may_wait(reading: Reading, outcomes: list[Outcome]) -> bool:
@@ -297,7 +311,7 @@ def noted(work: Work, noting: Noting, outcomes: list[Outcome]) -> list[Outcome]:
     """The outcomes of a file with the records that their drafts become."""
     try:
         recorded = module("recording").with_record
-        return [recorded(work, noting, outcome) if isinstance(outcome.record, Draft) else outcome for outcome in outcomes]
+        return [recorded(work, noting, one) if isinstance(one.record, (Draft, Usual)) else one for one in outcomes]
     except Exception as error:
         return [failed(outcomes[0].name, error)]
 
@@ -404,7 +418,7 @@ def outcomes_in(work: Work, name: str, reading: Reading) -> list[Outcome]:
     return all_said(work, name, reading, [outcome_of(work, reading, one, name) for one in found])
 
 
-def short(work: Work, name: str) -> Union[Reading, None]:
+def short(work: Work, name: str) -> Union[Short, None]:
     """A short file that has no content and no stamp beside it, of which a copy is read; None of any other, and where anything fails."""
     try:
         if name in work.opened or work.content is not None or work.records is not None or (work.stamps and may_have(name)):
@@ -413,48 +427,55 @@ def short(work: Work, name: str) -> Union[Reading, None]:
         read = descriptors.copied(name, SHORT)
         if read is None or work.pairs.content_of(name) is not None:
             return None
-        found, octets = read
-        return Reading(Copy(name, found, octets), None, begun)
+        return *read, begun
     except Exception:
         return None
 
 
-def alone_in_der(name: str, reading: Union[Reading, None]) -> Union[Found, None]:
-    """What is found in a short file in DER; None of any other, and where anything fails."""
-    if reading is None or not is_in_der(octets := reading.file.octets) or not octets:
-        return None
+def reading_of(name: str, read: Short) -> Reading:
+    """A short file of this name."""
+    found, octets, begun = read
+    return Reading(Copy(name, found, octets), None, begun)
+
+
+def is_usual(name: str, read: Union[Short, None]) -> bool:
+    """Whether a file is a short one in DER, in which nothing else is found; no, where anything fails."""
     try:
-        found = found_in_der(name, octets)
-        return found if isinstance(found, Found) else None
+        return read is not None and is_alone_in_der(name, read[1])
     except Exception:
-        return None
+        return False
+
+
+def outcomes_by(work: Work, name: str, read: Short, judge: Judge, verdict: Union[Said, Exception]) -> list[Outcome]:
+    """As `outcomes_of`, of a file of which the library said this. (Of one that is accepted nothing else is told, and its record may wait.)"""
+    try:
+        if isinstance(verdict, Exception):
+            raise verdict
+        if verdict.verdict == "accepted":
+            draft = None if work.noting is None else tuple.__new__(Usual, (*read, judge.vouched))
+            return [accepted(name, verdict.line, judge.asked, tuple(judge.faults), draft)]
+        reading = reading_of(name, read)
+        one = outcome_by(work, reading, Found("", read[1]), judge, verdict, name)
+        return [one] if one.status == DONE and not one.container else all_said(work, name, reading, [one])
+    except Exception as error:
+        return [failed(name, error)]
 
 
 def outcomes_of_several(work: Work, names: list[str]) -> list[list[Outcome]]:
     """As `outcomes_of`, of several files: those that are short and in DER are judged together, the others one by one. None that is
     short is read twice, and none that is long."""
     read = [short(work, name) for name in names]
-    ready = [alone_in_der(name, reading) for name, reading in zip(names, read)]
-    there = [found for found in ready if found is not None]
-    judges = [Judge() for _ in there]
+    usual = list(map(is_usual, names, read))
     try:
-        files = [bytes(found.signed) for found in there]
+        files = [one[1] for one, is_ready in zip(read, usual) if one is not None and is_ready]
+        judges = [Judge() for _ in files]
         verdicts = iter(zip(judges, check_several(files, trust=work.trust, verifiers=judges, sha1=work.sha1)))
     except Exception:  # as where memory is refused, which then is said of the file that it is refused for
         return [outcomes_of(work, name) for name in names]
     said = []
-    for name, reading, found in zip(names, read, ready):
-        if reading is None or found is None:
-            said.append(outcomes_of(work, name, reading))
-            continue
-        judge, verdict = next(verdicts)
-        try:
-            if isinstance(verdict, Exception):
-                raise verdict
-            one = outcome_by(work, reading, found, judge, verdict, name)
-            # (of a signed file by itself that is accepted nothing else is told, and its record may wait)
-            is_usual = one.status == DONE and not one.container
-            said.append([one] if is_usual else all_said(work, name, reading, [one]))
-        except Exception as error:
-            said.append([failed(name, error)])
+    for name, one, is_ready in zip(names, read, usual):
+        if one is not None and is_ready:
+            said.append(outcomes_by(work, name, one, *next(verdicts)))
+        else:
+            said.append(outcomes_of(work, name, None if one is None else reading_of(name, one)))
     return said

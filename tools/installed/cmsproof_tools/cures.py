@@ -305,7 +305,8 @@ ROWS = (
     Row(
         "6",
         "K13 Period",
-        "none of those is valid and in its period of the list at the token's time; that it expired later does no harm",
+        "none of those is valid and in its period of the list at the token's time; that it expired later does no harm. With "
+        "`--evidence`: nor at the moment of the record; or the token is later than that",
         "`--explain` compares: give the entry another period, if you trust it for that time, or stamp again. "
         "An entry that says `for no time`, or that ends because of a revocation, stays as it is",
     ),

@@ -15,7 +15,7 @@ from cmsproof_tools.chains import links_of
 from cmsproof_tools.found import Found
 from cmsproof_tools.rows import Decided, Linked, Listed, Noting, digest_of, grounds_text, is_of_token
 from cmsproof_tools.signed_parts import Token, parts_of, signers_of, token_of
-from cmsproof_tools.texts import Question, question_of
+from cmsproof_tools.texts import PLACE, Question, fields_of, question_of
 
 # id-aa-timeStampToken (RFC 3161 appendix A) as an element, and in how many octets it is searched
 TOKEN, SEARCHED = bytes.fromhex("060b2a864886f70d010910020e"), 1 << 20
@@ -45,21 +45,23 @@ def usual_grounds(octets: Buffer, lines: Sequence[bytes], noting: Noting) -> str
     if len(lines) != 2 or len(octets) > SEARCHED:
         return ""
     first, second = lines
-    (of_signer, _, one), (of_token, _, other) = first.rpartition(b" "), second.rpartition(b" ")
-    if one == other or not has_one_token(octets if type(octets) is bytes else bytes(octets)):
+    if first.rpartition(b" ")[2] == second.rpartition(b" ")[2]:
         return ""
-    # (the keys and the algorithms, in hexadecimal)
-    place = of_signer.rpartition(b" ")[0], of_token.rpartition(b" ")[0]
+    if not has_one_token(octets if type(octets) is bytes else bytes(octets)):
+        return ""
+    place = first[PLACE], second[PLACE]
     found = noting.usual.get(place)
-    if found is None:
+    # (all octets of the keys and the algorithms are compared)
+    if found is None or not first.startswith(found[0]) or not second.startswith(found[1]):
         signer, token = question_of(0, first), question_of(0, second)
         listed = [noting.keys.get(("signer", signer.key), ()), noting.keys.get(("tsa", token.key), ())]
         holds = ("signer", listed[0], digest_of(signer.digest)), ("tsa", listed[1], digest_of(token.digest))
         decided = Decided(1, 1, sums_of(listed[1]), sums_of(listed[0]))
-        found = grounds_text(holds, (decided,)) if list(map(len, listed)) == [1, 1] else ""
+        text = grounds_text(holds, (decided,)) if list(map(len, listed)) == [1, 1] else ""
+        found = fields_of(first), fields_of(second), text
         if len(noting.usual) < MOST_KEPT:
             noting.usual[place] = found
-    return found
+    return found[2]
 
 
 def content_sum(line: str, vouched: Sequence[Question]) -> bytes:

@@ -98,6 +98,13 @@ def is_in_der(octets: Buffer) -> bool:
     return first[:1] in (b"", b"\x30") and first != b"\x30\x80"
 
 
+def is_alone_in_der(name: str, octets: bytes) -> bool:
+    """Whether a file is one in DER, of two octets at least, and `found_in` finds the file itself in it. (This is asked of each file of an
+    archive.)"""
+    is_short = len(octets) < 2
+    return not is_short and octets[0] == 0x30 and octets[1] != 0x80 and not other_kind(octets) and not called_as(name, "")
+
+
 def found_in_der(name: str, octets: Buffer) -> Union[Found, Unfound]:
     """What is found in a file that is handed to the checker as it is. (It is no token of a container, and covers itself.)"""
     return as_one(name, Found("", octets), octets)

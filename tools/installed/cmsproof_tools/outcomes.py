@@ -4,7 +4,7 @@ from __future__ import annotations
 import os
 from typing import Any, NamedTuple
 
-from cmsproof_tools.running import FAILED, one_line, shown, shown_apart
+from cmsproof_tools.running import DONE, FAILED, one_line, shown, shown_apart
 
 
 # what the line of JSON has only where there is something to say
@@ -45,6 +45,15 @@ class Outcome(NamedTuple):
         return shown_apart(self.name, self.part) if is_there(both) else shown(both)
 
 
+# what nothing is said of that is accepted by itself: all between faults and record
+NOTHING_ELSE = Outcome("", DONE, "")[5:-1]
+
+
+def accepted(name: str, line: str, questions: int, faults: tuple[str, ...], record: Any) -> Outcome:
+    """What is said of a signed file by itself that is accepted. (This is made for each file of an archive.)"""
+    return tuple.__new__(Outcome, (name, DONE, line, questions, faults, *NOTHING_ELSE, record))
+
+
 def is_there(name: str) -> bool:
     """Whether anything has this name."""
     try:
@@ -60,6 +69,8 @@ def lost(name: str, by: int) -> list[Outcome]:
 
 def text_lines(outcome: Outcome) -> str:
     """The line of a file, and a second one where there is an explanation."""
+    if not outcome.part and not outcome.explanation:
+        return f"{shown(outcome.name)}: {one_line(outcome.line)}"
     second = f"\n    {one_line(outcome.explanation)}" if outcome.explanation else ""
     return f"{outcome.called}: {one_line(outcome.line)}{second}"
 

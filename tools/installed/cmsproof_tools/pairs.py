@@ -6,28 +6,26 @@ from __future__ import annotations
 
 import os
 import stat
-from typing import NamedTuple
-
 from cmsproof_tools.running import MALFORMED, Stop, read, shown
 
 # what is taken from the end of a signature's name to get that of its content, and what is put there
 USUAL = {".p7s": "", ".p7m": "", ".sig": ""}
 
 
-class Pairs(NamedTuple):
+class Pairs:
     """How the content of a signature is found: by a list of names, or by the ending of the signature's name."""
 
-    named: dict[str, str]
-    endings: dict[str, str]
+    def __init__(self, named: dict[str, str], endings: dict[str, str]) -> None:
+        self.named, self.endings = named, endings
+        self.lengths = sorted(set(map(len, endings)), reverse=True)
 
     def ending(self, name: str) -> str | None:
         """The ending of a signature's name, the longest that fits, or None; there is a name before it."""
-        longest = None
-        for end in self.endings:
-            if name.endswith(end) and (longest is None or len(end) > len(longest)):
-                if name != end and not name.endswith("/" + end):
-                    longest = end
-        return longest
+        for length in self.lengths:
+            end = name[-length:]
+            if end in self.endings and name[-length - 1 : -length] not in ("", "/"):
+                return end
+        return None
 
     def content_of(self, name: str) -> str | None:
         """The name of the content of this file, or None where there is none beside it: of a list in any case, by an ending only if
@@ -37,13 +35,32 @@ class Pairs(NamedTuple):
         end = self.ending(name)
         if end is None:
             return None
-        content = name[: len(name) - len(end)] + self.endings[end]
+        content = name[: -len(end)] + self.endings[end]
         return content if content != name and is_regular(content) else None
+
+
+def is_anything(name: str) -> bool:
+    """Whether anything has this name, also a link to nothing. (Of what is not there `lstat` raises an exception, which takes twice the
+    time.)"""
+    return os.access(name, os.F_OK, effective_ids=True, follow_symlinks=False)
+
+
+def is_asked_so() -> bool:
+    """Whether `is_anything` can be asked: some systems, and filters of system calls, answer no whatever the name."""
+    try:
+        return is_anything("/")
+    except (NotImplementedError, OSError):
+        return False
+
+
+ASKED_SO = is_asked_so()
 
 
 def is_regular(name: str) -> bool:
     """Whether a file of this name is there, and is a regular one and no link."""
     try:
+        if ASKED_SO and not is_anything(name):
+            return False
         return stat.S_ISREG(os.lstat(name).st_mode)
     except (OSError, ValueError):
         return False

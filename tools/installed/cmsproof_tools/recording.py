@@ -3,8 +3,9 @@ from __future__ import annotations
 
 import hashlib
 
-from cmsproof_tools.checking import RECORD, Draft, Work
+from cmsproof_tools.checking import RECORD, Draft, Usual, Work, reading_of
 from cmsproof_tools.deciding import content_sum, grounds_of, usual_grounds
+from cmsproof_tools.found import Found
 from cmsproof_tools.outcomes import Outcome
 from cmsproof_tools.rows import NOTHING, Noting, Record, joined, steady
 from cmsproof_tools.texts import question_of
@@ -35,6 +36,18 @@ def record_of(work: Work, noting: Noting, draft: Draft) -> Record:
     return (*known, summed, usual or grounds_of(found, line, vouched, work.trust, noting, work.sha1))
 
 
+def record_of_usual(work: Work, noting: Noting, outcome: Outcome, usual: Usual) -> Record:
+    """What a state keeps of a file of which this was said."""
+    found, octets, begun, lines = usual
+    grounds = usual_grounds(octets, lines, noting)
+    if grounds:
+        return found.st_size, int(found.st_mtime), steady(found, begun), hashlib.sha256(octets).digest(), b"", grounds
+    reading = reading_of(outcome.name, usual[:3])
+    return record_of(work, noting, Draft(reading, Found("", octets), None, outcome.line, lines))
+
+
 def with_record(work: Work, noting: Noting, outcome: Outcome) -> Outcome:
     """The outcome with the record that its draft becomes."""
-    return Outcome._make((*outcome[:-1], record_of(work, noting, outcome.record)))
+    draft = outcome.record
+    record = record_of_usual(work, noting, outcome, draft) if type(draft) is Usual else record_of(work, noting, draft)
+    return tuple.__new__(Outcome, (*outcome[:-1], record))

@@ -87,6 +87,8 @@ def one_line(text: str) -> str:
 def shown(name: str) -> str:
     """A name as it is shown: as one line, with its backslashes doubled, so that it can be told from a name that has an escape,
     and with no space behind a colon, so that it has no part of a line that is put behind it."""
+    if name.isprintable() and "\\" not in name and ": " not in name:
+        return name
     return one_line(name.replace("\\", "\\\\")).replace(": ", ":\\x20")
 
 

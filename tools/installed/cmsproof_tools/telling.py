@@ -34,38 +34,65 @@ def told_of(outcomes: list[Outcome], line_of: Callable[[Outcome], str], is_kept:
     if not outcomes:
         return b"", (), DONE, ["content"], [[]], []
     said: tuple[str, ...] = ()
-    ended = outcomes[0]
+    ended, lines = outcomes[0], line_of(outcomes[0]) + "\n"
     if len(outcomes) > 1 or ended.faults or ended.kind or ended.notes:
         ended, said = max(outcomes, key=lambda outcome: outcome.status), tuple(complaints(outcomes))
-    lines = "".join([line_of(outcome) + "\n" for outcome in outcomes]).encode()
+        lines = "".join([line_of(outcome) + "\n" for outcome in outcomes])
     rows = module("rows").values_of_all(outcomes) if is_kept else []
-    return lines, said, ended.status, [ended.line.partition(" ")[0]], [rows], outcomes if is_known else []
+    return lines.encode(), said, ended.status, [ended.line.partition(" ")[0]], [rows], outcomes if is_known else []
 
 
 def all_told(
     work: Work, line_of: Callable[[Outcome], str], several: list[list[Outcome]], is_known: bool = False
 ) -> list[tuple[int, Told]]:
     """What is said of several files, of many at a time, and of how many."""
-    is_kept = work.noting is not None
-    return joined([told_of(outcomes, line_of, is_kept, is_known) for outcomes in all_noted(work, several)])
+    is_kept, found, some = work.noting is not None, list[tuple[int, Told]](), list[Outcome]()
+    for outcomes in all_noted(work, several):
+        if len(outcomes) == 1 and not is_known:
+            (one,) = outcomes
+            if not one.faults and not one.kind and not one.notes:
+                some.append(one)
+                continue
+        found += [*quietly_told(some, line_of, is_kept), (1, told_of(outcomes, line_of, is_kept, is_known))]
+        some = []
+    return found + quietly_told(some, line_of, is_kept)
+
+
+def quietly_told(several: list[Outcome], line_of: Callable[[Outcome], str], is_kept: bool) -> list[tuple[int, Told]]:
+    """As `joined`, of what is said of files that have a line each, and nothing on standard error."""
+    values_of, found = module("rows").values_of if is_kept else None, list[tuple[int, Told]]()
+    for at in range(0, len(several), MOST):
+        some = several[at : at + MOST]
+        lines = "\n".join([*map(line_of, some), ""]).encode()
+        rows = [[] if values_of is None else [values_of(one)] for one in some]
+        verdicts = [one.line.partition(" ")[0] for one in some]
+        found.append((len(some), (lines, (), max([one.status for one in some]), verdicts, rows, [])))
+    return found
 
 
 def joined(several: list[Told]) -> list[tuple[int, Told]]:
     """What is said of files one by one, said of many at a time where nothing must stand between, and of how many."""
     found: list[tuple[int, Told]] = []
-    begin, apart = 0, [is_apart(told) for told in several]
-    for at in range(1, len(several) + 1):
-        if at == len(several) or at - begin == MOST or apart[at] or apart[at - 1]:
-            lines, said, statuses, verdicts, rows, given = zip(*several[begin:at])
-            told = b"".join(lines), said[0], max(statuses), list(chain(*verdicts)), list(chain(*rows)), given[0]
-            found.append((at - begin, told))
-            begin = at
-    return found
+    some: list[Told] = []
+    for told in several:
+        # (what is said on standard error, or may be acknowledged, goes by itself)
+        if told[1] or told[5]:
+            found += [*as_one(some), (1, told)]
+            some = []
+        else:
+            some.append(told)
+            if len(some) == MOST:
+                found += as_one(some)
+                some = []
+    return found + as_one(some)
 
 
-def is_apart(told: Told) -> bool:
-    """Whether what is said of a file goes by itself: where something is said on standard error, or may be acknowledged."""
-    return bool(told[1] or told[5])
+def as_one(several: list[Told]) -> list[tuple[int, Told]]:
+    """As `joined`, of files between whose lines nothing stands."""
+    if not several:
+        return []
+    lines, _, statuses, verdicts, rows, _ = zip(*several)
+    return [(len(several), (b"".join(lines), (), max(statuses), list(chain(*verdicts)), list(chain(*rows)), []))]
 
 
 def told_beside(known: Known, told: Told) -> Told:

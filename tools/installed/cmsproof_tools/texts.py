@@ -8,8 +8,11 @@ from typing import Iterable, Iterator, NamedTuple
 
 QUESTIONS, ANSWERS = b"cmsproof questions 1", b"cmsproof answers 1"
 TRUST_1 = b"cmsproof trust 1"
-# what begins a line that says nothing, and how long a short text is at most
-COMMENT, SHORT = 0x23, 1 << 14
+# what begins a line that says nothing, what stands before the end of one in some texts, and how long a short text is at most
+COMMENT, RETURN, SHORT = 0x23, 0x0D, 1 << 14
+# the octets of a question's line that most keys have for themselves, by which something is looked for that is the same for all lines with the
+# same first three fields
+PLACE = slice(60, 124)
 # why a signature is not vouched for that can be judged
 UNHOLDING = "the signature does not hold"
 MOMENT = r"[0-9]{14}(?:\.[0-9]{0,8}[1-9])?Z"
@@ -90,6 +93,11 @@ def octets_of_fields(line: bytes) -> list[bytes]:
     return [b"" if field == b"-" else unhexlify(field) for field in fields]
 
 
+def fields_of(line: bytes) -> bytes:
+    """The first three fields of a question's line, with the space behind each: all lines that begin so have the same key and algorithms."""
+    return b" ".join([*line.split(b" ", 3)[:3], b""])
+
+
 def no_question(number: int) -> ValueError:
     """What is raised where a line is no question: a line that says where."""
     return ValueError(f"line {number} is no question: five fields in hexadecimal, with a space between two")
@@ -106,13 +114,14 @@ def question_of(number: int, line: bytes) -> Question:
 
 def lines_asked(text: bytes) -> list[bytes]:
     """The lines of a questions text that are to be questions. Raises ValueError if it does not begin as one."""
-    if len(text) > SHORT or b"\r" in text:
+    # (whether an octet is there is asked by its number: of `bytes` Python first finds out, by an exception, that they are none)
+    if len(text) > SHORT or RETURN in text:
         return [line for _, line in question_lines(text)]
     # (of a short text it is quick to take line after line from its front)
     found = []
-    first, more, rest = text.partition(b"\n")
-    while more:
-        line, more, rest = rest.partition(b"\n")
+    first, _, rest = text.partition(b"\n")
+    while rest:
+        line, _, rest = rest.partition(b"\n")
         if line and line[0] != COMMENT:
             found.append(line)
     return found if first == QUESTIONS else [line for _, line in question_lines(text)]

@@ -22,7 +22,7 @@ from cryptography.utils import CryptographyDeprecationWarning
 
 from cmsproof_tools import der
 from cmsproof_tools.running import kept_if_short
-from cmsproof_tools.texts import UNHOLDING, Question, octets_of_fields, question_of
+from cmsproof_tools.texts import PLACE, UNHOLDING, Question, fields_of, octets_of_fields, question_of
 
 # (old versions of the library read it with the first key: in each process by itself, if it is not read here)
 importlib.import_module("cryptography.hazmat.backends.openssl.backend")
@@ -364,37 +364,58 @@ def asking_in(fields: bytes) -> Asking:
     return Asking(HASHING[name], public.verify, (*call[:-1], hashed))
 
 
-# (by all octets of the fields, so that what is kept is the key that the line has; of few octets, since files have the parameters)
-asking_kept = lru_cache(maxsize=1024)(asking_in)
+# what was asked by the first three fields of lines, which stand beside it: by these fields, and the last one of each PLACE in lines, as a
+# key may have several algorithms; and how many of each are kept
+BY_FIELDS: dict[bytes, tuple[bytes, Asking]] = {}
+KEPT: dict[bytes, tuple[bytes, Asking]] = {}
+MOST_KEPT = 1024
 
 
-def holds_in(line: bytes) -> bool:
-    """As `holds`, of the question in a line. Raises ValueError if it is none."""
-    rest, _, of_signature = line.rpartition(b" ")
-    fields, _, of_tail = rest.rpartition(b" ")
-    try:
-        tail, signature = unhexlify(of_tail), unhexlify(of_signature)
-    except ValueError:
-        # (a field may be `-`)
-        tail = signature = b""
-    if not tail or not signature:
-        return holds(question_of(0, line))
-    hashed, verify, call = asking_kept(fields) if len(fields) <= LONGEST_KEPT else asking_in(fields)
-    octets = b"\x31" + tail
-    try:
-        verify(signature, octets if hashed is None else hashed(octets).digest(), *call)
-        return True
-    except InvalidSignature:
-        return False
-    except Exception as error:
-        raise unjudged(error) from error
+def asking_of(line: bytes) -> tuple[bytes, Asking]:
+    """The first three fields of a line, as `fields_of`, and what they ask, which is kept. Raises ValueError where they ask nothing; where
+    it is kept nobody looks here whether the rest is that of a question."""
+    fields = fields_of(line)
+    found = BY_FIELDS.get(fields)
+    if found is None:
+        question_of(0, line)
+        found = fields, asking_in(fields[:-1])
+        # (of few octets, since files have the parameters)
+        if len(fields) > LONGEST_KEPT:
+            return found
+        if len(BY_FIELDS) >= MOST_KEPT:
+            BY_FIELDS.clear()
+        BY_FIELDS[fields] = found
+    if len(KEPT) >= MOST_KEPT:
+        KEPT.clear()
+    KEPT[line[PLACE]] = found
+    return found
 
 
 def fault_in(line: bytes) -> str | None:
     """None where the signature of the question in a line holds, and otherwise why it is not vouched for. Raises ValueError if the line is
-    no question."""
+    no question. (This is asked twice of each file of an archive.)"""
+    found = KEPT.get(line[PLACE])
     try:
-        return None if holds_in(line) else UNHOLDING
+        # (all octets of the fields are compared, so that what is kept is the key that the line has)
+        if found is None or not line.startswith(found[0]):
+            found = asking_of(line)
+        fields, (hashed, verify, call) = found
+        of_tail, _, of_signature = line[len(fields) :].partition(b" ")
+        try:
+            tail, signature = unhexlify(of_tail), unhexlify(of_signature)
+        except ValueError:
+            # (a field may be `-`)
+            tail = signature = b""
+        if not tail or not signature:
+            return None if holds(question_of(0, line)) else UNHOLDING
+        octets = b"\x31" + tail
+        try:
+            verify(signature, octets if hashed is None else hashed(octets).digest(), *call)
+            return None
+        except InvalidSignature:
+            return UNHOLDING
+        except Exception as error:
+            raise unjudged(error) from error
     except Unjudged as reason:
         return f"not judged: {reason}"
 

@@ -1,11 +1,13 @@
 #!/usr/bin/env python3
 """kept_sums.py WORDS..: does what `rt WORDS..` does, but takes the sum of each crate once in a call.
 
-`rt` takes a crate's sum, by which it sees whether a library is built, once for each path through the graph of crates, and reads
-each time all files of the crate: for one at the top 100,000 times and more, minutes of a call. The sum is the same.
+Some builds of `rt` take a crate's sum, by which they see whether a library is built, once for each path through the graph of crates,
+and read each time all files of the crate: for one at the top 100,000 times and more, minutes of a call. The sum is the same. `rt ci`,
+which builds all anew, takes two sums of each library and looks at none.
 """
 import importlib.machinery
 import importlib.util
+import os
 import shutil
 import sys
 import threading
@@ -53,4 +55,6 @@ if __name__ == "__main__":
     found = shutil.which("rt")
     if not found:
         sys.exit("kept_sums: no command 'rt' is on the PATH: install the Rattle toolchain")
+    if rt() == ["rt"]:
+        os.execv(found, ["rt", *sys.argv[1:]])
     sys.exit(load(found).main(sys.argv[1:]))

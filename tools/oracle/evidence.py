@@ -1,12 +1,13 @@
-"""What `evidence check` and `evidence questions` must print of evidence records, by RFC 4998 4.3 and 5.3 and docs/REFUSALS.md, section 12.
-Written from those, over the readings of records.py and the rules of rules.py, and apart from the program."""
+"""What `evidence check` and `evidence questions` must print of evidence records, and `check --evidence` of a signed file beside one, by RFC 4998
+1.1, 4.3 and 5.3, docs/REFUSALS.md, sections 6 and 12, and docs/LINES.md. Written from those, over the readings of records.py and the rules of
+rules.py, and apart from the program."""
 from __future__ import annotations
 
 from typing import NamedTuple, Optional
 
-from oracle import der, forms, rules
+from oracle import der, expected, forms, rules
 from oracle.der import Fault
-from oracle.expected import token_questions
+from oracle.expected import Said, token_questions
 from oracle.forms import Signer, TstInfo
 from oracle.lists import Entry
 from oracle.records import Record, Stamp, evidence_record, stated
@@ -52,6 +53,14 @@ class Passed(NamedTuple):
 
 
 class Unshown(Exception):
+    """Why a record shows nothing: the line and the status."""
+
+    def __init__(self, line: str, status: int = 1) -> None:
+        super().__init__(line)
+        self.said = line + "\n", status
+
+
+class Unfit(Unshown):
     """Why a time-stamp does not stand: its place, and the rule."""
 
     def __init__(self, link: Link, code: str, rest: object = None) -> None:
@@ -102,8 +111,8 @@ def links_of(record: Record, data: list[bytes]) -> list[Link]:
 
 def passed(token: bytes, name: Optional[str], due: Optional[bytes], terms: Terms) -> Passed:
     """K1 to K14 of a token whose imprint must be this hash value by this algorithm."""
-    signer, content = rules.token_signer(token, True)
-    told = rules.stamp_of(content, True)
+    signer, content = rules.token_signer(token, rules.Weak())
+    told = rules.stamp_of(content, rules.Weak())
     if digest_name(told.imprint.alg) != name:
         raise Refused("K8")
     if told.imprint.digest != due:
@@ -120,19 +129,19 @@ def stands(link: Link, before: Optional[Link], is_last: bool, terms: Terms, poli
     name, due, lists = link.algorithm, None, link.stamp.lists
     if link.stamp.alg is not None or link.told is not None:
         if name is None or name != link.first:
-            raise Unshown(link, "W1")
+            raise Unfit(link, "W1")
         if any(len(value) != len(digest(name, b"")) for values in lists for value in values):
-            raise Unshown(link, "W2")
+            raise Unfit(link, "W2")
         if not (set(link.covered) <= set(lists[0]) if lists else len(link.covered) == 1):
-            raise Unshown(link, "W3")
+            raise Unfit(link, "W3")
         due = root(name, lists, link.covered)
     try:
         good = passed(link.stamp.token, name, due, terms)
     except Refused as rule:
-        raise Unshown(link, "W4", rule) from rule
+        raise Unfit(link, "W4", rule) from rule
     late = is_last and policy.at is not None and good.told.time > policy.at
     if late or (before is not None and before.told is not None and good.told.time <= before.told.time):
-        raise Unshown(link, "W5")
+        raise Unfit(link, "W5")
     return good
 
 
@@ -142,42 +151,71 @@ def lasts(name: Optional[str], moment: str, ends: Ends) -> bool:
     return all(moment <= last for last in said) and (name != "sha1" or bool(said))
 
 
-def check(octets: bytes, data: list[bytes], terms: Terms, policy: Policy) -> tuple[str, int]:
+def open_record(octets: bytes) -> Record:
+    """The record, which must be one, and not of data that are encrypted."""
+    try:
+        record = forms.whole(octets, evidence_record)
+    except Fault as fault:
+        raise Unshown(f"malformed {fault}", 2) from fault
+    if record.encryption is not None:
+        raise Unshown("refused V2 Encrypted")
+    return record
+
+
+def shown(octets: bytes, data: list[bytes], terms: Terms, policy: Policy) -> str:
+    """The moment by which a record shows data."""
+    record = open_record(octets)
+    if not data:
+        raise Unshown("refused V3 NoData")
+    links = links_of(record, data)
+    good = [
+        stands(link, links[place - 1] if place else None, place + 1 == len(links), terms, policy)
+        for place, link in enumerate(links)
+    ]
+    for place, (link, by) in enumerate(zip(links, good)):
+        until = good[place + 1].told.time if place + 1 < len(good) else policy.at or by.told.time
+        if not all(lasts(name, until, policy.ends) for name in (link.algorithm, digest_name(by.signer.alg))):
+            raise Unfit(link, "W6")
+        if not any(rules.holds(entry, until) for entry in by.entries):
+            raise Unfit(link, "W7")
+    if policy.whole and set(links[0].stamp.lists[0] if links[0].stamp.lists else []) - set(links[0].covered):
+        raise Unfit(links[0], "W8")
+    return good[0].told.time
+
+
+def check(octets: bytes, data: list[bytes], terms: Terms, policy: Policy) -> Said:
     """The line of `evidence check`, and its status."""
     try:
-        record = forms.whole(octets, evidence_record)
-    except Fault as fault:
-        return f"malformed {fault}\n", 2
-    if record.encryption is not None:
-        return "refused V2 Encrypted\n", 1
-    if not data:
-        return "refused V3 NoData\n", 1
-    links = links_of(record, data)
-    try:
-        good = [
-            stands(link, links[place - 1] if place else None, place + 1 == len(links), terms, policy)
-            for place, link in enumerate(links)
-        ]
-        for place, (link, by) in enumerate(zip(links, good)):
-            until = good[place + 1].told.time if place + 1 < len(good) else policy.at or by.told.time
-            if not all(lasts(name, until, policy.ends) for name in (link.algorithm, digest_name(by.signer.alg))):
-                raise Unshown(link, "W6")
-            if not any(rules.holds(entry, until) for entry in by.entries):
-                raise Unshown(link, "W7")
-        if policy.whole and set(links[0].stamp.lists[0] if links[0].stamp.lists else []) - set(links[0].covered):
-            raise Unshown(links[0], "W8")
+        return f"accepted {der.time_text(shown(octets, data, terms, policy))}\n", 0
     except Unshown as refusal:
-        return f"{refusal}\n", 1
-    return f"accepted {der.time_text(good[0].told.time)}\n", 0
+        return refusal.said
 
 
-def questions(octets: bytes, terms: Terms) -> tuple[str, int]:
+def of_record(refusal: Unshown) -> Said:
+    """What `check --evidence` says of a record that shows nothing."""
+    line, status = refusal.said
+    word, _, rest = line.partition(" ")
+    return f"{word} record {rest}", status
+
+
+def under(
+    octets: bytes, file: bytes, terms: Terms, policy: Policy, content: Optional[bytes] = None, room: int = 1 << 26
+) -> Said:
+    """`check --evidence`: a signed file as one could judge it at the moment by which the record shows it, and the content that is handed in
+    (RFC 4998 1.1): an algorithm is allowed if it holds then (5.3), and a token's authority is trusted as K13 says."""
+    try:
+        moment = shown(octets, [file] if content is None else [file, content], terms, policy)
+    except Unshown as refusal:
+        return of_record(refusal)
+    weak = rules.Weak(name for name in rules.DIGESTS.values() if not lasts(name, moment, policy.ends))
+    return expected.check(file, terms.as_of(moment, weak), content, room)
+
+
+def questions(octets: bytes, terms: Terms) -> Said:
     """The text of `evidence questions`, or its line, and its status."""
     try:
-        record = forms.whole(octets, evidence_record)
-    except Fault as fault:
-        return f"malformed {fault}\n", 2
-    if record.encryption is not None:
-        return "refused V2 Encrypted\n", 1
+        record = open_record(octets)
+    except Unshown as refusal:
+        return refusal.said
     asked = [line for chain in record.chains for stamp in chain for line in token_questions(stamp.token, terms)]
     return "".join(line + "\n" for line in ["cmsproof questions 1", *asked]), 0

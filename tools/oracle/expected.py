@@ -91,7 +91,7 @@ def fits(octets: bytes, content: Optional[bytes] = None, sha1: bool = False) -> 
     """`fit`."""
 
     def judge(signer: Signer, given: bytes, of: bytes) -> None:
-        rules.fit(signer, given, of, sha1)
+        rules.fit(signer, given, of, rules.weak_unless(sha1))
 
     return judged(octets, content, judge, lambda given: f"fits {len(given)}\n")
 
@@ -293,7 +293,7 @@ def attached(octets: bytes, number: int, token: bytes) -> Made:
     found = token_of(token)
     if found is None:
         return "refused A3 TokenMalformed\n", 1, None
-    if not rules.has_digest(found[1].imprint, signed.signers[number - 1].signature, True):
+    if not rules.has_digest(found[1].imprint, signed.signers[number - 1].signature, rules.Weak()):
         return "refused A4 ImprintDiffers\n", 1, None
     return "", 0, with_token(octets, number, token)
 
@@ -310,7 +310,7 @@ def side(octets: bytes, number: int) -> tuple[Optional[str], bytes, bytes]:
         raise Refused("E3", "NoContent")
     signer = signed.signers[number - 1]
     try:
-        rules.fit(signer, signed.content, signed.type, True)
+        rules.fit(signer, signed.content, signed.type, rules.Weak())
     except Refused as rule:
         raise Refused("E4", rule)
     return rules.digest_name(signer.alg), signer.tail, signed.content

@@ -20,6 +20,8 @@ KEY_ID, PURPOSES = der.oid_contents(identifiers.SUBJECT_KEY_IDENTIFIER), der.oid
 STAMPING = der.sequence(der.oid(identifiers.TIME_STAMPING))
 # a directoryName (RFC 5280 4.2.1.6)
 DIRECTORY_NAME = 0xA4
+# names of digest algorithms that are not allowed: mostly SHA-1 alone, or none
+Weak = frozenset[str]
 
 RULES = {
     "C2": "NotSignedData",
@@ -74,15 +76,20 @@ def digest(name: str, octets: bytes) -> bytes:
     return hashlib.new(name, octets).digest()
 
 
-def imprint_name(imprint: Imprint, sha1: bool) -> Optional[str]:
-    """The name of an imprint's digest algorithm, None where it is not known or not allowed."""
-    name = digest_name(imprint.alg)
-    return None if name == "sha1" and not sha1 else name
+def weak_unless(sha1: bool) -> Weak:
+    """What is not allowed where nothing is said of moments: SHA-1, unless it is allowed."""
+    return Weak() if sha1 else Weak({"sha1"})
 
 
-def has_digest(imprint: Imprint, octets: bytes, sha1: bool) -> bool:
+def allowed_name(alg: forms.Algorithm, weak: Weak) -> Optional[str]:
+    """The name of a digest algorithm, None where it is not known or not allowed."""
+    name = digest_name(alg)
+    return None if name in weak else name
+
+
+def has_digest(imprint: Imprint, octets: bytes, weak: Weak) -> bool:
     """Whether an imprint is the digest of octets, by an algorithm that is known and allowed."""
-    name = imprint_name(imprint, sha1)
+    name = allowed_name(imprint.alg, weak)
     return name is not None and imprint.digest == digest(name, octets)
 
 
@@ -95,7 +102,7 @@ def one(attributes: list[Attribute], of: bytes) -> Optional[Element]:
     return found[0].values[0] if len(found) == 1 and len(found[0].values) == 1 else None
 
 
-def fit(signer: Signer, content: bytes, of: bytes, sha1: bool) -> None:
+def fit(signer: Signer, content: bytes, of: bytes, weak: Weak) -> None:
     """S1 to S6."""
     if signer.signed is None:
         raise Refused("S1")
@@ -107,8 +114,8 @@ def fit(signer: Signer, content: bytes, of: bytes, sha1: bool) -> None:
     held = one(signer.signed, MESSAGE_DIGEST)
     if held is None or held.tag != der.OCTETS:
         raise Refused("S4")
-    name = digest_name(signer.alg)
-    if name is None or name == "sha1" and not sha1:
+    name = allowed_name(signer.alg, weak)
+    if name is None:
         raise Refused("S5")
     if held.body() != digest(name, content):
         raise Refused("S6")
@@ -187,10 +194,23 @@ def question(certificate: Certificate, signer: Signer) -> str:
 
 
 class Terms:
-    """Whom a user trusts, the lines of the answers list, and whether SHA-1 is allowed."""
+    """Whom a user trusts, the lines of the answers list, what is not allowed, SHA-1 or nothing; and the moment by which an evidence record
+    shows the file that is judged, if one does."""
 
     def __init__(self, trust: list[Entry], answers: Iterable[str], sha1: bool = False) -> None:
-        self.trust, self.answers, self.sha1 = trust, set(answers), sha1
+        self.trust, self.answers, self.weak = trust, set(answers), weak_unless(sha1)
+        self.shown: Optional[str] = None
+
+    def as_of(self, shown: str, weak: Weak) -> Terms:
+        """The same of a file that an evidence record shows by this moment, when these algorithms did not hold."""
+        terms = Terms(self.trust, self.answers)
+        terms.weak, terms.shown = weak, shown
+        return terms
+
+    def stamped_by(self, entry: Entry, moment: str) -> bool:
+        """Whether an authority's entry serves for a token of this moment (K13): it holds then; and where a record shows the file, the moment
+        is not later than that of the record, at which the entry holds too."""
+        return holds(entry, moment) and (self.shown is None or moment <= self.shown and holds(entry, self.shown))
 
     def of(self, role: str, sid: SignerId) -> list[Entry]:
         """The entries of a role for a signer's identifier."""
@@ -211,7 +231,7 @@ def left(code: str, entries: list[Entry]) -> list[Entry]:
 # ---- tokens
 
 
-def token_signer(token: bytes, sha1: bool) -> tuple[Signer, bytes]:
+def token_signer(token: bytes, weak: Weak) -> tuple[Signer, bytes]:
     """K1 to K5: the one signer of a token, and its content."""
     try:
         signed = read_signed_data(token)
@@ -226,13 +246,13 @@ def token_signer(token: bytes, sha1: bool) -> tuple[Signer, bytes]:
     if len(signed.signers) != 1:
         raise Refused("K4")
     try:
-        fit(signed.signers[0], signed.content, TST_INFO, sha1)
+        fit(signed.signers[0], signed.content, TST_INFO, weak)
     except Refused as rule:
         raise Refused("K5", rule)
     return signed.signers[0], signed.content
 
 
-def stamp_of(content: bytes, sha1: bool) -> TstInfo:
+def stamp_of(content: bytes, weak: Weak) -> TstInfo:
     """K6 to K8: the TSTInfo of a token, which is told without what it stamps."""
     try:
         stamp = whole(content, forms.tst_info)
@@ -240,21 +260,21 @@ def stamp_of(content: bytes, sha1: bool) -> TstInfo:
         raise Refused("K6", fault)
     if any(e.critical for e in stamp.extensions):
         raise Refused("K7")
-    if imprint_name(stamp.imprint, sha1) is None:
+    if allowed_name(stamp.imprint.alg, weak) is None:
         raise Refused("K8")
     return stamp
 
 
 def stamped_at(token: bytes, stamped: Callable[[], bytes], terms: Terms) -> str:
     """The moment with which a token passes, K1 to K14; what it should stamp is asked for only once K1 to K8 hold."""
-    signer, content = token_signer(token, terms.sha1)
-    stamp = stamp_of(content, terms.sha1)
-    if not has_digest(stamp.imprint, stamped(), terms.sha1):
+    signer, content = token_signer(token, terms.weak)
+    stamp = stamp_of(content, terms.weak)
+    if not has_digest(stamp.imprint, stamped(), terms.weak):
         raise Refused("K9")
     entries = left("K10", terms.of("tsa", signer.sid))
     entries = left("K11", [e for e in entries if names(signer.signed or [], e.certificate, True)])
     entries = left("K12", [e for e in entries if stamping_only(e.certificate)])
-    entries = left("K13", [e for e in entries if holds(e, stamp.time)])
+    entries = left("K13", [e for e in entries if terms.stamped_by(e, stamp.time)])
     left("K14", terms.vouched(entries, signer))
     return stamp.time
 
@@ -283,7 +303,7 @@ def stamped_moments(signer: Signer, terms: Terms) -> tuple[list[str], Optional[R
 
 def signer_moment(signer: Signer, content: bytes, of: bytes, terms: Terms) -> str:
     """The moment of a signer: S1 to S10, and its first token's rule."""
-    fit(signer, content, of, terms.sha1)
+    fit(signer, content, of, terms.weak)
     moments, rule = stamped_moments(signer, terms)
     entries = terms.of("signer", signer.sid)
     entries = left("S7", [e for e in entries if not moments or any(holds(e, m) for m in moments)])

@@ -94,7 +94,7 @@ def signer(row: Row) -> str:
     content, of = row.octets("content", b"abc"), row.octets("type", rules.DATA)
 
     def fitting() -> str:
-        rules.fit(read_signed_data(made(row)).signers[0], content, of, row.flag_given("sha1"))
+        rules.fit(read_signed_data(made(row)).signers[0], content, of, rules.weak_unless(row.flag_given("sha1")))
         return "fits"
 
     return rule_of(fitting)

@@ -15,8 +15,8 @@ from unittest import mock
 
 TOP = Path(__file__).resolve().parent.parent.parent
 sys.path.insert(0, str(TOP / "tools"))
-from oracle import answers, der, expected, forms, identifiers, lists, openssl_judge, openssl_lines, rules  # noqa: E402
-from oracle import openssl_signed, real_stamps, records, rows, rules_rows, stamps_rows  # noqa: E402
+from oracle import answers, der, evidence, expected, forms, identifiers, lists, openssl_judge, openssl_lines, rules  # noqa: E402
+from oracle import openssl_signed, real_stamps, records, rows, rules_rows, stamps_rows, under_rows  # noqa: E402
 from trying import verdicts  # noqa: E402
 
 REAL = TOP / "data" / "real"
@@ -447,6 +447,14 @@ class Rules(unittest.TestCase):
         told = int(said.getvalue().splitlines()[-1].split()[0])
         self.assertGreaterEqual(told, 190)
 
+    def test_the_rows_of_files_beside_records(self):
+        said = io.StringIO()
+        with contextlib.redirect_stdout(said):
+            status = under_rows.main()
+        self.assertEqual(status, 0, said.getvalue())
+        told = int(said.getvalue().splitlines()[-1].split()[0])
+        self.assertGreaterEqual(told, 45)
+
     def test_the_rows_of_evidence_records(self):
         folder, blobs, told = TOP / "crates" / "vectors_run" / "data" / "commands", {}, 0
         for name in ("commands.blobs", "stamps.blobs", "evidence.blobs"):
@@ -599,14 +607,14 @@ WRONG = [
     (forms, "filled", lambda c, tag: c.take(tag)),
     (forms, "version", lambda c, *allowed: forms.integer(c)[0]),
     (forms, "last_extensions", lambda c, tag: []),
-    (rules, "fit", lambda signer, content, of, sha1: None),
+    (rules, "fit", lambda signer, content, of, weak: None),
     (rules, "holds", lambda entry, moment: True),
     (rules, "stamping_only", lambda certificate: True),
     (rules, "names", lambda attributes, certificate, must: True),
     (rules, "matches", lambda sid, certificate: True),
-    (rules, "has_digest", lambda imprint, octets, sha1: True),
-    (rules, "imprint_name", lambda imprint, sha1: rules.digest_name(imprint.alg)),
-    (rules, "stamp_of", lambda content, sha1: forms.whole(content, forms.tst_info)),
+    (rules, "has_digest", lambda imprint, octets, weak: True),
+    (rules, "allowed_name", lambda alg, weak: rules.digest_name(alg)),
+    (rules, "stamp_of", lambda content, weak: forms.whole(content, forms.tst_info)),
     (rules, "key_id", lambda certificate: None),
     (rules.Terms, "vouched", lambda terms, entries, signer: entries),
     (rules, "left", lambda code, entries: entries),
@@ -622,6 +630,11 @@ WRONG = [
     (expected, "stamp_token", lambda stamp: STAMP_TOKEN(der.Cursor(stamp).take().whole())),
     (expected, "stamp_questions", asked_of_anything),
     (rules, "stamped_at", data_first),
+    (rules.Terms, "stamped_by", lambda terms, entry, moment: rules.holds(entry, moment)),
+    (rules.Terms, "as_of", lambda terms, shown, weak: rules.Terms(terms.trust, terms.answers)),
+    (evidence, "lasts", lambda name, moment, ends: True),
+    (evidence, "of_record", lambda refusal: refusal.said),
+    (evidence, "shown", lambda octets, data, terms, policy: policy.at or "20240120000000000000000"),
 ]
 
 

@@ -5,9 +5,9 @@
 
 PROGRAM is ./cmsproof by default, M is 1, S is chosen and printed. The files are those of data/real and crates/real_files/data:
 SignedData and tokens (.p7s, .tok), responses (.tsr), requests (.tsq), certificates (.der), a trust list (trust.txt), and the
-content of the detached ones (.bin); and the evidence records of data/records, with the documents, the options and the lists of its
-rows. A mutation changes octets, or an element with the lengths of all that are round it made anew, so
-that the inside is reached. Each answer is held against
+content of the detached ones (.bin); and the evidence records of data/records, with the documents, the options and the lists of
+its rows. A signed file is also judged beside a record, which is made of what it was changed into. A mutation changes octets, or
+an element with the lengths of all that are round it made anew, so that the inside is reached. Each answer is held against
 
 - the form of docs/LINES.md: one line, on the stream that belongs to the status;
 - what the rules say of the file (expected.py);
@@ -30,7 +30,10 @@ from pathlib import Path
 
 sys.path.insert(0, str(Path(__file__).resolve().parent.parent))
 from oracle import der, evidence, expected, forms, lists, openssl_judge, records, renewals, rules, sums  # noqa: E402
-from samples.building import Token  # noqa: E402
+from samples import building  # noqa: E402
+from samples.building import Token, names_2, sha  # noqa: E402
+from samples.recorded import Growing  # noqa: E402
+from samples.signed_files import LASTING  # noqa: E402
 from trying.hostile_runs import MADE, Runs, fault_of_form  # noqa: E402
 
 TOP = Path(__file__).resolve().parent.parent.parent
@@ -42,6 +45,12 @@ STAMP_CHECK = ["stamp", "check", "--trust", "trust", "--answers", "answers", "in
 LATER = "20300101000000Z"
 REHASH = ["evidence", "rehash", "--alg", "sha256", "--into", "."]
 RECORD_CHECK = ["evidence", "check", "--trust", "trust-records", "--answers", "answers-records"]
+UNDER_RECORD = ["check", "--trust", "trust-records", "--answers", "answers-records"]
+UNDER = ["check", "--trust", "trust-under", "--answers", "answers-under", "--evidence", "beside"]
+# when records are made of signed files: at the time of a token, after all, at the last second of an authority, and after that;
+# and by what they are judged
+MOMENTS = "20261122071759Z", "20270101000000Z", "20350208071757Z", "20400101000000Z"
+POLICIES = [], ["--end", "sha1=20350208071757Z"], ["--at", "20400101000000Z", "--end", "sha256=20400101000000Z"]
 # whose questions are asked of files of a kind
 ASKED = {
     "p7s": [expected.questions],
@@ -108,7 +117,7 @@ def stamped_by(octets, signatures):
         imprint = forms.whole(content or b"", forms.tst_info).imprint
     except (der.Fault, forms.NotSignedData, rules.Refused):
         return b""
-    return next((signature for signature in signatures if rules.has_digest(imprint, signature, True)), b"")
+    return next((signature for signature in signatures if rules.has_digest(imprint, signature, rules.Weak())), b"")
 
 
 # ---- mutations of octets
@@ -279,6 +288,9 @@ class Fuzz:
         self.sha1 = rules.Terms(self.terms.trust, self.terms.answers, True)
         lines = ["cmsproof answers 1", *sorted(self.terms.answers)]
         self.runs.put("answers", "".join(line + "\n" for line in lines).encode())
+        authority = lists.Entry("tsa", None, None, forms.whole(LASTING, forms.certificate))
+        self.trust_under = [*self.terms.trust, authority]
+        self.runs.put("trust-under", lists.written(self.trust_under))
         self.put_partners()
 
     def answered(self):
@@ -307,7 +319,20 @@ class Fuzz:
         )
         yield ["fit", "--sha1", "in"], expected.fits(octets, sha1=True)
         yield ["questions", "--trust", "trust", "in"], expected.questions(octets, self.terms)
+        yield from self.under(octets, [])
+        yield from self.under(octets, ["--content", "content"], self.content)
         yield from self.stamp(octets)
+
+    def under(self, octets, words, *content):
+        """What is said of octets as a signed file beside a record that is made of them, and of a content that is handed in."""
+        moment, options = self.beside
+        record = Growing(octets, *content).begin(moment, names=[names_2(sha(LASTING))])
+        asked = record.asked(building.key(2))
+        self.runs.put("beside", record.whole())
+        lines = ["cmsproof answers 1", *asked, *sorted(self.terms.answers)]
+        self.runs.put("answers-under", "".join(line + "\n" for line in lines).encode())
+        terms = rules.Terms(self.trust_under, [*asked, *self.terms.answers])
+        yield UNDER + words + options + ["in"], evidence.under(record.whole(), octets, terms, policy_of(options), *content)
 
     def stamp(self, octets):
         """What is said of octets as a stamp, of what was stamped as the file was made."""
@@ -336,6 +361,8 @@ class Fuzz:
         terms, policy = self.records.terms, policy_of(options)
         yield ["show", "evidence", "in"], expected.reads(octets, records.evidence_record)
         yield RECORD_CHECK + options + ["in", "data"], evidence.check(octets, [data], terms, policy)
+        alone = [word for word in options if word != "--whole"]
+        yield UNDER_RECORD + alone + ["--evidence", "in", "data"], evidence.under(octets, data, terms, policy_of(alone))
         yield ["evidence", "questions", "--trust", "trust-records", "in"], evidence.questions(octets, terms)
         yield from self.renewals(octets)
 
@@ -367,6 +394,7 @@ class Fuzz:
     def one(self, chance, number):
         name, kind, octets = chance.choice(self.files)
         self.data = stamped_by(octets, self.signatures)
+        self.beside = chance.choice(MOMENTS), chance.choice(POLICIES)
         if kind == "ers":
             self.row = chance.choice(self.records.asked[octets])
             self.data = self.row[0]

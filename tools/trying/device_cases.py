@@ -17,6 +17,7 @@ from oracle import evidence, expected  # noqa: E402
 from trying.hostile_inputs import CHECK, DETACHED, FILE, REQUEST, RESPONSE, STAMP_CHECK, STAMP_QUESTIONS  # noqa: E402
 from trying.hostile_inputs import TERMS, TOKEN, TRUST, UNSTAMPED, migrated, signature_request, write  # noqa: E402
 from trying.record_inputs import BEGUN, EVIDENCE_CHECK, EVIDENCE_QUESTIONS, OF_OLD, SAID  # noqa: E402
+from trying.under_inputs import UNDER, judged  # noqa: E402
 
 OUT = "/dev/stdout"
 CASES = [
@@ -26,6 +27,7 @@ CASES = [
     (STAMP_CHECK + ["response", "content"], expected.stamp_check(RESPONSE, lambda: b"abc", TERMS)[0]),
     (STAMP_QUESTIONS + ["token"], expected.stamp_questions(TOKEN, TERMS)[0]),
     (EVIDENCE_CHECK + SAID + ["of-old", "content"], f"accepted {BEGUN}\n"),
+    (UNDER + ["group-under", "--content", "content", "detached"], judged(DETACHED, b"abc")[0]),
     (EVIDENCE_QUESTIONS + ["of-old"], evidence.questions(OF_OLD, TERMS)[0]),
     (["fit", "file"], expected.fits(FILE)[0]),
     (["match", "request", "response", OUT], expected.matched(REQUEST, RESPONSE)[2] + b"answers\n"),

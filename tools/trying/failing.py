@@ -10,7 +10,7 @@ With --test PROGRAM is that of a crate's tests, which `rt ci` builds as out/CRAT
 growth refused, as `--test tests::memory::the_next_call_gives_all` of failure_tests does.
 A library that stands before the C library's calls does it; it is compiled here (it needs `cc`). A run that met the fault and ends with
 the status 0 must have printed and written all that the command gives; another one must say on the standard error what failed, `failed
-memory` for memory, or X4 if it is `evidence check`, and nothing but that, with status 4, and have printed a beginning at most, and
+memory` for memory, or X4 where a record is judged, and nothing but that, with status 4, and have printed a beginning at most, and
 written a beginning at most. After a short move all is as ever. The last run, which met no fault, gives all. Prints a line for each
 command and fault.
 """
@@ -34,6 +34,7 @@ from trying.hostile_inputs import CHECK, QUESTIONS, write  # noqa: E402
 from trying.hostile_runs import octets_in  # noqa: E402
 from trying.hostile_sizes import OTHER, stamped_with  # noqa: E402
 from trying.record_inputs import EVIDENCE_CHECK, EVIDENCE_QUESTIONS  # noqa: E402
+from trying.under_inputs import UNDER  # noqa: E402
 
 LIBRARY = r"""
 #define _GNU_SOURCE
@@ -137,6 +138,10 @@ MORE = [
     EVIDENCE_CHECK + ["tree", "missing"],
     EVIDENCE_CHECK + ["tree", "long"],
     EVIDENCE_CHECK + ["--end", "x", "tree", "content"],
+    UNDER + ["record-under", "missing"],
+    UNDER + ["record-under", "long"],
+    UNDER + ["record-under", "--buffer", "499", "file"],
+    UNDER + ["record-under", "--end", "x", "file"],
     ["evidence", "request", "--policy", "2.999.3", "--nonce", "05", "--cert", "sums", "out"],
     ["evidence", "make", "--token", "token", "--into", ".", "sums"],
     ["evidence", "make", "--token", "token", "--into", "missing", "sums"],
@@ -149,7 +154,7 @@ MORE = [
     hostile_devices.REHASH + ["--token", "token", "sums-tree"],
     hostile_devices.REHASH + ["--request", "out", "sums"],
 ]
-# the second one is that of `evidence check` while it judges
+# the second one is told while a record is judged
 NO_MEMORY = b"failed memory\n", b"failed X4 OutOfMemory\n"
 MIB = 1 << 20
 # files over 1 MiB: how long an attribute is that nobody reads, and where the file is cut. A pass has room for 1 MiB, the one after it
@@ -310,7 +315,8 @@ def test(failing, name):
 
 def told_of(words):
     """What says what is wrong with an answer of this command."""
-    return functools.partial(fault_of, memory=NO_MEMORY) if words[:2] == EVIDENCE_CHECK[:2] else fault_of
+    judges = words[:2] == EVIDENCE_CHECK[:2] or "--evidence" in words
+    return functools.partial(fault_of, memory=NO_MEMORY) if judges else fault_of
 
 
 def all_commands(failing):

@@ -28,19 +28,24 @@ MASKS = (0x01, 0x80, 0xFF)
 MEMORY = 64 << 20
 
 
-def tried(runs, octets, words, expect, limit=None):
-    """The status of a command with this input, in the file `in`, which is a record's too."""
+def nothing_beside(octets):
+    """No file."""
+    return {}
+
+
+def tried(runs, octets, words, expect, beside=nothing_beside, limit=None):
+    """The status of a command with this input, in the file `in`, which is a record's too, and with the files that are made of it."""
     line, status, *out = expect(octets)
-    for name, contents in {"in": octets, "in.ers": octets, **record_inputs.CHANGED}.items():
+    for name, contents in {"in": octets, "in.ers": octets, **record_inputs.CHANGED, **beside(octets)}.items():
         runs.put(name, contents)
     return runs.case(words, line, status, out=out[0] if out else False, limit=limit)
 
 
 def cuts(runs):
     """Each beginning of each input of each command, the empty one first."""
-    for _, octets, words, expect in runs.commands:
+    for _, octets, *command in runs.commands:
         for size in range(0, len(octets), runs.step):
-            tried(runs, octets[:size], words, expect)
+            tried(runs, octets[:size], *command)
 
 
 def changed(octets, at, octet):
@@ -49,12 +54,12 @@ def changed(octets, at, octet):
 
 def changes(runs):
     """Each octet of each input of each command changed by exclusive or with 01, 80 and ff."""
-    for name, octets, words, expect in runs.commands:
+    for name, octets, *command in runs.commands:
         done = 0
         for at in range(0, len(octets), runs.step):
             for mask in MASKS:
-                done += tried(runs, changed(octets, at, octets[at] ^ mask), words, expect) == 0
-        print("    %-30s %5d octets, %5d files with status 0" % (name, len(octets), done))
+                done += tried(runs, changed(octets, at, octets[at] ^ mask), *command) == 0
+        print("    %-40s %5d octets, %5d files with status 0" % (name, len(octets), done))
 
 
 def every(runs):
@@ -69,11 +74,11 @@ def every(runs):
 
 def moved(runs):
     """Each octet of each input left out, doubled, and followed by 00."""
-    for _, octets, words, expect in runs.commands:
+    for _, octets, *command in runs.commands:
         for at in range(0, len(octets), runs.step):
-            tried(runs, octets[:at] + octets[at + 1 :], words, expect)
-            tried(runs, octets[: at + 1] + octets[at:], words, expect)
-            tried(runs, octets[: at + 1] + b"\0" + octets[at + 1 :], words, expect)
+            tried(runs, octets[:at] + octets[at + 1 :], *command)
+            tried(runs, octets[: at + 1] + octets[at:], *command)
+            tried(runs, octets[: at + 1] + b"\0" + octets[at + 1 :], *command)
 
 
 def headers(octets, at=0, end=None):
@@ -114,12 +119,12 @@ def lengths(runs):
     def limit():
         resource.setrlimit(resource.RLIMIT_AS, (MEMORY, MEMORY))
 
-    for _, octets, words, expect in runs.commands:
+    for _, octets, *command in runs.commands:
         if octets.startswith(b"cmsproof"):
             continue
         for _, first, last in list(headers(octets))[:: runs.step]:
             for length in spelled:
-                tried(runs, octets[:first] + length + octets[last:], words, expect, None if runs.checked else limit)
+                tried(runs, octets[:first] + length + octets[last:], *command, limit=None if runs.checked else limit)
 
 
 def openssl(runs):

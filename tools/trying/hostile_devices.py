@@ -11,6 +11,7 @@ from oracle import evidence, expected, lists, rules
 from samples.building import request_of, sha
 from trying.hostile_inputs import CHECK, FILE, REQUEST, RESPONSE, SIGNER, STAMP_CHECK, STAMP_QUESTIONS, TERMS, TRUST, migrated
 from trying.record_inputs import BEGUN, DATA, EVIDENCE_CHECK, EVIDENCE_QUESTIONS, OF_OLD, SAID, SMALL
+from trying.under_inputs import ENDING, UNDER
 
 ACCEPTED = "accepted 20240115100000Z\n"
 DIGEST = sha(b"abc").hex()
@@ -30,6 +31,10 @@ PRINTING = [
     (EVIDENCE_CHECK + ["of-old", "content"], "refused chain 1 stamp 1 W6 Weak\n"),
     (EVIDENCE_CHECK + ["encrypted", "missing"], "refused V2 Encrypted\n"),
     (EVIDENCE_QUESTIONS + ["of-old"], OF_RECORD),
+    (UNDER + ["record-under", *ENDING, "file"], ACCEPTED),
+    (UNDER + ["group-under", "--content", "content", "detached"], ACCEPTED),
+    (UNDER + ["record-under", "detached"], "refused record chain 1 stamp 1 W3 NotCovered\n"),
+    (UNDER + ["encrypted", "missing"], "refused record V2 Encrypted\n"),
     (["compare", "unstamped", "file"], "same\n"),
     (["cert", "signer"], None),
     (["show", "signed", "file"], None),
@@ -78,6 +83,11 @@ READING = [
     (EVIDENCE_CHECK + ["of-group", "content", "?"], "X1"),
     (["evidence", "questions", "--trust", "?", "tree"], "read"),
     (EVIDENCE_QUESTIONS + ["?"], "read"),
+    (["check", "--trust", "?", "--answers", "answers", "--evidence", "record-under", "file"], "read"),
+    (["check", "--trust", "trust", "--answers", "?", "--evidence", "record-under", "file"], "read"),
+    (UNDER + ["?", "file"], "read"),
+    (UNDER + ["record-under", "?"], "read"),
+    (UNDER + ["group-under", "--content", "?", "detached"], "read"),
     (["match", "?", "response"], "read"),
     (["match", "request", "?"], "read"),
     (["match", "?", "response", "out"], "read"),
@@ -110,7 +120,7 @@ ZEROS = expected.questions(bytes(2), TERMS)
 
 def is_read_in_pieces(words):
     """Whether the command keeps no more of this input than it needs; the others have it whole in memory."""
-    return words[0] in ("check", "questions") and words[-1] == "?"
+    return words[0] in ("check", "questions") and words[-1] == "?" and "--evidence" not in words
 
 
 def fill(runs):
@@ -442,6 +452,9 @@ WORDS = [
     *((EVIDENCE_CHECK + ["--end", end, "missing", "missing"], "usage end\n") for end in BAD_ENDS),
     *((EVIDENCE_CHECK + [f"--at={time}", "missing", "missing"], "usage at\n") for time in BAD_TIMES),
     (EVIDENCE_CHECK + ["--at", "x", "--end", "sha1=20240131000000Z", "--end", "x", "missing", "missing"], "usage end\n"),
+    *((UNDER + ["missing", "--end", end, "missing"], "usage end\n") for end in BAD_ENDS),
+    *((UNDER + ["missing", f"--at={time}", "missing"], "usage at\n") for time in BAD_TIMES),
+    (UNDER + ["missing", "missing", "missing"], "usage FILE\n"),
     (REQUEST_OF + ["--of", "file", "out"], "usage digest\n"),
     (REQUEST_OF + ["--signer", "1", "out"], "usage digest\n"),
     *(
@@ -489,6 +502,10 @@ WORDS = [
             EVIDENCE_CHECK + ["-", "-"],
             EVIDENCE_CHECK + ["tree", "-", "content", "-"],
             ["evidence", "questions", "tree"],
+            UNDER + ["record-under", "--sha1", "file"],
+            UNDER + ["record-under", "--evidence", "record-under", "file"],
+            CHECK + ["--at", "20240131000000Z", "file"],
+            CHECK + ["--end", "sha1=20240131000000Z", "file"],
             EVIDENCE_QUESTIONS,
             EVIDENCE_QUESTIONS + ["--answers", "answers", "tree"],
             *(["attach", "--signer", number, "--token", "token", "file", "out"] for number in BAD_NUMBERS),

@@ -16,7 +16,7 @@ from oracle import der, expected, forms, lists, records, rules, sums  # noqa: E4
 from oracle.der import element, number, octets, oid, sequence  # noqa: E402
 from samples import building, signed_files as made  # noqa: E402
 from samples.building import request_of, sha  # noqa: E402
-from trying import record_inputs  # noqa: E402
+from trying import record_inputs, under_inputs  # noqa: E402
 
 FILE = building.stamped(made.TOKEN)
 UNSTAMPED = building.signed_data([made.PLAIN.stamped()])
@@ -120,7 +120,8 @@ STAMP_QUESTIONS = ["stamp", "questions", "--trust", "trust"]
 BUFFER = CHECK + ["--buffer"]
 QUESTIONS = ["questions", "--trust", "trust"]
 ATTACH = ["attach", "--signer", "1", "--token"]
-# name, octets, words with `in` in their place, what is expected of octets there: line, status and, if it makes one, the file `out`
+# name, octets, words with `in` in their place, what is expected of octets there: line, status and, if it makes one, the file `out`; of some
+# what makes of the octets further files that the words name
 COMMANDS = [
     ("check", FILE, CHECK + ["in"], lambda o: expected.check(o, TERMS)),
     ("check with content", DETACHED, CHECK + ["--content", "content", "in"], lambda o: expected.check(o, TERMS, b"abc")),
@@ -207,6 +208,7 @@ COMMANDS = [
     ("stamp questions, token", TOKEN, STAMP_QUESTIONS + ["in"], lambda o: expected.stamp_questions(o, TERMS)),
     ("stamp questions, response", RESPONSE, STAMP_QUESTIONS + ["in"], lambda o: expected.stamp_questions(o, TERMS)),
     *record_inputs.COMMANDS,
+    *under_inputs.COMMANDS,
 ]
 BESIDE = {
     "trust": TRUST,
@@ -227,6 +229,7 @@ BESIDE = {
     "empty": b"",
     "sums": f"{sha(b'abc').hex()}  out\n".encode(),
     **record_inputs.BESIDE,
+    **under_inputs.BESIDE,
 }
 
 

@@ -6,9 +6,9 @@ import shutil
 import subprocess
 from pathlib import Path
 
-MALFORMED = re.compile(r"malformed (?:(?:request|response|first|second) )?M\d+ \w+ at \d+\n")
+MALFORMED = re.compile(r"malformed (?:(?:request|response|first|second|record) )?M\d+ \w+ at \d+\n")
 REFUSED = re.compile(
-    r"(?:refused (?:(?:first|second) )?(?:signer \d+ |chain \d+ stamp \d+ )?(?:token 1 )?(?:[A-Z]\d+ )*(?:\w+|M\d+ \w+ at \d+)"
+    r"(?:refused (?:(?:first|second|record) )?(?:signer \d+ |chain \d+ stamp \d+ )?(?:token 1 )?(?:[A-Z]\d+ )*(?:\w+|M\d+ \w+ at \d+)"
     r"|different|collision)\n"
 )
 LIST = re.compile(r"(?:(?:trust|answers) [LB]\d \w+ at line \d+|sums U1 Line at line \d+|sums U2 Empty)\n")

@@ -53,12 +53,13 @@ def check_of(trust, answers, *files):
     return ["check", "--trust", f"{trust}.txt", "--answers", f"{answers}.answers", *files]
 
 
-# each answers list: the words that print the questions of which it has all
+# each answers list: the words of the commands that print the questions of which it has all
 ANSWERS = {
-    "small": ["questions", "--trust", "fifty.txt", *SMALL],
-    "signers": ["questions", "--trust", "few.txt", "many_ecdsa.p7s", "many_rsa.p7s", "twenty.p7s"],
-    "large": ["questions", "--trust", "few.txt", "large.p7s"],
-    "record": ["evidence", "questions", "--trust", "tsa.txt", "record.ers"],
+    "small": [["questions", "--trust", "fifty.txt", *SMALL]],
+    "signers": [["questions", "--trust", "few.txt", "many_ecdsa.p7s", "many_rsa.p7s", "twenty.p7s"]],
+    "large": [["questions", "--trust", "few.txt", "large.p7s"]],
+    "record": [["evidence", "questions", "--trust", "tsa.txt", "record.ers"]],
+    "under": [["questions", "--trust", "under.txt", SMALL[0]], ["evidence", "questions", "--trust", "under.txt", "under.ers"]],
 }
 # each job: the program, and its words; one that begins with `<` is a file that comes through a pipe
 JOBS = {
@@ -86,6 +87,7 @@ JOBS = {
     "stamp-content": ("cmsproof", ["stamp", "check", "--trust", "few.txt", "--answers", "large.answers", "token.tok", "content"]),
     "evidence-check": ("cmsproof", ["evidence", *check_of("tsa", "record", "record.ers", "recorded")]),
     "evidence-questions": ("cmsproof", ["evidence", "questions", "--trust", "tsa.txt", "record.ers"]),
+    "check-evidence": ("cmsproof", check_of("under", "under", "--evidence", "under.ers", SMALL[0])),
     "check-large": ("cmsproof", check_of("few", "large", "large.p7s")),
     "check-pipe": ("cmsproof", check_of("few", "large", "/dev/stdin", "<large.p7s")),
     "library": ("library_job", ["fifty.txt", "small.answers", SMALL[2], "token.tok", "unstamped.p7s"]),
@@ -234,9 +236,10 @@ def measured(names, source=linking.of_here):
         folder.mkdir()
         programs = Programs(Path(place), {JOBS[name][0] for name in names} | {"cmsproof"}, source)
         measured_files.make(folder)
-        for name, words in ANSWERS.items():
-            asked = ran([Path(place) / "cmsproof.usual"], words, folder)[1]
-            (folder / f"{name}.answers").write_bytes(asked.replace(b"cmsproof questions 1", b"cmsproof answers 1", 1))
+        for name, commands in ANSWERS.items():
+            texts = [ran([Path(place) / "cmsproof.usual"], words, folder)[1] for words in commands]
+            lines = [line for text in texts for line in text.splitlines(keepends=True)[1:]]
+            (folder / f"{name}.answers").write_bytes(b"".join([b"cmsproof answers 1\n", *lines]))
         with ThreadPoolExecutor(slots) as pool:
             ordered = sorted(names, key=lambda it: (it not in HEAVY, it))
             for name, costs in zip(ordered, pool.map(lambda it: measure(it, programs, folder), ordered)):

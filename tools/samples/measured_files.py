@@ -7,8 +7,9 @@ import shutil
 from pathlib import Path
 
 from oracle.identifiers import DIGEST_OIDS
-from samples.building import CT, digest_alg, sha, signed_data, signer
+from samples.building import CT, digest_alg, names_2, sha, signed_data, signer
 from samples.recorded import Growing
+from samples.signed_files import LASTING
 
 TOP = Path(__file__).resolve().parent.parent.parent
 LARGE = 4 << 20
@@ -133,6 +134,10 @@ def make(folder):
     (folder / "recorded").write_bytes(octets_of("recorded", 3000))
     (folder / "record.ers").write_bytes(Growing(octets_of("recorded", 3000)).begin("20240115100000Z", make=in_tree).whole())
     (folder / "tsa.txt").write_text(f"cmsproof trust 1\ntsa {CT.hex()}\n", encoding="ascii")
+    # (a record of the first small file, later than its token)
+    under = Growing(parts.small(0)).begin("20270101000000Z", make=in_tree, names=[names_2(sha(LASTING))])
+    (folder / "under.ers").write_bytes(under.whole())
+    (folder / "under.txt").write_text(parts.trust(0) + f"tsa {LASTING.hex()}\n", encoding="ascii")
     shutil.copy(TOP / "bench" / "parts.txt", folder)
     for name, of in REAL.items():
         shutil.copy(TOP / "crates" / "real_files" / "data" / of, folder / name)

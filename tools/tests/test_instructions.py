@@ -14,7 +14,7 @@ from linking import Stopped
 from samples import measured_files
 
 # the SHA-256 of all names and digests of files
-FILES = "ab3692c65c049dac0dc3702d5cb103b38b3dc713bcc0b265ac0fe8d6500fd758"
+FILES = "d9add635ee91553af255d2f9032ee80190494b641c9cae5e4d3344aa843babc1"
 MISSING = instructions.missing
 # of callgrind, without what it says of itself: a cost, calls whose cost is that of others, and a position without a cost
 CALLGRIND = """events: Ir

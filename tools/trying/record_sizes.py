@@ -174,6 +174,7 @@ ROWS = [
     # (each is looked for among all)
     ("data of a group", group, 2 * STAMPS, SQUARED),
     ("data of a group, in order", group_in_order, 4 * STAMPS, IN_ORDER),
+    ("the whole group in order, --whole", lambda n: group(n, sorted), 10 * STAMPS, IN_ORDER),
     ("certificates of a token", lambda n: small(certificates=b"\x30\0" * n), VALUES, IN_ORDER),
     ("extensions of a TSTInfo", lambda n: small(extensions=building.extension(OTHER, b"", False) * n), VALUES, IN_ORDER),
     ("attributes of a time-stamp", lambda n: small(attributes=SMALL * n), VALUES, IN_ORDER),

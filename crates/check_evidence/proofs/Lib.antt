@@ -6,6 +6,7 @@ mod Tests
 mod Strides
 mod Searching
 mod Going
+mod Marking
 mod Climbing
 mod OneDigest
 mod Roots

@@ -1,23 +1,26 @@
-ghost use Rattle.std.specs.Prelude.{◌≡◌, ◌≢◌, ◌↔◌, ◌<◌, ℕ, List, [], true, IsTrue, IfSome, MatchOption};
+ghost use Rattle.std.specs.Prelude.{◌≡◌, ◌≢◌, ◌↔◌, ◌<◌, ℕ, List, [], true, false, length, IsTrue, IfSome, MatchOption};
 ghost use Rattle.std.specs.List.{list_all};
 ghost use Rattle.std.specs.Option.{option_copied};
 ghost use Rattle.der_core.specs.Lists.{is_same};
 ghost use Rattle.digests.specs.Digests.{alg_of, octets_of};
 ghost use Rattle.check_evidence.specs.CoveredValues.{AreValues, AreGiven};
 ghost use Rattle.check_evidence.specs.FirstValues.{HasFirst};
-ghost use Rattle.check_evidence.specs.ListTests.{is_among, are_long, IsSearchable};
+ghost use Rattle.check_evidence.specs.ListTests.{is_among, are_long, IsSearchable, AreMarked};
 ghost use Rattle.check_evidence.specs.Roots.{AreOne, IsCovered, HasNoOthers};
 ghost use Rattle.check_evidence.specs.Standing.{HasLengths};
 
 use crate::covered::Covered;
 use crate::hashing::is_ascending;
-use crate::search::is_found;
+use crate::search::find;
 use der_core::octets::is_same;
 use digests::{Alg, Digest};
 use evidence_types::{HashList, HashLists};
 
 // For so many values a list is only walked.
 const FEW: usize = 4;
+
+// So many values of a list have marks at a time.
+const MARKS: usize = 16_384;
 
 // Whether the value is one of these.
 fn is_among(values: &HashList, value: &[u8]) -> bool
@@ -55,7 +58,7 @@ fn is_listed(values: &HashList, size: usize, searched: bool, value: &[u8]) -> bo
     ensures { result ≡ is_among values.now value.now }
 {
     if searched {
-        is_found(values, size, value)
+        find(values, size, value).is_some()
     } else {
         is_among(values, value)
     }
@@ -94,7 +97,7 @@ fn is_of(value: &[u8], alg: Alg, covered: &Covered) -> bool
     false
 }
 
-// Whether each value is one that must be covered.
+// Whether each value is one that must be covered, among which it is looked for.
 fn are_of(values: &HashList, alg: Alg, covered: &Covered) -> bool
     requires { AreGiven alg covered.now }
     ensures { (due : List (List ℕ)) → AreValues alg covered.now due → result ≡ list_all (is_among due) values.now }
@@ -107,6 +110,107 @@ fn are_of(values: &HashList, alg: Alg, covered: &Covered) -> bool
         left = others;
     }
     true
+}
+
+// Marks the value, if it stands at a place that has a mark.
+fn mark(values: &HashList, size: usize, value: &[u8], marks: &mut [bool; MARKS])
+    requires short { size < 128 }
+    requires searchable { IsSearchable size values.now }
+    ensures { (due : List (List ℕ)) → is_among due value.now ≡ true → AreMarked due values.now marks.old
+        → AreMarked due values.now marks.new }
+{
+    let Some(place) = find(values, size, value) else {
+        return;
+    };
+    if place < MARKS {
+        marks[place] = true;
+    }
+}
+
+// Marks the values that must be covered.
+fn mark_covered(
+    values: &HashList,
+    size: usize,
+    alg: Alg,
+    covered: &Covered,
+    marks: &mut [bool; MARKS],
+)
+    requires short { size < 128 }
+    requires searchable { IsSearchable size values.now }
+    requires given { AreGiven alg covered.now }
+    ensures { (due : List (List ℕ)) → AreValues alg covered.now due → AreMarked due values.now marks.old
+        → AreMarked due values.now marks.new }
+{
+    let mut left = *covered;
+    while let Some((value, others)) = left.next(alg) {
+        mark(values, size, value.bytes(), marks);
+        left = others;
+    }
+}
+
+// The values behind those that have marks, if each of these is one that must be covered. It is not inlined, so that
+// the frame of no other call has the marks.
+#[inline(never)]
+fn pass_marked<'a>(
+    values: &HashList<'a>,
+    size: usize,
+    alg: Alg,
+    covered: &Covered,
+) -> Option<HashList<'a>>
+    requires short { size < 128 }
+    requires searchable { IsSearchable size values.now }
+    requires given { AreGiven alg covered.now }
+    ensures searchable { IfSome result (IsSearchable size) }
+    ensures fewer { IfSome result (λ left. 0 < length values.now → length left < length values.now) }
+    ensures passed { (due : List (List ℕ)) → AreValues alg covered.now due
+        → MatchOption result (list_all (is_among due) values.now ≡ false)
+        (λ left. list_all (is_among due) values.now ≡ list_all (is_among due) left) }
+{
+    let mut marks = [false; MARKS];
+    mark_covered(values, size, alg, covered, &mut marks);
+    let mut left = values.again();
+    for marked in &marks {
+        let Some((value, behind)) = left.next() else {
+            return Some(left);
+        };
+        if !*marked && !is_of(value.bytes(), alg, covered) {
+            return None;
+        }
+        left = behind;
+    }
+    Some(left)
+}
+
+// Whether each value of a list that is searched is one that must be covered: each of these is marked in the list, and
+// only a value without a mark is looked for among them.
+fn are_marked(values: &HashList, size: usize, alg: Alg, covered: &Covered) -> bool
+    requires short { size < 128 }
+    requires searchable { IsSearchable size values.now }
+    requires given { AreGiven alg covered.now }
+    ensures { (due : List (List ℕ)) → AreValues alg covered.now due → result ≡ list_all (is_among due) values.now }
+{
+    let mut left = values.again();
+    while !left.is_empty() {
+        let Some(further) = pass_marked(&left, size, alg, covered) else {
+            return false;
+        };
+        left = further;
+    }
+    true
+}
+
+// Whether each value is one that must be covered.
+#[tactic(auto, using(crate::proofs::Strides::digests_are_short))]
+fn are_all_of(values: &HashList, alg: Alg, covered: &Covered) -> bool
+    requires { AreGiven alg covered.now }
+    ensures { (due : List (List ℕ)) → AreValues alg covered.now due → result ≡ list_all (is_among due) values.now }
+{
+    let size = alg.length();
+    if is_searched(values, size, covered.len()) {
+        are_marked(values, size, alg, covered)
+    } else {
+        are_of(values, alg, covered)
+    }
 }
 
 // Whether each value that must be covered has these octets.
@@ -202,8 +306,9 @@ pub fn are_covered(lists: Option<&HashLists>, alg: Alg, covered: &Covered) -> bo
 }
 
 /// Whether the first of an archive time-stamp's lists has no value but those that must be covered, as where there are
-/// no lists (rule W8). It allocates nothing, and computes the values that must be covered once for each value of the
-/// list.
+/// no lists (rule W8). It allocates nothing. Of many values that must be covered each is searched for by bisection in a
+/// list in ascending order, once for each 16,384 of its values; for each value of another list, and for one that occurs
+/// again, all are computed anew.
 pub fn has_no_others(lists: Option<&HashLists>, alg: Alg, covered: &Covered) -> bool
     // The values can be computed by this algorithm.
     requires { AreGiven alg covered.now }
@@ -215,7 +320,7 @@ pub fn has_no_others(lists: Option<&HashLists>, alg: Alg, covered: &Covered) -> 
         return true;
     };
     match lists.next() {
-        Some((first, _)) => are_of(&first, alg, covered),
+        Some((first, _)) => are_all_of(&first, alg, covered),
         None => true,
     }
 }

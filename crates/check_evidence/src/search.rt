@@ -1,6 +1,6 @@
 //! Hash values looked for in a list by bisection, if they stand in ascending order and have one length: then each is
 //! at a place of its octets that is known.
-ghost use Rattle.std.specs.Prelude.{◌≡◌, ◌<◌, [], length, slice_index_or, All};
+ghost use Rattle.std.specs.Prelude.{◌≡◌, ◌<◌, [], length, slice_index_or, is_some, All, IfSome};
 ghost use Rattle.check_evidence.specs.ListTests.{is_among};
 ghost use Rattle.check_evidence.specs.Roots.{IsAscending};
 
@@ -22,12 +22,15 @@ fn value_at<'a>(values: &HashList<'a>, size: usize, place: usize) -> &'a [u8]
     &octets[start..start + size]
 }
 
-// Whether the value is one of these, which have this many octets and stand in ascending order.
-pub(crate) fn is_found(values: &HashList, size: usize, wanted: &[u8]) -> bool
+// The place of the value among these, which have this many octets and stand in ascending order: the first, if it
+// stands there more than once.
+pub(crate) fn find(values: &HashList, size: usize, wanted: &[u8]) -> Option<usize>
     requires short { size < 128 }
     requires lengths { All (λ v. length v ≡ size) values.now }
     requires ascending { IsAscending values.now }
-    ensures { result ≡ is_among values.now wanted.now }
+    ensures place { IfSome result (λ place. (place < length values.now)
+        × (slice_index_or values.now place [] ≡ wanted.now)) }
+    ensures found { is_some result ≡ is_among values.now wanted.now }
 {
     let count = values.len();
     let mut low = 0;
@@ -41,7 +44,11 @@ pub(crate) fn is_found(values: &HashList, size: usize, wanted: &[u8]) -> bool
         }
     }
     if low == count {
-        return false;
+        return None;
     }
-    is_same(value_at(values, size, low), wanted)
+    if is_same(value_at(values, size, low), wanted) {
+        Some(low)
+    } else {
+        None
+    }
 }

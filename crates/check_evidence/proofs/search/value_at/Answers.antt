@@ -1,4 +1,4 @@
-use Rattle.std.proofs.Common.{◌≡◌, ◌+◌, ◌-◌, ◌*◌, ◌<◌, ◌≤◌, ℕ, List, length, take, drop, [], ap, ◌∙◌, arith, rules}
+use Rattle.std.proofs.Common.{◌≡◌, ◌+◌, ◌-◌, ◌*◌, ◌≤◌, ℕ, List, length, take, drop, [], ap, ◌∙◌, arith, rules}
 use Rattle.check_evidence.proofs.Strides.{stride_fits, strides_at}
 use Rattle.check_evidence.proofs.search.value_at.Goals as goal
 use Rattle.check_evidence.proofs.search.value_at.Goals.{After-bytes-octets}

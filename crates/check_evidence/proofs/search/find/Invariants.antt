@@ -1,6 +1,6 @@
 use Rattle.std.proofs.Common.{◌≡◌, ◌≤◌, ◌<◌, ◌-◌, ℕ, true, false, get_or, [], length}
 use Rattle.der_core.specs.Lists.{is_less}
-use Rattle.check_evidence.proofs.search.is_found.Given as goal
+use Rattle.check_evidence.proofs.search.find.Given as goal
 
 -- those before `low` are before the value, and those from `high` on aren't
 abbrev pub invariant-loop-low : goal.invariant-loop-low

@@ -13,9 +13,11 @@ use der_core::tags::SEQUENCE;
 use digests::{Alg, Algs, Digest, Wanted, digest};
 use evidence_types::ArchiveTimeStamp;
 
-// The digest of two pieces, one after the other.
-fn digest_of_both(alg: Alg, first: &[u8], then: &[u8]) -> Digest
+/// The digest of two pieces, one after the other. It allocates nothing.
+pub fn digest_of_both(alg: Alg, first: &[u8], then: &[u8]) -> Digest
+    // It is by this algorithm.
     ensures algorithm { alg_of result ≡ alg }
+    // Its octets are the digest of both.
     ensures octets { octets_of result ≡ digest_of alg (first.now ++ then.now) }
 {
     let mut hashers = Wanted::new(Algs::none().with(alg));

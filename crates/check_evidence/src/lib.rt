@@ -13,7 +13,7 @@ mod search;
 mod sorting;
 
 pub use covered::Covered;
-pub use covering::{covered_after, covered_later, digest_of_chains};
+pub use covering::{covered_after, covered_later, digest_of_both, digest_of_chains};
 pub use hashing::{group_of, group_with, is_ascending};
 pub use laws::{evidence_rules_hold, records_are_judged, roots_are_unique};
 pub use list_root::{has_first, root_of, root_of_lists};

@@ -1,28 +1,14 @@
 ghost use Rattle.std.specs.Prelude.{◌≡◌, ◌≤◌, ◌<◌, ◌++◌, length, drop, IfOk, OnOk, All};
 ghost use Rattle.digests.specs.Algorithms.{length_of};
 ghost use Rattle.digests.specs.Digests.{alg_of, octets_of};
-ghost use Rattle.digests.specs.Messages.{digest_of};
 ghost use Rattle.evidence_trees.specs.HashTrees.{node_of, level_above, level_at};
 ghost use Rattle.evidence_trees.specs.Climbing.{levels};
 
 use crate::values::HashValues;
+use check_evidence::digest_of_both;
 use der_core::octets::is_less;
-use digests::{Alg, Algs, Digest, Wanted};
+use digests::{Alg, Digest};
 use std::alloc::AllocError;
-
-// The digest of two values, one after the other.
-fn joined(alg: Alg, first: &[u8], second: &[u8]) -> Digest
-    ensures algorithm { alg_of result ≡ alg }
-    ensures octets { octets_of result ≡ digest_of alg (first.now ++ second.now) }
-{
-    let mut hashers = Wanted::new(Algs::none().with(alg));
-    hashers.update(first);
-    hashers.update(second);
-    match hashers.finish().of(alg) {
-        Some(digest) => digest,
-        None => unreachable!(),
-    }
-}
 
 // The node of two values.
 fn node(alg: Alg, value: &[u8], other: &[u8]) -> Digest
@@ -30,9 +16,9 @@ fn node(alg: Alg, value: &[u8], other: &[u8]) -> Digest
     ensures octets { octets_of result ≡ node_of alg value.now other.now }
 {
     if is_less(other, value) {
-        joined(alg, other, value)
+        digest_of_both(alg, other, value)
     } else {
-        joined(alg, value, other)
+        digest_of_both(alg, value, other)
     }
 }
 

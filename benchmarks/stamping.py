@@ -12,7 +12,7 @@ Each line has the seconds of the processor, of the user and of the system, of al
 the clock, of which most are waiting: the program has the disk know each record before it has its name; and the most memory, in MB, of the tool,
 of one of its workers and of the program.
 
-A million files take 5 GB of a disk, 2,000,000 inodes, and a night.
+A million files take 5 GB of a disk, 2,000,000 inodes, and some hours.
 """
 from __future__ import annotations
 

@@ -53,7 +53,8 @@ def said(row: rows.Row) -> Optional[str]:
     if row.kind == "check":
         line, status = expected.check(row.octets("file"), terms, content, room)
     else:
-        ends = [(name, lists.end_of_period(last.encode())) for name, last in (end.split("=") for end in given.get("--end", []))]
+        pairs = [end.split("=") for end in given.get("--end", [])]
+        ends = [(name, lists.end_of_period(last.encode()) or "") for name, last in pairs]
         at = lists.end_of_period(given["--at"][0].encode()) if "--at" in given else None
         policy = evidence.Policy(ends, at)
         line, status = evidence.under(row.octets("record"), row.octets("file"), terms, policy, content, room)

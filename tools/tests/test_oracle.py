@@ -15,7 +15,8 @@ from unittest import mock
 
 TOP = Path(__file__).resolve().parent.parent.parent
 sys.path.insert(0, str(TOP / "tools"))
-from oracle import answers, der, evidence, expected, forms, identifiers, lists, openssl_judge, openssl_lines, rules  # noqa: E402
+from oracle import answers, der, evidence, expected, forms, identifiers, lists  # noqa: E402
+from oracle import openssl_judge, openssl_lines, rules  # noqa: E402
 from oracle import openssl_signed, real_stamps, records, rows, rules_rows, stamps_rows, under_rows  # noqa: E402
 from trying import verdicts  # noqa: E402
 

@@ -217,9 +217,9 @@ def evidence(row, place):
     put_answers(row, place, "evidence+questions+--trust+trusted.txt+record.er")
     words = words_of("evidence+check+--trust+trusted.txt+--answers+answers.txt")
     words += [*words_of(row.values.get("words", "")), "record.er"]
-    for number, part in enumerate(row.text("data").split(";")):
-        place.put(f"data-{number}", octets_of(part, row.blobs))
-        words.append(f"data-{number}")
+    for index, part in enumerate(row.text("data").split(";")):
+        place.put(f"data-{index}", octets_of(part, row.blobs))
+        words.append(f"data-{index}")
     return place.run(words).said()
 
 

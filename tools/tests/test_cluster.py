@@ -1,4 +1,5 @@
 """Tests of cmsproof-archive --dask on this machine: the same lines and rows, a worker that is killed, and one of another version."""
+import base64
 import functools
 import os
 import pickle
@@ -24,6 +25,12 @@ THERE = os.path.exists(PYTHON) and subprocess.run([PYTHON, "-c", ASKED], capture
 TRUST = REAL / "trust.txt"
 
 
+def lines(*names, verdicts=None):
+    """What is told of some files, or says that it is told of so many."""
+    verdicts = len(names) if verdicts is None else verdicts
+    return cluster.Lines(cluster.sum_of(names), (b"", (), 0, ["accepted"] * verdicts, [[]] * verdicts, []))
+
+
 class Answers(unittest.TestCase):
     """What a worker may answer."""
 
@@ -31,21 +38,36 @@ class Answers(unittest.TestCase):
         terms = cluster.Terms("t", "v", "/", (), False, False, False, False, False)
         a, b, none = [outcomes.Outcome("a", 0, "")], [outcomes.Outcome("b", 0, "")], []
         table = [
-            (("t", "v", [a, b]), True),
-            (("t", "v", [a, [*b, *b]]), True),
-            (("t", "v", [a, none]), True),
-            (("t", "v", [none, b]), False),
-            (("t", "v", [b, a]), False),
-            (("t", "v", [a, [*a, *b]]), False),
-            (("t", "v", [a]), False),
-            (("t", "v", [a, b, b]), False),
-            (("u", "v", [a, b]), False),
-            (("t", "w", [a, b]), False),
+            (("t", "v", [a, b]), 2),
+            (("t", "v", [a, [*b, *b]]), 2),
+            (("t", "v", [a, none]), 2),
+            (("t", "v", [none, b]), 0),
+            (("t", "v", [b, a]), 0),
+            (("t", "v", [a, [*a, *b]]), 0),
+            (("t", "v", [a, b, b]), 0),
+            (("u", "v", [a, b]), 0),
+            (("t", "w", [a, b]), 0),
+            (("t", "v", [lines("a", "b")]), 2),
+            (("t", "v", [lines("a"), b]), 2),
+            (("t", "v", [a, lines("b")]), 2),
+            (("t", "v", [lines("a"), none]), 2),
+            (("t", "v", [lines("a", "b"), lines()]), 2),
+            (("t", "v", [lines("b", "a")]), 0),
+            (("t", "v", [lines("a", "c")]), 0),
+            (("t", "v", [lines("a", "b"), none]), 0),
+            (("t", "v", [lines("a", "b", verdicts=3)]), 0),
+            (("t", "v", [lines("a", "b", verdicts=1), none]), 0),
+            (("u", "v", [lines("a", "b")]), 0),
+            (("t", "w", [lines("a", "b")]), 0),
+            # what is left is handed out anew
+            (("t", "v", [a]), 1),
+            (("t", "v", [lines("a")]), 1),
+            (("t", "v", []), 0),
         ]
         for part, expected in table:
             # (b is the content of another file: it need have no line)
-            self.assertEqual(cluster.fits(cluster.Part(*part), ["a", "b"], terms, frozenset("b")), expected, part)
-        self.assertFalse(cluster.fits(table[0][0], ["a", "b"], terms, frozenset()))
+            self.assertEqual(cluster.fitting(cluster.Part(*part), ["a", "b"], terms, frozenset("b")), expected, part)
+        self.assertEqual(cluster.fitting(table[0][0], ["a", "b"], terms, frozenset()), 0)
 
 
 class Lines(unittest.TestCase):
@@ -105,14 +127,15 @@ class Cluster(unittest.TestCase):
     def setUp(self):
         self.folder = folder_of(self)
         self.number = 0
-        self.started("scheduler", "--port", "0")
+        # (a file may end one worker by itself, and one with others)
+        self.started("scheduler", "--port", "0", DASK_DISTRIBUTED__SCHEDULER__ALLOWED_FAILURES="0")
         self.address = self.said("scheduler.0", r"Scheduler at: +(tcp://127\.0\.0\.1:[0-9]+)")
 
-    def started(self, what, *words, modules=MODULES):
+    def started(self, what, *words, modules=MODULES, **others):
         """Starts a scheduler or a worker, which is ended with the test."""
         command = [PYTHON, "-m", f"distributed.cli.dask_{what}", "--host", "127.0.0.1", "--no-dashboard", *words]
         with open(self.folder / f"{what}.{self.number}", "wb") as log:
-            environment = {**os.environ, "PYTHONPATH": str(modules)}
+            environment = {**os.environ, "PYTHONPATH": str(modules), **others}
             process = subprocess.Popen(command, stdout=log, stderr=log, env=environment, cwd=self.folder)
         self.number += 1
         self.addCleanup(process.wait, 20)
@@ -139,9 +162,9 @@ class Cluster(unittest.TestCase):
         """The words of a run."""
         return [PYTHON, INSTALLED / "cmsproof-archive", "--trust", TRUST, "--dask", self.address, *words]
 
-    def run_dask(self, *words):
+    def run_dask(self, *words, cwd=None):
         """The status of a run, its lines and what it says on standard error."""
-        done = subprocess.run(self.command(*words), cwd=self.folder, capture_output=True, check=False, timeout=120)
+        done = subprocess.run(self.command(*words), cwd=cwd or self.folder, capture_output=True, check=False, timeout=120)
         return done.returncode, done.stdout, done.stderr.decode()
 
     def other_version(self):
@@ -173,6 +196,57 @@ class Cluster(unittest.TestCase):
                 found.append([row._replace(judged=0) for row, _ in state.rows()])
         self.assertEqual(found[0], found[1])
         self.assertEqual(self.run_dask("--state", "by_dask", *names)[1], b"")
+
+    def test_what_is_said_beside_lines(self):
+        """All of it is as this machine says it, in another folder than that of the workers."""
+        self.worker()
+        folder = self.folder / "archive"
+        shutil.copytree(REAL, folder)
+        block = base64.encodebytes((REAL / "rsa_attached_ts.p7s").read_bytes())
+        (folder / "two.pem").write_bytes(b"-----BEGIN CMS-----\n%b-----END CMS-----\n" % block * 2)
+        # (the name of the first part is another file's too)
+        (folder / "two.pem block 1").write_bytes(b"")
+        (folder / "known").write_text("S10 rsa_attached.p7s\n")
+        names = [*sorted(path.name for path in folder.iterdir()), "missing", ".", *["rsa_attached_ts.p7s", "two.pem"] * 40]
+        for words in ([], ["--json"], ["--known", "known"], ["--explain", "--known", "known", "--json"]):
+            status, out, err = self.run_dask(*words, *names, cwd=folder)
+            command = [PYTHON, INSTALLED / "cmsproof-archive", "--trust", TRUST, "--jobs", "1", *words, *names]
+            here = subprocess.run(command, cwd=folder, capture_output=True, check=False)
+            self.assertEqual((status, out), (here.returncode, here.stdout), words)
+            # (and the last line, which says how many files there were)
+            self.assertEqual(err.splitlines()[:-1], here.stderr.decode().splitlines()[: len(err.splitlines()) - 1], words)
+        self.assertIn(rb"two.pem\x20block 1: ", self.run_dask("two.pem", cwd=folder)[1])
+
+    def begin_with(self, code):
+        """Has the workers that find this test's folder begin with some code."""
+        (self.folder / "sitecustomize.py").write_text(code + "\n")
+
+    def test_workers_that_leave_files(self):
+        """What takes them long they leave to others."""
+        names = [f"f{number}" for number in range(400)]
+        for name in names:
+            shutil.copyfile(REAL / ("rsa_attached.p7s" if name[-1] == "7" else "rsa_attached_ts.p7s"), self.folder / name)
+        self.begin_with("from cmsproof_tools import cluster\ncluster.LONGEST = -1.0")
+        self.worker(f"{self.folder}:{MODULES}")
+        status, out, err = self.run_dask(*names)
+        said = ["refused signer 1 S10 NoToken" if name[-1] == "7" else "accepted 20261122071759Z" for name in names]
+        self.assertEqual(out.decode().splitlines(), [f"{name}: {line}" for name, line in zip(names, said)], err)
+        self.assertEqual(status, 1)
+
+    def test_a_file_that_ends_workers(self):
+        """It has a line that says so, and costs no other file of its part."""
+        names = [f"f{number}" for number in range(70)]
+        for name in names:
+            shutil.copyfile(REAL / "rsa_attached_ts.p7s", self.folder / name)
+        self.begin_with(
+            "import os\ncalled = os.stat\nos.stat = lambda path, **w: os._exit(1) if str(path)[-4:] == '/f33' else called(path, **w)"
+        )
+        for _ in range(3):
+            self.worker(f"{self.folder}:{MODULES}")
+        status, out, err = self.run_dask(*names)
+        said = ["failed worker: it ended" if name == "f33" else "accepted 20261122071759Z" for name in names]
+        self.assertEqual(out.decode().splitlines(), [f"{name}: {line}" for name, line in zip(names, said)], err)
+        self.assertEqual(status, 4)
 
     def test_evidence_records(self):
         """The lines and the rows are those of this machine, wherever the workers are; a second run has nothing to do."""

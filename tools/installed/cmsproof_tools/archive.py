@@ -20,7 +20,7 @@ from cmsproof_tools.pairs import USUAL, Pairs, rows_of
 from cmsproof_tools.progress import Progress
 from cmsproof_tools.running import DONE, FAILED, MALFORMED, USAGE, Started, Stop, Words
 from cmsproof_tools.running import check_kept, module, read, shown, tell, write
-from cmsproof_tools.telling import Told, all_told, joined, told_beside, told_of
+from cmsproof_tools.telling import Told, all_told, told_beside, told_of
 from cmsproof_tools.workers import Workers
 
 if TYPE_CHECKING:
@@ -272,11 +272,10 @@ def outcomes(tool: str, given: Any, work: Work, names: Sequence[str], stack: Exi
     if own:
         raise Stop(USAGE, f"{shown(own[0])} is a descriptor, which workers of Dask do not have")
     cluster = module("cluster")
-    terms = cluster.terms_of(work)
+    terms = cluster.terms_of(work)._replace(json=given.json, known=is_known)
     if not names:
         return []
-    found = stack.enter_context(cluster.Cluster(tool, given.dask, work.trust.text, terms)).batches(names, work.contents)
-    return ([said for _, said in joined([told(outcomes) for outcomes in several])] for several in found)
+    return stack.enter_context(cluster.Cluster(tool, given.dask, work.trust.text, terms)).batches(names, work.contents, told)
 
 
 def run(tool: str, given: Any, work: Work, due: Sequence[str], resume: Resume | None, known: Known | None) -> int:

@@ -1,20 +1,22 @@
 #!/usr/bin/env python3
 """Times cmsproof-archive with and without a state, and with 1, 2 and 4 workers:
 
-    python3 benchmarks/states.py [--files N] [--pairs N] [--inside N] [--workers 1,2,4] [--rounds N] [--only jobs|beside|dask]
-        [--dask PYTHON] [--folder FOLDER]
+    python3 benchmarks/states.py [--files N] [--pairs N] [--inside N] [--workers 1,2,4] [--rounds N] [--only jobs|beside|dask|ratio]
+        [--state] [--dask PYTHON] [--folder FOLDER]
 
-It copies data/real/rsa_attached_ts.p7s, of 7,010 octets, into N files (20,000 by default) of a new folder (in FOLDER: of memory, say), and
-times, in turn, so that what else the machine does hits all alike: pairs of runs, one without and one with a new state, with as many jobs
+It copies data/real/rsa_attached_ts.p7s, of 7,010 octets, into N files (20,000 by default; more of them are other names of these) of a new
+folder (in FOLDER: of memory, say), and times, in turn, so that what else the machine does hits all alike: pairs of runs, one without and one with a new state, with as many jobs
 as there are processors; in this process, which does what the tool's processes do, groups of files without and with a state, each group in
 turn (--inside: so many rounds over all files); runs with so many jobs; beside them so many runs side by side with one job each, which
 share the files and nothing else, so that one sees what the machine gives; and with --dask, by a Python that has python3-distributed, runs
-by so many workers of a scheduler on the loopback. Python keeps compiled modules in the folder, as an installed package has them.
+by so many workers of a scheduler on the loopback, which that Python runs as all else then. Python keeps compiled modules in the folder, as
+an installed package has them.
 
-What is to be done 0 times is left out, and --only leaves one of the ways to have several workers. What a large archive costs by Dask, in
-some 3 minutes of a machine that has nothing else to do:
+What is to be done 0 times is left out, and --only leaves one of the ways to have several workers, or `ratio`: by Dask and by --jobs in turn,
+and how many files a second one does of the other, a worker. With --state each of these runs has a new state. How Dask compares, in some 2
+minutes of a machine that has nothing else to do:
 
-    python3 benchmarks/states.py --files 80000 --pairs 0 --rounds 2 --only dask --dask /usr/bin/python3 --folder /dev/shm
+    python3 benchmarks/states.py --files 300000 --pairs 0 --rounds 2 --workers 4 --only ratio --dask /usr/bin/python3 --folder /dev/shm
 
 Each line has the seconds on the clock and of the processor, of all processes, the files a second of both, and the load. Where others use
 the machine, the second of them says more: with N workers N times as many files a second are done as the processor's seconds allow.
@@ -49,6 +51,8 @@ from cmsproof_tools.state import Basis, State  # noqa: E402
 from cmsproof_tools.workers import MOST, PROTOCOL  # noqa: E402
 
 FILE = REAL / "rsa_attached_ts.p7s"
+# how many files are copies, of which the others are names
+COPIES = 20000
 # how little Dask watches itself, as docs/TOOLS.md has it
 QUIET = {"DASK_DISTRIBUTED__WORKER__PROFILE__ENABLED": "False", "DASK_DISTRIBUTED__ADMIN__TICK__INTERVAL": "1s"}
 
@@ -200,7 +204,7 @@ def started(python, folder, number, *words):
     return process, found[1]
 
 
-def time_dask(folder, count, python, workers):
+def time_dask(folder, count, python, workers, words=()):
     """Times one run by so many workers, which judge a few files before."""
     processes = []
     try:
@@ -209,7 +213,7 @@ def time_dask(folder, count, python, workers):
         for number in range(workers):
             processes.append(started(python, folder, number + 1, "worker", address, "--nthreads", "1", "--no-nanny")[0])
         run(folder, min(count, 400), ["--dask", address], python)
-        return run(folder, count, ["--dask", address], python, processes)
+        return run(folder, count, ["--dask", address, *words], python, processes)
     finally:
         for process in reversed(processes):
             process.kill()
@@ -218,13 +222,22 @@ def time_dask(folder, count, python, workers):
 
 def ways_of(folder, given):
     """What is timed for each number of workers, by the words of --only: what it is called, and how it is done."""
+    count, python = given.files, given.dask or sys.executable
+
+    def state():
+        """The words by which a run has a new state, if it is to have one."""
+        for path in folder.glob("kept*"):
+            path.unlink()
+        return ["--state", "kept"] if given.state else []
+
     ways = {
-        "jobs": ("--jobs", lambda number: run(folder, given.files, ["--jobs", number])),
-        "beside": ("side by side", lambda number: run(folder, given.files, ["--jobs", 1], runs=number)),
+        "jobs": ("--jobs", lambda number: run(folder, count, ["--jobs", number, *state()], python)),
+        "beside": ("side by side", lambda number: run(folder, count, ["--jobs", 1], python, runs=number)),
     }
     if given.dask is not None:
-        ways["dask"] = ("--dask", lambda number: time_dask(folder, given.files, given.dask, number))
-    return [way for word, way in ways.items() if given.only in (None, word)]
+        ways["dask"] = ("--dask", lambda number: time_dask(folder, count, python, number, state()))
+    meant = {None: ways, "ratio": ("jobs", "dask")}.get(given.only, (given.only,))
+    return [way for word, way in ways.items() if word in meant]
 
 
 def time_workers(folder, given, workers):
@@ -237,6 +250,16 @@ def time_workers(folder, given, workers):
                 found[what][number].append(timed(number))
     for what, times in found.items():
         scaled(what, given.files, times)
+    if {"--jobs", "--dask"} <= found.keys():
+        compared(found["--jobs"], found["--dask"])
+
+
+def compared(by_jobs, by_dask):
+    """Prints how many files a second Dask does of what --jobs does with as many workers: the median of each round's."""
+    for workers, pairs in ((number, list(zip(by_jobs[number], by_dask[number]))) for number in by_jobs):
+        clock, processor = ([jobs[place] / dask[place] for jobs, dask in pairs] for place in (0, 1))
+        of_all = f"{statistics.median(clock):.2f} on the clock, {statistics.median(processor):.2f} by the processor"
+        print(f"--dask {workers} of --jobs {workers}: {of_all}; each round's: {' '.join(f'{one:.2f}' for one in clock)}")
 
 
 def main():
@@ -247,17 +270,21 @@ def main():
     parser.add_argument("--rounds", default=3, type=int)
     parser.add_argument("--inside", default=0, type=int)
     parser.add_argument("--workers", default="1,2,4")
-    parser.add_argument("--only", choices=("jobs", "beside", "dask"))
+    parser.add_argument("--only", choices=("jobs", "beside", "dask", "ratio"))
+    parser.add_argument("--state", action="store_true")
     parser.add_argument("--dask")
     parser.add_argument("--folder")
     given = parser.parse_args()
-    if given.only == "dask" and given.dask is None:
-        parser.error("--only dask needs --dask PYTHON")
+    if given.only in ("dask", "ratio") and given.dask is None:
+        parser.error(f"--only {given.only} needs --dask PYTHON")
     workers = [int(number) for number in given.workers.split(",")]
     with tempfile.TemporaryDirectory(dir=given.folder) as temporary:
         folder = Path(temporary)
         for name in range(given.files):
-            shutil.copyfile(FILE, folder / f"{name}.p7s")
+            if name < COPIES:
+                shutil.copyfile(FILE, folder / f"{name}.p7s")
+            else:
+                os.link(folder / f"{name % COPIES}.p7s", folder / f"{name}.p7s")
         run(folder, 1, ["--state", "first"])
         shown("one file", 1, [run(folder, 1, ["--jobs", 1]) for _ in range(5)])
         if given.pairs:

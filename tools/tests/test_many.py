@@ -20,7 +20,7 @@ from cmsproof import ListRefused, TrustList, check, questions
 from cmsproof.calls import check_several
 from cmsproof.verdicts import Said
 from cmsproof.verifiers import ByCryptography, Vouching
-from cmsproof_tools import checking, descriptors, issuing, pairs, telling, verify, verifying
+from cmsproof_tools import checking, deciding, descriptors, issuing, pairs, telling, verify, verifying
 from cmsproof_tools.containers import twofold
 from cmsproof_tools.deciding import usual_grounds
 from cmsproof_tools.issuer_words import Asked
@@ -340,6 +340,24 @@ class Several(unittest.TestCase):
                     self.assertEqual(verifying.fault_in(line), None if line == good else verifying.UNHOLDING)
             self.assertLessEqual(max(len(verifying.BY_FIELDS), len(verifying.KEPT)), 2)
         self.keep_nothing()
+
+    def test_grounds_of_keys_with_several_algorithms(self):
+        """They are found once, in whatever order files come; and of no more are they kept than is said."""
+        trust, octets = TrustList.from_file(REAL / "trust.txt"), (REAL / "rsa_attached_ts.p7s").read_bytes()
+        first, second = (question.line for question in questions(octets, trust=trust).asked)
+        key, _, *rest = first.split(b" ")
+        several = [[b" ".join([key, b"300b060960864801650304020%d" % number, *rest]), second] for number in (1, 2, 3)]
+        noting = Noting(keys_of(trust.text), b"", {})
+        expected = [usual_grounds(octets, lines, noting._replace(usual={})) for lines in several]
+        self.assertEqual((len(set(expected)), len({lines[0][PLACE] for lines in several})), (3, 1))
+        for most, count in ((4096, 6), (2, 18)):
+            noting.usual.clear()
+            with mock.patch.object(deciding, "question_of", wraps=deciding.question_of) as asked:
+                with mock.patch.object(deciding, "MOST_KEPT", most):
+                    for _ in range(3):
+                        self.assertEqual([usual_grounds(octets, lines, noting) for lines in several], expected)
+                    self.assertLessEqual(len(noting.usual), most)
+            self.assertEqual(asked.call_count, count)
 
     def said_of_line(self, line):
         """What is said of a line, or the fault by which it is none."""

@@ -53,15 +53,30 @@ def usual_grounds(octets: Buffer, lines: Sequence[bytes], noting: Noting) -> str
     found = noting.usual.get(place)
     # (all octets of the keys and the algorithms are compared)
     if found is None or not first.startswith(found[0]) or not second.startswith(found[1]):
+        found = grounds_by_fields(first, second, noting)
+        keep(noting, place, found)
+    return found[2]
+
+
+def grounds_by_fields(first: bytes, second: bytes, noting: Noting) -> tuple[bytes, bytes, str]:
+    """The first three fields of both lines, and the grounds by these, which are kept: keys may have several algorithms, in any order."""
+    fields = fields_of(first), fields_of(second)
+    found = noting.usual.get(fields)
+    if found is None or found[:2] != fields:
         signer, token = question_of(0, first), question_of(0, second)
         listed = [noting.keys.get(("signer", signer.key), ()), noting.keys.get(("tsa", token.key), ())]
         holds = ("signer", listed[0], digest_of(signer.digest)), ("tsa", listed[1], digest_of(token.digest))
         decided = Decided(1, 1, sums_of(listed[1]), sums_of(listed[0]))
-        text = grounds_text(holds, (decided,)) if list(map(len, listed)) == [1, 1] else ""
-        found = fields_of(first), fields_of(second), text
-        if len(noting.usual) < MOST_KEPT:
-            noting.usual[place] = found
-    return found[2]
+        found = *fields, grounds_text(holds, (decided,)) if list(map(len, listed)) == [1, 1] else ""
+        keep(noting, fields, found)
+    return found
+
+
+def keep(noting: Noting, by: tuple[bytes, bytes], found: tuple[bytes, bytes, str]) -> None:
+    """Keeps grounds, of no more than is said."""
+    if len(noting.usual) >= MOST_KEPT:
+        noting.usual.clear()
+    noting.usual[by] = found
 
 
 def content_sum(line: str, vouched: Sequence[Question]) -> bytes:

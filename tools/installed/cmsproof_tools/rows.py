@@ -65,7 +65,7 @@ Record = tuple[int, int, str, bytes, bytes, str]
 class Noting(NamedTuple):
     """By what it is noted: the certificates of each role and key in the trust list, the SHA-256 of the content that is named for all
     files, and the grounds that were found for keys and algorithms of a signer and its token, behind the fields of both questions that have
-    these, by texts.PLACE in them."""
+    these: by these fields, and the last ones by texts.PLACE in both lines."""
 
     keys: dict[tuple[str, bytes], tuple[Listed, ...]]
     content: bytes

@@ -20,6 +20,8 @@ from cmsproof_tools.texts import time_in
 if TYPE_CHECKING:
     from cmsproof_tools.known import Known
 
+# where the mark is among the values of a row without the file's name
+MARK = Row._fields.index("mark") - 1
 DAY = re.compile(r"([0-9]{4})-([0-9]{2})-([0-9]{2})")
 
 
@@ -110,14 +112,11 @@ class Resume:
 
     def keep(self, name: str, kept: list[tuple[Any, ...]]) -> None:
         """Keeps the rows of all parts of the file of this name, which are given without it."""
-        if self.is_elsewhere or self.recheck:
-            rows = [Row._make((name, *values)) for values in kept]
-            if self.is_elsewhere:
-                here = self.mark_of(name)
-                rows = [row._replace(mark=seen_here(row.mark, here)) for row in rows]
-            if self.recheck:
-                self.warn(name, rows)
-            kept = [row[1:] for row in rows]
+        if self.is_elsewhere:
+            here = self.mark_of(name)
+            kept = [(*values[:MARK], seen_here(values[MARK], here), *values[MARK + 1 :]) for values in kept]
+        if self.recheck:
+            self.warn(name, [Row._make((name, *values)) for values in kept])
         self.forget_others(name)
         self.state.put_values(name, kept)
 

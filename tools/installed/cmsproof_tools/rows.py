@@ -122,6 +122,8 @@ def steady(found: os.stat_result, begun: int) -> str:
 def seen_here(mark: str, here: str) -> str:
     """The mark of files as this machine sees them, if another one, where a file system has another device number, saw the same;
     "" if not."""
+    if mark == here:
+        return here
     there, seen = [
         [[number for place, number in enumerate(one.split(" ")) if place != 3] for one in both.split("; ")]
         for both in (mark, here)

@@ -4,17 +4,17 @@
     python3 benchmarks/states.py [--files N] [--pairs N] [--inside N] [--workers 1,2,4] [--rounds N] [--only jobs|beside|dask|ratio]
         [--state] [--dask PYTHON] [--folder FOLDER]
 
-It copies data/real/rsa_attached_ts.p7s, of 7,010 octets, into N files (20,000 by default; more of them are other names of these) of a new
-folder (in FOLDER: of memory, say), and times, in turn, so that what else the machine does hits all alike: pairs of runs, one without and one with a new state, with as many jobs
-as there are processors; in this process, which does what the tool's processes do, groups of files without and with a state, each group in
-turn (--inside: so many rounds over all files); runs with so many jobs; beside them so many runs side by side with one job each, which
-share the files and nothing else, so that one sees what the machine gives; and with --dask, by a Python that has python3-distributed, runs
-by so many workers of a scheduler on the loopback, which that Python runs as all else then. Python keeps compiled modules in the folder, as
-an installed package has them.
+It copies data/real/rsa_attached_ts.p7s, of 7,010 octets, into N files (20,000 by default; more are other names of these) of a new folder
+(in FOLDER: of memory, say), and times, in turn, so that what else the machine does hits all alike: pairs of runs, one without and one with
+a new state, with as many jobs as there are processors; in this process, which does what the tool's processes do, groups of files without
+and with a state, each group in turn (--inside: so many rounds over all files); runs with so many jobs; beside them so many runs side by
+side with one job each, which share the files and nothing else, so that one sees what the machine gives; and with --dask, by a Python that
+has python3-distributed and then runs all else too, runs by so many workers of a scheduler on the loopback. Python keeps compiled modules
+in the folder, as an installed package has them.
 
-What is to be done 0 times is left out, and --only leaves one of the ways to have several workers, or `ratio`: by Dask and by --jobs in turn,
-and how many files a second one does of the other, a worker. With --state each of these runs has a new state. How Dask compares, in some 2
-minutes of a machine that has nothing else to do:
+What is to be done 0 times is left out, and --only leaves one of the ways to have several workers, or with `ratio` two of them: how many
+files a second Dask does of what --jobs does, a worker. With --state each of these runs has a new state. In some two minutes of a machine
+that has nothing else to do:
 
     python3 benchmarks/states.py --files 300000 --pairs 0 --rounds 2 --workers 4 --only ratio --dask /usr/bin/python3 --folder /dev/shm
 

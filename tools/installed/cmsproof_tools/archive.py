@@ -275,7 +275,9 @@ def outcomes(tool: str, given: Any, work: Work, names: Sequence[str], stack: Exi
     terms = cluster.terms_of(work)._replace(json=given.json, known=is_known)
     if not names:
         return []
-    return stack.enter_context(cluster.Cluster(tool, given.dask, work.trust.text, terms)).batches(names, work.contents, told)
+    others = stack.enter_context(cluster.Cluster(tool, given.dask, work.trust.text, terms))
+    found: Iterable[list[Told]] = others.batches(names, work.contents, told)
+    return found
 
 
 def run(tool: str, given: Any, work: Work, due: Sequence[str], resume: Resume | None, known: Known | None) -> int:

@@ -31,7 +31,7 @@ AHEAD, WAITED = 4, 60.0
 
 class Terms(NamedTuple):
     """By what files are judged: the SHA-256 of the trust list, the versions of all that judges, the folder of relative names, and
-    what Work has of the user's words; whether a state keeps what is said; whether lines are of JSON, and refusals may be acknowledged."""
+    what Work has of the user's words; whether a state keeps what is said, lines are of JSON, refusals may be acknowledged."""
 
     trust: str
     versions: str
@@ -97,6 +97,7 @@ def as_named(outcome: Outcome, name: str, folder: str) -> Outcome:
     if os.path.isabs(name):
         return outcome if outcome.name == name else outcome._replace(name=name)
     inside = os.path.join(folder, "")
+    # (so it is of nearly all files: the folder is in none of its texts)
     if not outcome.notes and not outcome.content and " /" not in outcome.line:
         return tuple.__new__(Outcome, (name, *outcome[1:]))
     line, *notes = (text.replace(f" {shown(inside)}", " ", 1) for text in (outcome.line, *outcome.notes))
@@ -133,7 +134,7 @@ def judge(
     names: list[str], trusted: bytes, terms: Terms, contents: frozenset[str] = frozenset(), is_told: bool = False
 ) -> Part:
     """Judges the files of these names, of which some are contents of others. Nothing is judged by another list or version than the
-    terms say: nothing is said then. If it `is_told`, lines are said where that is all, and what takes long is left to be handed out anew."""
+    terms say: nothing is said then. If it `is_told`, lines are said where that is all, and files are left if they take long."""
     trust, versions, begun = hashlib.sha256(trusted).hexdigest(), versions_text(), time.monotonic()
     if (trust, versions) != (terms.trust, terms.versions):
         return Part(trust, versions, [])
@@ -144,8 +145,11 @@ def judge(
         group = names[at : at + MOST]
         found = all_noted(work, outcomes_of_several(work, [os.path.join(terms.folder, name) for name in group]))
         named = [[as_named(outcome, name, terms.folder) for outcome in outcomes] for name, outcomes in zip(group, found)]
-        said += as_lines(named, terms) if is_told else named
-        if is_told and time.monotonic() - begun > LONGEST:
+        if not is_told:
+            said += named
+            continue
+        said += as_lines(named, terms)
+        if time.monotonic() - begun > LONGEST:
             break
     return Part(trust, versions, said, time.monotonic() - begun)
 

@@ -200,22 +200,38 @@ class Cluster(unittest.TestCase):
     def test_what_is_said_beside_lines(self):
         """All of it is as this machine says it, in another folder than that of the workers."""
         self.worker()
-        folder = self.folder / "archive"
+        folder, octets = self.folder / "archive", (REAL / "rsa_attached_ts.p7s").read_bytes()
         shutil.copytree(REAL, folder)
-        block = base64.encodebytes((REAL / "rsa_attached_ts.p7s").read_bytes())
-        (folder / "two.pem").write_bytes(b"-----BEGIN CMS-----\n%b-----END CMS-----\n" % block * 2)
-        # (the name of the first part is another file's too)
-        (folder / "two.pem block 1").write_bytes(b"")
-        (folder / "known").write_text("S10 rsa_attached.p7s\n")
+        coded = base64.encodebytes(octets)
+        head = b"Content-Type: application/pkcs7-mime; smime-type=signed-data\nContent-Transfer-Encoding: base64\n\n"
+        for name, text in (
+            ("two.pem", b"-----BEGIN CMS-----\n%b-----END CMS-----\n" % coded * 2),
+            (
+                "mixed.eml",
+                b"MIME-Version: 1.0\nContent-Type: multipart/mixed; boundary=x\n\n--x\n%b%b\n--x--\n" % (head, coded),
+            ),
+            # (the names of these parts are other files' too)
+            ("two.pem block 1", b""),
+            ("mixed.eml part 1", b""),
+            ("twice.p7s", octets),
+            ("twice", b""),
+            ("mail.eml", b"MIME-Version: 1.0\n\n"),
+        ):
+            (folder / name).write_bytes(text)
+        (folder / "known").write_text("S10 rsa_attached.p7s\nS10 rsa_detached.p7s\n")
         names = [*sorted(path.name for path in folder.iterdir()), "missing", ".", *["rsa_attached_ts.p7s", "two.pem"] * 40]
+        refused = ["rsa_attached.p7s"] * 30 + names[:2]
         for words in ([], ["--json"], ["--known", "known"], ["--explain", "--known", "known", "--json"]):
-            status, out, err = self.run_dask(*words, *names, cwd=folder)
-            command = [PYTHON, INSTALLED / "cmsproof-archive", "--trust", TRUST, "--jobs", "1", *words, *names]
-            here = subprocess.run(command, cwd=folder, capture_output=True, check=False)
-            self.assertEqual((status, out), (here.returncode, here.stdout), words)
-            # (and the last line, which says how many files there were)
-            self.assertEqual(err.splitlines()[:-1], here.stderr.decode().splitlines()[: len(err.splitlines()) - 1], words)
-        self.assertIn(rb"two.pem\x20block 1: ", self.run_dask("two.pem", cwd=folder)[1])
+            for some in (names, refused):
+                status, out, err = self.run_dask(*words, *some, cwd=folder)
+                command = [PYTHON, INSTALLED / "cmsproof-archive", "--trust", TRUST, "--jobs", "1", "--progress", *words, *some]
+                here = subprocess.run(command, cwd=folder, capture_output=True, check=False)
+                said = [[line for line in text.splitlines() if " left" not in line] for text in (err, here.stderr.decode())]
+                self.assertEqual((status, out, said[0]), (here.returncode, here.stdout, said[1]), words)
+        lines = self.run_dask("two.pem", "mixed.eml", cwd=folder)[1].decode().splitlines()
+        self.assertEqual(
+            [line.partition(": ")[0] for line in lines], [r"two.pem\x20block 1", "two.pem block 2", r"mixed.eml\x20part 1"]
+        )
 
     def begin_with(self, code):
         """Has the workers that find this test's folder begin with some code."""

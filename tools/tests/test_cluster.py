@@ -220,14 +220,17 @@ class Cluster(unittest.TestCase):
             (folder / name).write_bytes(text)
         (folder / "known").write_text("S10 rsa_attached.p7s\nS10 rsa_detached.p7s\n")
         names = [*sorted(path.name for path in folder.iterdir()), "missing", ".", *["rsa_attached_ts.p7s", "two.pem"] * 40]
-        refused = ["rsa_attached.p7s"] * 30 + names[:2]
-        for words in ([], ["--json"], ["--known", "known"], ["--explain", "--known", "known", "--json"]):
-            for some in (names, refused):
-                status, out, err = self.run_dask(*words, *some, cwd=folder)
-                command = [PYTHON, INSTALLED / "cmsproof-archive", "--trust", TRUST, "--jobs", "1", "--progress", *words, *some]
-                here = subprocess.run(command, cwd=folder, capture_output=True, check=False)
+        refused = ["rsa_attached.p7s"] * 30
+        acknowledged = ["--known", "known", "--state"]
+        for number, words in enumerate(([], ["--json"], acknowledged, ["--explain", "--json", *acknowledged])):
+            for some in (names, refused + names[:2], refused):
+                kept = [[f"../{where}{number}.{len(some)}"] if words[-1:] == ["--state"] else [] for where in ("there", "here")]
+                status, out, err = self.run_dask(*words, *kept[0], *some, cwd=folder)
+                command = [PYTHON, INSTALLED / "cmsproof-archive", "--trust", TRUST, "--jobs", "1", "--progress"]
+                here = subprocess.run([*command, *words, *kept[1], *some], cwd=folder, capture_output=True, check=False)
                 said = [[line for line in text.splitlines() if " left" not in line] for text in (err, here.stderr.decode())]
                 self.assertEqual((status, out, said[0]), (here.returncode, here.stdout, said[1]), words)
+                self.assertEqual(status, 4 if some is names else 5 if kept[0] and some is refused else 1)
         lines = self.run_dask("two.pem", "mixed.eml", cwd=folder)[1].decode().splitlines()
         self.assertEqual(
             [line.partition(": ")[0] for line in lines], [r"two.pem\x20block 1", "two.pem block 2", r"mixed.eml\x20part 1"]

@@ -9,12 +9,13 @@ import subprocess
 import sys
 import time
 import unittest
+from unittest import mock
 
 from making import INSTALLED, MODULES, REAL, TOP, folder_of, need_tools, run_tool
 
 need_tools()
 
-from cmsproof_tools import cluster, outcomes, rows
+from cmsproof_tools import cluster, outcomes, rows, versions
 from cmsproof_tools.state import State
 
 HAS_DASK = subprocess.run([sys.executable, "-c", "import distributed"], capture_output=True, check=False).returncode == 0
@@ -118,6 +119,20 @@ class Lines(unittest.TestCase):
         for other, said in ((trusted + b"# another\n", terms), (trusted, terms._replace(versions="another"))):
             with self.assertRaises(RuntimeError):
                 list(cluster.lines_of(iter([str(REAL / "rsa_attached_ts.p7s")]), other, said))
+
+    def test_a_worker_beside_which_other_code_was_installed(self):
+        """It has the old one, and judges by neither."""
+        trusted, names = TRUST.read_bytes(), [str(REAL / "rsa_attached_ts.p7s")]
+        terms = cluster.terms_for(trusted)
+        self.assertEqual(len(cluster.judge(names, trusted, terms).said), 1)
+        with mock.patch.object(versions, "digest_of_code", return_value="mended"):
+            for other in (terms, cluster.terms_for(trusted)):
+                part = cluster.judge(names, trusted, other)
+                self.assertEqual(
+                    (list(part.said), "mended" in part.versions, terms.versions in part.versions), ([], True, True)
+                )
+                self.assertEqual(cluster.fitting(part, names, other, frozenset()), 0)
+        self.assertEqual(len(cluster.judge(names, trusted, terms).said), 1)
 
 
 @unittest.skipUnless(THERE, "there is no python3-distributed")

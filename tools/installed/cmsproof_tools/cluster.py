@@ -19,7 +19,7 @@ from cmsproof_tools.pairs import USUAL, Pairs
 from cmsproof_tools.rows import Noting, keys_of
 from cmsproof_tools.running import FAILED, Stop, shown, tell
 from cmsproof_tools.telling import Told, joined, quietly_told
-from cmsproof_tools.versions import versions_text
+from cmsproof_tools.versions import versions_text, versions_told
 from cmsproof_tools.workers import MOST, PROTOCOL
 
 # how many files are handed out at a time, at least and at most, of how many characters, and for how many seconds: each part takes Dask as
@@ -135,7 +135,7 @@ def judge(
 ) -> Part:
     """Judges the files of these names, of which some are contents of others. Nothing is judged by another list or version than the
     terms say: nothing is said then. If it `is_told`, lines are said where that is all, and files are left if they take long."""
-    trust, versions, begun = hashlib.sha256(trusted).hexdigest(), versions_text(), time.monotonic()
+    trust, versions, begun = hashlib.sha256(trusted).hexdigest(), versions_told(), time.monotonic()
     if (trust, versions) != (terms.trust, terms.versions):
         return Part(trust, versions, [])
     inside = frozenset(os.path.join(terms.folder, name) for name in contents)
@@ -269,7 +269,7 @@ class Cluster:
         end = time.monotonic() + WAITED
         while True:
             there = [worker for worker in self.client.scheduler_info()["workers"] if worker not in self.refused]
-            said = self.client.run(versions_text, workers=there, on_error="return") if there else {}
+            said = self.client.run(versions_told, workers=there, on_error="return") if there else {}
             for worker, versions in said.items():
                 if versions != self.terms.versions:
                     self.refuse(worker, f"it has {shown(str(versions)[:300])}, and this is {self.terms.versions}")
@@ -326,7 +326,7 @@ class Cluster:
 
     def due(self, names: Sequence[str], at: int) -> list[str]:
         """The names that are handed out next, from this place on. The last parts are small, so that all workers end at about the same time."""
-        size = max(LEAST, self.size // SHARE, (len(names) - at) // (AHEAD * len(self.workers)))
+        size = max(LEAST, self.size // SHARE, (len(names) - at) // (2 * len(self.workers)))
         part = list(names[at : at + min(self.size, size)])
         while len(part) > 1 and sum(map(len, part)) > ROOM:
             part = part[: len(part) // 2]

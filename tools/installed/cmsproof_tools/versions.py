@@ -52,3 +52,15 @@ def versions() -> dict[str, str]:
 def versions_text() -> str:
     """The versions on one line."""
     return ", ".join(f"{name} {version}" for name, version in versions().items())
+
+
+# what was said first, when the code was read that this process has
+FIRST: list[str] = []
+
+
+def versions_told() -> str:
+    """The versions on one line, as one process tells them another: and how they were before, if other code was installed beside a process
+    that stays, which has read the old one."""
+    now = versions_text()
+    FIRST[:] = FIRST or [now]
+    return now if FIRST == [now] else f"{FIRST[0]}, and installed since {now}"

@@ -14,4 +14,5 @@ pub use laws::{
     entries_count_beside, tokens_pass_under, under_answers_suffice, under_is_judged,
     under_rows_hold,
 };
+pub use policy::policy_at;
 pub use refused::UnderRefused;

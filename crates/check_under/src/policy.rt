@@ -10,7 +10,7 @@ use der_time::Moment;
 use digests::{Alg, Algs};
 use evidence_stamps::{End, alg_holds};
 
-// The set with an algorithm that isn't in it yet, if that holds at the moment.
+/// The set with an algorithm that isn't in it yet, if that holds at the moment.
 fn with_held(set: Algs, alg: Alg, ends: &[End], moment: Moment) -> Algs
     requires { is_in alg set ≡ false }
     ensures its { IsTrue (is_in alg result) ↔ AlgHolds ends.now alg moment }
@@ -23,7 +23,7 @@ fn with_held(set: Algs, alg: Alg, ends: &[End], moment: Moment) -> Algs
     }
 }
 
-// The algorithms that hold at a moment.
+/// The algorithms that hold at a moment.
 fn algs_at(ends: &[End], moment: Moment) -> Algs
     ensures { (alg : Alg) → IsTrue (is_in alg result) ↔ AlgHolds ends.now alg moment }
 {
@@ -36,8 +36,8 @@ fn algs_at(ends: &[End], moment: Moment) -> Algs
     with_held(set, Alg::Sha512_256, ends, moment)
 }
 
-/// The policy that allows an algorithm exactly if it holds at a moment, by the ends that the user gives.
-pub(crate) fn policy_at(ends: &[End], moment: Moment) -> Policy
+/// The policy that allows an algorithm exactly if it holds at a moment, by the ends that are given.
+pub fn policy_at(ends: &[End], moment: Moment) -> Policy
     ensures { AllowsAt ends.now moment result }
 {
     Policy {

@@ -13,7 +13,6 @@ mod held;
 mod lists;
 mod matching;
 mod new_chain;
-mod policy;
 mod questions;
 mod record;
 mod renewal;

@@ -3,7 +3,7 @@ use Rattle.std.proofs.Common.{◌≡◌, ℕ, List, Option, Some, subst}
 use Rattle.evidence_trees.specs.HashTrees.{HashTree}
 use Rattle.cli_failures.specs.declared.failure.Failure.{Failure}
 use Rattle.library_answers.specs.declared.answer.Answer.{Answer}
-use Rattle.library_calls.specs.Trees.{IsToldOf}
+use Rattle.library_records.specs.Trees.{IsToldOf}
 use Rattle.cmsproof_c.specs.Trees.{TellsBy}
 
 -- what is told by a tree that was taken out of its handle is told by what the handle held

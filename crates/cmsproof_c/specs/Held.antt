@@ -6,11 +6,11 @@ use Rattle.library_answers.specs.declared.answer.Answer.{Answer}
 use Rattle.library_answers.specs.Numbers.{nothing}
 use Rattle.library_calls.specs.Checked.{handed, terms_under, IsChecked}
 use Rattle.library_calls.specs.CheckedTokens.{IsTokenChecked}
-use Rattle.library_calls.specs.Evidence.{IsEvidenceChecked, IsEvidenceQuestioned}
+use Rattle.library_records.specs.Evidence.{IsEvidenceChecked, IsEvidenceQuestioned}
 use Rattle.library_calls.specs.Questions.{IsQuestioned}
 use Rattle.library_calls.specs.Stamps.{IsStampChecked, IsStampQuestioned}
-use Rattle.library_calls.specs.Stated.{EvidenceCheck}
-use Rattle.library_calls.specs.Under.{IsUnderChecked, UnderCheck}
+use Rattle.library_records.specs.Stated.{EvidenceCheck}
+use Rattle.library_records.specs.Under.{IsUnderChecked, UnderCheck}
 
 -- the number of entries, with status 1; without a list 0, and status 8
 abbrev pub CountsEntries : (held : Option (List EntryValue)) → (count status : ℕ) → Type 0

@@ -4,7 +4,7 @@ use Rattle.evidence_trees.specs.HashTrees.{HashTree}
 use Rattle.cli_failures.specs.declared.failure.Failure.{Failure}
 use Rattle.library_answers.specs.declared.answer.Answer.{Answer}
 use Rattle.library_answers.specs.Failures.{IsMade}
-use Rattle.library_calls.specs.Trees.{IsToldOf}
+use Rattle.library_records.specs.Trees.{IsToldOf}
 use Rattle.cmsproof_c.specs.Held.{SaysNoList}
 
 -- with a tree its root; without one nothing

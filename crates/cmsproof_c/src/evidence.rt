@@ -1,13 +1,13 @@
 ghost use Rattle.std.specs.Prelude.{◌≡◌, ℕ, List, IfSome};
 ghost use Rattle.trust_lists.specs.Asking.{Asked};
-ghost use Rattle.library_calls.specs.Evidence.{AnswersAlike, IsEvidenceChecked, SaysShown};
+ghost use Rattle.library_records.specs.Evidence.{AnswersAlike, IsEvidenceChecked, SaysShown};
 ghost use Rattle.cmsproof_c.specs.Held.{AsksEvidence, IsEvidenceCheck, VouchesSame, stated};
 
 use crate::answers_handle::AnswersHandle;
 use crate::lists::take_both;
 use crate::trust_handle::TrustHandle;
 use library_answers::{Answer, NO_LIST, Told};
-use library_calls::{EvidenceInput, tell_evidence_check, tell_evidence_questions};
+use library_records::{EvidenceInput, tell_evidence_check, tell_evidence_questions};
 use std::alloc::Global;
 
 /// Takes the lists out of their handles, checks the evidence record under them, and puts them back.

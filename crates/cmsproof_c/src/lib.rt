@@ -1,6 +1,6 @@
-//! The checker for C: the exports of `library_calls`, each of which says again what the call there says, over what the
-//! pointers hold, and the lists that callers hold. `include/cmsproof.h` declares the calls, and says what a caller
-//! owes.
+//! The checker for C: the exports of `library_calls` and `library_records`, each of which says again what the call there
+//! says, over what the pointers hold, and the lists that callers hold. `include/cmsproof.h` declares the calls, and says
+//! what a caller owes.
 #![tactic(auto)]
 
 /// What is told of the tree of a handle: it is taken out, and put back then. Without one nothing is told.

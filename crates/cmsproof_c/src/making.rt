@@ -1,13 +1,13 @@
 ghost use Rattle.std.specs.Prelude.{◌≡◌};
-ghost use Rattle.library_calls.specs.Trees.{IsToldOf};
-ghost use Rattle.library_calls.specs.Records.{IsRecordOf, MakesNoRecord};
-ghost use Rattle.library_calls.specs.Renewals.{HasNoLast, HasNoLeaf, IsAlgorithmOf, IsLeafOf, IsRenewed, RenewsNot};
-ghost use Rattle.library_calls.specs.NewChains.{HasNoNewLeaf, IsNewLeafOf, IsRehashed, RehashesNot};
+ghost use Rattle.library_records.specs.Trees.{IsToldOf};
+ghost use Rattle.library_records.specs.Records.{IsRecordOf, MakesNoRecord};
+ghost use Rattle.library_records.specs.Renewals.{HasNoLast, HasNoLeaf, IsAlgorithmOf, IsLeafOf, IsRenewed, RenewsNot};
+ghost use Rattle.library_records.specs.NewChains.{HasNoNewLeaf, IsNewLeafOf, IsRehashed, RehashesNot};
 ghost use Rattle.cmsproof_c.specs.Trees.{TellsBy};
 
 use crate::tree_handle::TreeHandle;
 use library_answers::{Answer, NO_LIST, Told};
-use library_calls::{
+use library_records::{
     tell_record, tell_rehash_leaf, tell_rehashed, tell_renewal_algorithm, tell_renewal_leaf,
     tell_renewed,
 };

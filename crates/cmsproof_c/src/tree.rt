@@ -1,10 +1,10 @@
 ghost use Rattle.std.specs.Prelude.{◌≡◌, None};
-ghost use Rattle.library_calls.specs.Trees.{ReadsTree};
+ghost use Rattle.library_records.specs.Trees.{ReadsTree};
 ghost use Rattle.cmsproof_c.specs.Trees.{TellsRoot};
 
 use crate::tree_handle::TreeHandle;
 use library_answers::{Answer, DONE, NO_LIST, NO_MEMORY, Told};
-use library_calls::{read_tree, tell_root};
+use library_records::{read_tree, tell_root};
 use std::alloc::Global;
 
 /// Puts the tree over digests into an empty handle.

@@ -1,6 +1,6 @@
 ghost use Rattle.std.specs.Prelude.{◌≡◌, ℕ, List, IfSome};
 ghost use Rattle.trust_lists.specs.Asking.{Asked};
-ghost use Rattle.library_calls.specs.Under.{AnswersUnderAlike, IsUnderChecked, SaysYesUnder};
+ghost use Rattle.library_records.specs.Under.{AnswersUnderAlike, IsUnderChecked, SaysYesUnder};
 ghost use Rattle.cmsproof_c.specs.Held.{IsUnderCheck, VouchesSame, stated_under};
 
 use crate::answers_handle::AnswersHandle;
@@ -8,7 +8,8 @@ use crate::lists::take_both;
 use crate::trust_handle::TrustHandle;
 use check_under::under_answers_suffice;
 use library_answers::{Answer, NO_LIST, Told};
-use library_calls::{Input, UnderInput, tell_check_under};
+use library_calls::Input;
+use library_records::{UnderInput, tell_check_under};
 use std::alloc::Global;
 
 /// Takes the lists out of their handles, checks the file under the evidence record, and puts them back.

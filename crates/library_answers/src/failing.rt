@@ -1,6 +1,6 @@
 //! How a call says that it failed, or what it made.
 
-ghost use Rattle.std.specs.Prelude.{◌≡◌, IfSome};
+ghost use Rattle.std.specs.Prelude.{◌≡◌, IfSome, MatchResult};
 ghost use Rattle.cli_failures.specs.Failures.{failure_text};
 ghost use Rattle.library_answers.specs.Failures.{fault_numbers, message_number, compare_rule_numbers};
 ghost use Rattle.library_answers.specs.Failures.{uncompared_numbers};
@@ -247,5 +247,17 @@ pub fn tell_unmade(alloc: Global, failure: &Failure, room: &mut [u8]) -> Told
         status,
         size: line.len(),
         said,
+    }
+}
+
+/// Puts what was made into its room, or says why nothing was.
+pub fn tell_result(alloc: Global, made: Result<Vec<u8>, Failure<'static>>, room: &mut [u8]) -> Told
+    ensures { MatchResult made.entry
+        (λ octets. IsMade octets.items result.said result.status room.old result.size room.new)
+        (λ why. IsUnmade why result.said result.status room.old result.size room.new) }
+{
+    match made {
+        Ok(octets) => tell_made(&octets, room),
+        Err(why) => tell_unmade(alloc, &why, room),
     }
 }

@@ -1,10 +1,11 @@
 ghost use Rattle.std.specs.Prelude.{◌≡◌, IfSome, option_map};
 ghost use Rattle.trust_lists.specs.Asking.{is_among};
+ghost use Rattle.check_verdict.specs.Checkers.{terms_for};
 ghost use Rattle.library_calls.specs.Checked.{handed, terms_under, IsKnownVerdict, IsChecked};
 
 use crate::held::HeldTrust;
 use check_fit::Refused;
-use check_verdict::{Accepted, judge_file};
+use check_verdict::{Accepted, Checker, judge_file};
 use devices::{Slice, Source};
 use library_answers::{Told, tell_verdict};
 use list_answers::Answers;
@@ -33,6 +34,24 @@ pub(crate) fn source_of<'a>(given: bool, content: &'a [u8]) -> Option<Slice<'a>>
     }
 }
 
+/// The verdict about a file and its content by a checker, with an answers list.
+pub fn judge_input(
+    input: Input,
+    checker: &mut Checker,
+    asked: &mut Answers,
+) -> Result<Accepted, Refused>
+    // The verdict of the definitions; no device fails, but a content can be too long.
+    ensures verdict { IsKnownVerdict (terms_for checker.old (is_among asked.old)) input.entry.file.now
+        (handed input.entry.given input.entry.content.now) result }
+    // What the check goes by stays the same.
+    ensures stays { checker.new ≡ checker.old }
+    // The answers list vouches for what it vouched for.
+    ensures same { is_among asked.new ≡ is_among asked.old }
+{
+    let mut source = source_of(input.given, input.content);
+    judge_file(input.file, &mut source, checker, asked)
+}
+
 /// The verdict about a file and its content under these lists.
 fn file_verdict(
     list: &mut HeldTrust,
@@ -45,9 +64,8 @@ fn file_verdict(
     ensures list { list.new ≡ list.old }
     ensures same { is_among asked.new ≡ is_among asked.old }
 {
-    let mut source = source_of(input.given, input.content);
     let mut checker = list.checker(sha1);
-    let verdict = judge_file(input.file, &mut source, &mut checker, asked);
+    let verdict = judge_input(input, &mut checker, asked);
     let kept = checker.into_kept();
     list.keep(kept);
     verdict

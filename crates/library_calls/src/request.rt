@@ -1,5 +1,4 @@
-ghost use Rattle.std.specs.Prelude.{◌≡◌, ◌⊎◌, IfOk, IfErr, IfSome, MatchResult, true};
-ghost use Rattle.std.specs.Prelude.{option_map};
+ghost use Rattle.std.specs.Prelude.{◌≡◌, ◌⊎◌, IfOk, IfErr, IfSome, true, option_map};
 ghost use Rattle.der_core.specs.Contents.{is_integer, is_oid};
 ghost use Rattle.digests.specs.declared.algorithm.Alg.{Alg};
 ghost use Rattle.digests.specs.Algorithms.{name_of};
@@ -7,19 +6,18 @@ ghost use Rattle.digests.specs.Digests.{alg_of};
 ghost use Rattle.library_calls.specs.Requests.{IsGiven, IsHashed, IsPolicy, IsNonce, RefusesAlg, RefusesDigest};
 ghost use Rattle.library_calls.specs.Requests.{RefusesPolicy, RefusesNonce, IsRequestOf, RefusesValues, IsRequested};
 ghost use Rattle.library_calls.specs.Requests.{IsRequestOfSignature, RefusesSignature, IsSignatureRequested};
-ghost use Rattle.library_answers.specs.Failures.{IsMade, IsUnmade};
 
 use cli_failures::Failure;
 use cli_failures::request::{policy_in, policy_of, request_of};
 use cli_failures::signature::digest_of;
 use der_core::Int;
 use digests::{Alg, Digest, digest};
-use library_answers::{Told, tell_made, tell_unmade};
+use library_answers::{Told, tell_result};
 use std::alloc::Global;
 use std::str;
 
 /// The algorithm of this name.
-pub(crate) fn alg_of(name: &[u8]) -> Result<Alg, Failure<'static>>
+pub fn alg_of(name: &[u8]) -> Result<Alg, Failure<'static>>
     ensures found { IfOk result (λ alg. name.now ≡ name_of alg) }
     ensures refused { IfErr result (RefusesAlg name.now) }
 {
@@ -33,7 +31,7 @@ pub(crate) fn alg_of(name: &[u8]) -> Result<Alg, Failure<'static>>
 }
 
 /// The digest by the algorithm of this name that has these octets.
-pub(crate) fn given(name: &[u8], octets: &[u8]) -> Result<Digest, Failure<'static>>
+pub fn given(name: &[u8], octets: &[u8]) -> Result<Digest, Failure<'static>>
     ensures found { IfOk result (IsGiven name.now octets.now) }
     ensures refused { IfErr result
         (λ f. RefusesAlg name.now f ⊎ RefusesDigest name.now (IsGiven name.now octets.now) f) }
@@ -125,18 +123,6 @@ fn octets_of_signature(
     request_of(alloc, &digest, policy_in(&contents), number, certificate)
 }
 
-/// Puts what was made into its room, or says why nothing was.
-pub(crate) fn tell(alloc: Global, made: Result<Vec<u8>, Failure<'static>>, room: &mut [u8]) -> Told
-    ensures { MatchResult made.entry
-        (λ octets. IsMade octets.items result.said result.status room.old result.size room.new)
-        (λ why. IsUnmade why result.said result.status room.old result.size room.new) }
-{
-    match made {
-        Ok(octets) => tell_made(&octets, room),
-        Err(why) => tell_unmade(alloc, &why, room),
-    }
-}
-
 /// A time-stamp request of a digest.
 pub fn tell_request(
     alloc: Global,
@@ -152,7 +138,7 @@ pub fn tell_request(
         result.status room.old result.size room.new }
 {
     let made = octets_of(alloc, given(name, digest), policy, nonce, certificate);
-    tell(alloc, made, room)
+    tell_result(alloc, made, room)
 }
 
 /// A time-stamp request of octets.
@@ -170,7 +156,7 @@ pub fn tell_request_of(
         result.status room.old result.size room.new }
 {
     let made = octets_of(alloc, hashed(name, octets), policy, nonce, certificate);
-    tell(alloc, made, room)
+    tell_result(alloc, made, room)
 }
 
 /// A time-stamp request of the signature of the signer of this number, from 1, in a file.
@@ -190,5 +176,5 @@ pub fn tell_request_of_signature(
         room.old result.size room.new }
 {
     let made = octets_of_signature(alloc, name, file, signer, policy, nonce, certificate);
-    tell(alloc, made, room)
+    tell_result(alloc, made, room)
 }

@@ -1,6 +1,6 @@
 use Rattle.std.proofs.Common.{List, Option, ◌∙◌, subst}
 use Rattle.trust_lists.specs.Entries.{EntryValue}
-use Rattle.library_calls.specs.Evidence.{IsEvidenceQuestioned}
+use Rattle.library_records.specs.Evidence.{IsEvidenceQuestioned}
 use Rattle.cmsproof_c.specs.Held.{AsksEvidence}
 use Rattle.cmsproof_c.proofs.evidence.questions_held.Goals as goal
 

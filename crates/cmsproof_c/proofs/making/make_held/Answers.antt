@@ -1,4 +1,4 @@
-use Rattle.library_calls.specs.Records.{IsRecordOf, MakesNoRecord}
+use Rattle.library_records.specs.Records.{IsRecordOf, MakesNoRecord}
 use Rattle.cmsproof_c.proofs.HeldTrees.{tells_by}
 use Rattle.cmsproof_c.proofs.making.make_held.Goals as goal
 

@@ -1,4 +1,4 @@
-use Rattle.library_calls.specs.NewChains.{IsRehashed, RehashesNot}
+use Rattle.library_records.specs.NewChains.{IsRehashed, RehashesNot}
 use Rattle.cmsproof_c.proofs.HeldTrees.{tells_by}
 use Rattle.cmsproof_c.proofs.making.rehash_held.Goals as goal
 

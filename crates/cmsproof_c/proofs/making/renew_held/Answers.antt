@@ -1,4 +1,4 @@
-use Rattle.library_calls.specs.Renewals.{IsRenewed, RenewsNot}
+use Rattle.library_records.specs.Renewals.{IsRenewed, RenewsNot}
 use Rattle.cmsproof_c.proofs.HeldTrees.{tells_by}
 use Rattle.cmsproof_c.proofs.making.renew_held.Goals as goal
 

@@ -1,9 +1,11 @@
+use Rattle.std.proofs.Common.{subst}
 use Rattle.trust_lists.specs.Asking.{is_among}
-use Rattle.library_calls.proofs.InMemory.{known_by, never_raised}
+use Rattle.check_verdict.specs.Checkers.{CheckerValue, terms_for}
+use Rattle.library_calls.specs.Checked.{IsKnownVerdict, handed}
 use Rattle.library_calls.proofs.check.file_verdict.Goals as goal
 
 pub returns-clause-verdict : goal.returns-clause-verdict
 returns-clause-verdict c =
-    known_by _ (λ s s' e. never_raised e) _ _ (is_among c.args.asked.now) _ c.args.input.file.now _ _ _
-    c.judge_file-verdict.result c.checker-checker.ensures c.source_of-source.ensures.rest
-    c.source_of-source.ensures.tells c.judge_file-verdict.ensures.asked c.judge_file-verdict.ensures.count
+    subst (λ (k : CheckerValue). IsKnownVerdict (terms_for k (is_among c.args.asked.now)) c.args.input.file.now
+    (handed c.args.input.given c.args.input.content.now) c.judge_input-verdict.result) c.checker-checker.ensures
+    c.judge_input-verdict.ensures.verdict

@@ -9,5 +9,5 @@ returns c =
     requested c.args.policy.now c.args.nonce.now c.args.certificate IsOf c.args.name.now c.hashed.result
     c.hashed.ensures.found (by_name c.args.policy.now c.args.nonce.now c.args.certificate IsOf c.args.name.now
     c.hashed.result c.hashed.ensures.refused) (λ (v : Vec ℕ Global). v.items) c.octets_of-made.result
-    c.tell.result.said c.tell.result.status _ c.tell.result.size _ c.octets_of-made.ensures.made
-    c.octets_of-made.ensures.refused c.tell.ensures
+    c.tell_result.result.said c.tell_result.result.status _ c.tell_result.result.size _ c.octets_of-made.ensures.made
+    c.octets_of-made.ensures.refused c.tell_result.ensures

@@ -1,0 +1,12 @@
+pub mod DataObjects
+pub mod EvidenceAlike
+pub mod EvidenceSaid
+pub mod NewChains
+pub mod NewRecords
+pub mod Records
+pub mod Renewals
+pub mod Stated
+pub mod TreeRenewals
+pub mod Trees
+pub mod UnderAlike
+pub mod UnderSaid

@@ -1,5 +1,5 @@
 -- What follows from what a call says under lists that may be held.
-use Rattle.std.proofs.Common.{◌≡◌, ◌↔◌, ℕ, Bool, List, Option, Some, None, IfSome, sym, ap, ◌∙◌}
+use Rattle.std.proofs.Common.{◌≡◌, ◌↔◌, ℕ, Bool, List, Option, Some, None, IfSome, sym, ap, subst, ◌∙◌}
 use Rattle.cms_types.specs.SignedDataValue.{EncodesAnotherType}
 use Rattle.trust_lists.specs.Asking.{Asked}
 use Rattle.trust_lists.specs.Entries.{EntryValue}
@@ -12,7 +12,7 @@ use Rattle.library_answers.specs.declared.answer.Answer.{Answer}
 use Rattle.library_calls.specs.Checked.{terms_under, IsChecked, SaysYes, SaysMoment, AnswersAsked}
 use Rattle.library_calls.specs.CheckedTokens.{SaysPasses}
 use Rattle.library_records.specs.Evidence.{AnswersAlike, IsEvidenceChecked, SaysShown}
-use Rattle.library_calls.specs.Questions.{IsAskedIfMemory}
+use Rattle.library_calls.specs.Questions.{IsAskedIfMemory, IsQuestioned}
 use Rattle.library_calls.specs.Stamps.{SaysStamped}
 use Rattle.library_records.specs.Stated.{EvidenceCheck}
 use Rattle.library_records.specs.Under.{AnswersUnderAlike, IsUnderChecked, SaysYesUnder, UnderCheck}
@@ -125,6 +125,13 @@ module _ (input : UnderCheck) (said : Answer) (status : ℕ) (before : List ℕ)
   under_alike_held suffices refusals None asked h = tt
 
 module _ (octets : List ℕ) (said : Answer) (status : ℕ) (before : List ℕ) (size : ℕ) (after : List ℕ) where
+  -- what is said under a list that was taken out of its handle is said of what the handle held
+  pub asks_by : (held : Option (List EntryValue)) (taken its : List EntryValue) → Some taken ≡ held → its ≡ taken
+      → IsQuestioned its octets said status before size after → AsksFile held octets said status before size after
+  asks_by held taken its was same h = subst (λ (list : Option (List EntryValue)).
+      AsksFile list octets said status before size after) was
+      (subst (λ (list : List EntryValue). IsQuestioned list octets said status before size after) same h)
+
   pub only_held : (list : Option (List EntryValue)) → AsksFile list octets said status before size after
       → IfSome list (λ l. (qs : List Asked) → AreQuestionsOf l octets qs
       → IsAskedIfMemory (questions_text qs) said status before size after)

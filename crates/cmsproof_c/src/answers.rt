@@ -6,27 +6,6 @@ use library_answers::{Answer, DONE, NO_MEMORY};
 use library_calls::read_answers;
 use std::alloc::Global;
 
-/// Puts the list that a text states into an empty handle.
-fn read_into(alloc: Global, answers: &mut AnswersHandle, list: &[u8], said: &mut Answer) -> u32
-    requires { answers.old.inside.kept ≡ None }
-    ensures { ReadsAnswers list.now answers.new.inside.kept said.new result }
-{
-    let read = match read_answers(alloc, list, said) {
-        Ok(read) => read,
-        Err(status) => return status,
-    };
-    match AnswersHandle::keep(alloc, read) {
-        Some(kept) => {
-            *answers = kept;
-            DONE
-        }
-        None => {
-            *said = Answer::nothing();
-            NO_MEMORY
-        }
-    }
-}
-
 /// Reads an answers list into a handle, and frees what it held.
 #[unsafe(no_mangle)]
 pub extern "C" fn cmsproof_answers_read(
@@ -40,7 +19,7 @@ pub extern "C" fn cmsproof_answers_read(
     ensures { ReadsAnswers list.now answers.new.inside.kept said.new result }
 {
     cmsproof_answers_free(alloc, answers);
-    read_into(alloc, answers, list, said)
+    keep_in!(alloc, answers: AnswersHandle, read_answers(alloc, list, said), said)
 }
 
 /// Frees the list of a handle, if it holds one.

@@ -38,33 +38,20 @@ impl AnswersHandle {
         Some(AnswersHandle::of(kept))
     }
 
-    /// A handle of none.
-    pub(crate) fn empty() -> AnswersHandle
-        ensures { result.inside.kept ≡ None }
-    {
-        AnswersHandle {
-            inside: AnswersSeal::empty(),
-            held: false,
-        }
-    }
-
-    /// The list, if there is one.
-    pub(crate) fn into_list(self, alloc: Global) -> Option<Box<Answers>>
-        ensures { option_map (λ b. b.value) result ≡ self.inside.kept }
-    {
-        let AnswersHandle { inside, held } = self;
-        if held {
-            Some(inside.into_parts(alloc).into_box())
-        } else {
-            None
-        }
-    }
-
     /// The list, if there is one; the handle then holds none.
     pub(crate) fn take(&mut self, alloc: Global) -> Option<Box<Answers>>
         ensures taken { option_map (λ b. b.value) result ≡ self.old.inside.kept }
         ensures none { self.new.inside.kept ≡ None }
     {
-        mem::replace(self, AnswersHandle::empty()).into_list(alloc)
+        let none = AnswersHandle {
+            inside: AnswersSeal::empty(),
+            held: false,
+        };
+        let AnswersHandle { inside, held } = mem::replace(self, none);
+        if held {
+            Some(inside.into_parts(alloc).into_box())
+        } else {
+            None
+        }
     }
 }

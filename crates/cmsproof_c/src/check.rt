@@ -26,13 +26,8 @@ fn check_held(
     ensures trust { trust.new.inside.kept ≡ trust.old.inside.kept }
     ensures answers { VouchesSame answers.old.inside.kept answers.new.inside.kept }
 {
-    let Some((mut list, mut asked)) = take_both(alloc, trust, answers) else {
-        return Told::without_text(NO_LIST, Answer::nothing());
-    };
-    let told = tell_check(alloc, &mut list, &mut asked, input, sha1, room);
-    *trust = TrustHandle::of(list);
-    *answers = AnswersHandle::of(asked);
-    told
+    told_by_lists!(alloc, trust, answers, list, asked
+        => tell_check(alloc, &mut list, &mut asked, input, sha1, room))
 }
 
 /// Whether each signature of a file in memory existed by a moment, under the lists of two handles.
@@ -83,8 +78,5 @@ pub extern "C" fn cmsproof_check(
         content,
         given: content_given,
     };
-    let told = check_held(alloc, trust, answers, input, sha1, text);
-    *size = told.size;
-    *said = told.said;
-    told.status
+    put!(check_held(alloc, trust, answers, input, sha1, text) => size, said)
 }

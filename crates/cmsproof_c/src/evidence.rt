@@ -23,13 +23,8 @@ fn check_held(
     ensures trust { trust.new.inside.kept ≡ trust.old.inside.kept }
     ensures answers { VouchesSame answers.old.inside.kept answers.new.inside.kept }
 {
-    let Some((list, mut asked)) = take_both(alloc, trust, answers) else {
-        return Told::without_text(NO_LIST, Answer::nothing());
-    };
-    let told = tell_evidence_check(alloc, list.list(), &mut asked, input, room);
-    *trust = TrustHandle::of(list);
-    *answers = AnswersHandle::of(asked);
-    told
+    told_by_lists!(alloc, trust, answers, list, asked
+        => tell_evidence_check(alloc, list.list(), &mut asked, input, room))
 }
 
 /// Whether an evidence record shows that data objects existed, and by which moment, under the lists of two handles. The
@@ -76,24 +71,7 @@ pub extern "C" fn cmsproof_evidence_check(
         at,
         whole,
     };
-    let told = check_held(alloc, trust, answers, &input, text);
-    *size = told.size;
-    *said = told.said;
-    told.status
-}
-
-/// Takes the list out of its handle, lists the questions under it, and puts it back.
-fn questions_held(alloc: Global, trust: &mut TrustHandle, evidence: &[u8], room: &mut [u8]) -> Told
-    ensures questions { AsksEvidence trust.old.inside.kept evidence.now result.said result.status room.old result.size
-        room.new }
-    ensures trust { trust.new.inside.kept ≡ trust.old.inside.kept }
-{
-    let Some(list) = trust.take(alloc) else {
-        return Told::without_text(NO_LIST, Answer::nothing());
-    };
-    let told = tell_evidence_questions(alloc, list.list(), evidence, room);
-    *trust = TrustHandle::of(list);
-    told
+    put!(check_held(alloc, trust, answers, &input, text) => size, said)
 }
 
 /// The questions of an evidence record, under the list of a handle.
@@ -112,8 +90,6 @@ pub extern "C" fn cmsproof_evidence_questions(
     // The trust list stays as it was.
     ensures trust { trust.new.inside.kept ≡ trust.old.inside.kept }
 {
-    let told = questions_held(alloc, trust, evidence, text);
-    *size = told.size;
-    *said = told.said;
-    told.status
+    put_by!(alloc, trust: TrustHandle, list
+        => tell_evidence_questions(alloc, list.list(), evidence, text) => size, said)
 }

@@ -1,17 +1,64 @@
-//! The checker for C: the exports of `library_calls` and `library_records`, each of which says again what the call there
-//! says, over what the pointers hold, and the lists that callers hold. `include/cmsproof.h` declares the calls, and says
-//! what a caller owes.
+//! The checker for C: the exports of `library_calls` and `library_records`, each of which says again what the call
+//! there says, over what the pointers hold, and the lists that callers hold. `include/cmsproof.h` declares the calls,
+//! and says what a caller owes.
 #![tactic(auto)]
 
-/// What is told of the tree of a handle: it is taken out, and put back then. Without one nothing is told.
-macro_rules! told_by_tree {
-    ($alloc:ident, $handle:ident, $tree:ident => $told:expr) => {{
-        let Some($tree) = $handle.take($alloc) else {
+/// Puts what a call says where its caller reads it, and gives the status.
+macro_rules! put {
+    ($told:expr => $size:ident, $said:ident) => {{
+        let told = $told;
+        *$size = told.size;
+        *$said = told.said;
+        told.status
+    }};
+}
+
+/// What a call says by what a handle holds, which is taken out, and put back then. Without that it says nothing.
+macro_rules! put_by {
+    ($alloc:ident, $handle:ident: $Handle:ident, $taken:ident => $told:expr => $size:ident, $said:ident) => {{
+        let Some($taken) = $handle.take($alloc) else {
+            *$size = 0;
+            *$said = Answer::nothing();
+            return NO_LIST;
+        };
+        let told = $told;
+        *$handle = $Handle::of($taken);
+        *$size = told.size;
+        *$said = told.said;
+        told.status
+    }};
+}
+
+/// What is told under the lists of two handles, which are taken out, and put back then. Without both nothing is told.
+macro_rules! told_by_lists {
+    ($alloc:ident, $trust:ident, $answers:ident, $list:ident, $asked:ident => $told:expr) => {{
+        let Some((mut $list, mut $asked)) = take_both($alloc, $trust, $answers) else {
             return Told::without_text(NO_LIST, Answer::nothing());
         };
         let told = $told;
-        *$handle = TreeHandle::of($tree);
+        *$trust = TrustHandle::of($list);
+        *$answers = AnswersHandle::of($asked);
         told
+    }};
+}
+
+/// Puts what was read into an empty handle, and gives the status: of a text that states nothing, or of memory refused.
+macro_rules! keep_in {
+    ($alloc:ident, $handle:ident: $Handle:ident, $read:expr, $said:ident) => {{
+        let read = match $read {
+            Ok(read) => read,
+            Err(status) => return status,
+        };
+        match $Handle::keep($alloc, read) {
+            Some(kept) => {
+                *$handle = kept;
+                DONE
+            }
+            None => {
+                *$said = Answer::nothing();
+                NO_MEMORY
+            }
+        }
     }};
 }
 

@@ -6,27 +6,12 @@ ghost use Rattle.library_records.specs.NewChains.{HasNoNewLeaf, IsNewLeafOf, IsR
 ghost use Rattle.cmsproof_c.specs.Trees.{TellsBy};
 
 use crate::tree_handle::TreeHandle;
-use library_answers::{Answer, NO_LIST, Told};
+use library_answers::{Answer, NO_LIST};
 use library_records::{
     tell_record, tell_rehash_leaf, tell_rehashed, tell_renewal_algorithm, tell_renewal_leaf,
     tell_renewed,
 };
 use std::alloc::Global;
-
-/// Takes the tree out of its handle, makes the record of a digest, and puts it back.
-fn make_held(
-    alloc: Global,
-    handle: &mut TreeHandle,
-    digest: &[u8],
-    token: &[u8],
-    room: &mut [u8],
-) -> Told
-    ensures record { TellsBy handle.old.inside.kept (λ t. IsRecordOf t digest.now token.now)
-        (λ t. MakesNoRecord t digest.now token.now) result.said result.status room.old result.size room.new }
-    ensures tree { handle.new.inside.kept ≡ handle.old.inside.kept }
-{
-    told_by_tree!(alloc, handle, tree => tell_record(alloc, &tree, digest, token, room))
-}
 
 /// The evidence record of a digest, a leaf of the tree of a handle, with a token over its root.
 #[unsafe(no_mangle)]
@@ -45,10 +30,7 @@ pub extern "C" fn cmsproof_evidence_make(
     // The tree stays as it was.
     ensures tree { tree.new.inside.kept ≡ tree.old.inside.kept }
 {
-    let told = make_held(alloc, tree, digest, token, text);
-    *size = told.size;
-    *said = told.said;
-    told.status
+    put_by!(alloc, tree: TreeHandle, held => tell_record(alloc, &held, digest, token, text) => size, said)
 }
 
 /// The algorithm of the tree by which an evidence record is renewed.
@@ -64,10 +46,7 @@ pub extern "C" fn cmsproof_evidence_renew_algorithm(
     ensures { IsToldOf (IsAlgorithmOf evidence.now) (HasNoLast evidence.now) said.new result text.old size.new
         text.new }
 {
-    let told = tell_renewal_algorithm(alloc, evidence, text);
-    *size = told.size;
-    *said = told.said;
-    told.status
+    put!(tell_renewal_algorithm(alloc, evidence, text) => size, said)
 }
 
 /// The leaf of the tree by which an evidence record is renewed.
@@ -86,25 +65,7 @@ pub extern "C" fn cmsproof_evidence_renew_leaf(
     ensures { IsToldOf (IsLeafOf algorithm.now evidence.now token.now)
         (HasNoLeaf algorithm.now evidence.now token.now) said.new result text.old size.new text.new }
 {
-    let told = tell_renewal_leaf(alloc, algorithm, evidence, token, text);
-    *size = told.size;
-    *said = told.said;
-    told.status
-}
-
-/// Takes the tree out of its handle, renews a record, and puts it back.
-fn renew_held(
-    alloc: Global,
-    handle: &mut TreeHandle,
-    evidence: &[u8],
-    token: &[u8],
-    room: &mut [u8],
-) -> Told
-    ensures renewed { TellsBy handle.old.inside.kept (λ t. IsRenewed t token.now evidence.now)
-        (λ t. RenewsNot t token.now evidence.now) result.said result.status room.old result.size room.new }
-    ensures tree { handle.new.inside.kept ≡ handle.old.inside.kept }
-{
-    told_by_tree!(alloc, handle, tree => tell_renewed(alloc, &tree, evidence, token, room))
+    put!(tell_renewal_leaf(alloc, algorithm, evidence, token, text) => size, said)
 }
 
 /// An evidence record, renewed by a token over the root of the tree of a handle.
@@ -125,10 +86,7 @@ pub extern "C" fn cmsproof_evidence_renew(
     // The tree stays as it was.
     ensures tree { tree.new.inside.kept ≡ tree.old.inside.kept }
 {
-    let told = renew_held(alloc, tree, evidence, token, text);
-    *size = told.size;
-    *said = told.said;
-    told.status
+    put_by!(alloc, tree: TreeHandle, held => tell_renewed(alloc, &held, evidence, token, text) => size, said)
 }
 
 /// The leaf of the tree by which an evidence record gets a new chain, for the data object of a digest.
@@ -148,26 +106,7 @@ pub extern "C" fn cmsproof_evidence_rehash_leaf(
     ensures { IsToldOf (IsNewLeafOf algorithm.now digest.now evidence.now token.now)
         (HasNoNewLeaf algorithm.now digest.now evidence.now) said.new result text.old size.new text.new }
 {
-    let told = tell_rehash_leaf(alloc, algorithm, digest, evidence, token, text);
-    *size = told.size;
-    *said = told.said;
-    told.status
-}
-
-/// Takes the tree out of its handle, gives a record a new chain, and puts it back.
-fn rehash_held(
-    alloc: Global,
-    handle: &mut TreeHandle,
-    evidence: &[u8],
-    digest: &[u8],
-    token: &[u8],
-    room: &mut [u8],
-) -> Told
-    ensures rehashed { TellsBy handle.old.inside.kept (λ t. IsRehashed t digest.now token.now evidence.now)
-        (λ t. RehashesNot t digest.now token.now evidence.now) result.said result.status room.old result.size room.new }
-    ensures tree { handle.new.inside.kept ≡ handle.old.inside.kept }
-{
-    told_by_tree!(alloc, handle, tree => tell_rehashed(alloc, &tree, digest, evidence, token, room))
+    put!(tell_rehash_leaf(alloc, algorithm, digest, evidence, token, text) => size, said)
 }
 
 /// An evidence record with a new chain by a token over the root of the tree of a handle, for the data object of a
@@ -190,8 +129,5 @@ pub extern "C" fn cmsproof_evidence_rehash(
     // The tree stays as it was.
     ensures tree { tree.new.inside.kept ≡ tree.old.inside.kept }
 {
-    let told = rehash_held(alloc, tree, evidence, digest, token, text);
-    *size = told.size;
-    *said = told.said;
-    told.status
+    put_by!(alloc, tree: TreeHandle, held => tell_rehashed(alloc, &held, digest, evidence, token, text) => size, said)
 }

@@ -8,23 +8,9 @@ ghost use Rattle.library_calls.specs.Questions.{IsAskedIfMemory};
 ghost use Rattle.cmsproof_c.specs.Held.{AsksFile};
 
 use crate::trust_handle::TrustHandle;
-use library_answers::{Answer, NO_LIST, Told};
+use library_answers::{Answer, NO_LIST};
 use library_calls::tell_questions;
 use std::alloc::Global;
-
-/// Takes the list out of its handle, lists the questions under it, and puts it back.
-fn questions_held(alloc: Global, trust: &mut TrustHandle, octets: &[u8], room: &mut [u8]) -> Told
-    ensures questions { AsksFile trust.old.inside.kept octets.now result.said result.status room.old result.size
-        room.new }
-    ensures trust { trust.new.inside.kept ≡ trust.old.inside.kept }
-{
-    let Some(list) = trust.take(alloc) else {
-        return Told::without_text(NO_LIST, Answer::nothing());
-    };
-    let told = tell_questions(alloc, list.list(), octets, room);
-    *trust = TrustHandle::of(list);
-    told
-}
 
 /// The questions of a file, under the list of a handle.
 #[unsafe(no_mangle)]
@@ -50,8 +36,5 @@ pub extern "C" fn cmsproof_questions(
     // The trust list stays as it was.
     ensures trust { trust.new.inside.kept ≡ trust.old.inside.kept }
 {
-    let told = questions_held(alloc, trust, octets, text);
-    *size = told.size;
-    *said = told.said;
-    told.status
+    put_by!(alloc, trust: TrustHandle, list => tell_questions(alloc, list.list(), octets, text) => size, said)
 }

@@ -27,10 +27,7 @@ pub extern "C" fn cmsproof_request(
     ensures { IsRequested (IsGiven algorithm.now digest.now) algorithm.now policy.now nonce.now certificate said.new
         result text.old size.new text.new }
 {
-    let told = tell_request(alloc, algorithm, digest, policy, nonce, certificate, text);
-    *size = told.size;
-    *said = told.said;
-    told.status
+    put!(tell_request(alloc, algorithm, digest, policy, nonce, certificate, text) => size, said)
 }
 
 /// A time-stamp request of octets.
@@ -50,10 +47,7 @@ pub extern "C" fn cmsproof_request_of(
     ensures { IsRequested (IsHashed algorithm.now octets.now) algorithm.now policy.now nonce.now certificate said.new
         result text.old size.new text.new }
 {
-    let told = tell_request_of(alloc, algorithm, octets, policy, nonce, certificate, text);
-    *size = told.size;
-    *said = told.said;
-    told.status
+    put!(tell_request_of(alloc, algorithm, octets, policy, nonce, certificate, text) => size, said)
 }
 
 /// A time-stamp request of the signature of the signer of this number, from 1, in a file.
@@ -75,19 +69,8 @@ pub extern "C" fn cmsproof_request_of_signature(
     ensures { IsSignatureRequested algorithm.now file.now signer_number policy.now nonce.now certificate
         said.new result text.old size.new text.new }
 {
-    let told = tell_request_of_signature(
-        alloc,
-        algorithm,
-        file,
-        signer_number,
-        policy,
-        nonce,
-        certificate,
-        text,
-    );
-    *size = told.size;
-    *said = told.said;
-    told.status
+    put!(tell_request_of_signature(alloc, algorithm, file, signer_number, policy, nonce, certificate, text)
+        => size, said)
 }
 
 /// The token of a response that answers a request.
@@ -104,10 +87,7 @@ pub extern "C" fn cmsproof_token(
     // line.
     ensures { IsTokenOf request.now response.now said.new result token.old size.new token.new }
 {
-    let told = tell_token(alloc, request, response, token);
-    *size = told.size;
-    *said = told.said;
-    told.status
+    put!(tell_token(alloc, request, response, token) => size, said)
 }
 
 /// A file with a time-stamp token attached to one of its signers.
@@ -129,8 +109,5 @@ pub extern "C" fn cmsproof_attach(
         → IsMadeIfMemory (encoding (SignedContent w)) said.new result attached.old size.new
         attached.new }
 {
-    let told = tell_attached(alloc, file, signer, token, attached);
-    *size = told.size;
-    *said = told.said;
-    told.status
+    put!(tell_attached(alloc, file, signer, token, attached) => size, said)
 }

@@ -25,13 +25,8 @@ fn check_held(
     ensures trust { trust.new.inside.kept ≡ trust.old.inside.kept }
     ensures answers { VouchesSame answers.old.inside.kept answers.new.inside.kept }
 {
-    let Some((mut list, mut asked)) = take_both(alloc, trust, answers) else {
-        return Told::without_text(NO_LIST, Answer::nothing());
-    };
-    let told = tell_stamp_check(alloc, &mut list, &mut asked, stamp, stamped, sha1, room);
-    *trust = TrustHandle::of(list);
-    *answers = AnswersHandle::of(asked);
-    told
+    told_by_lists!(alloc, trust, answers, list, asked
+        => tell_stamp_check(alloc, &mut list, &mut asked, stamp, stamped, sha1, room))
 }
 
 /// Whether a stamp, a token by itself or a response with one, is valid for these octets, under the lists of two
@@ -61,24 +56,7 @@ pub extern "C" fn cmsproof_stamp_check(
     // The answers list vouches for what it vouched for.
     ensures answers { VouchesSame answers.old.inside.kept answers.new.inside.kept }
 {
-    let told = check_held(alloc, trust, answers, stamp, stamped, sha1, text);
-    *size = told.size;
-    *said = told.said;
-    told.status
-}
-
-/// Takes the list out of its handle, lists the questions under it, and puts it back.
-fn questions_held(alloc: Global, trust: &mut TrustHandle, stamp: &[u8], room: &mut [u8]) -> Told
-    ensures questions { AsksStamp trust.old.inside.kept stamp.now result.said result.status room.old result.size
-        room.new }
-    ensures trust { trust.new.inside.kept ≡ trust.old.inside.kept }
-{
-    let Some(list) = trust.take(alloc) else {
-        return Told::without_text(NO_LIST, Answer::nothing());
-    };
-    let told = tell_stamp_questions(alloc, list.list(), stamp, room);
-    *trust = TrustHandle::of(list);
-    told
+    put!(check_held(alloc, trust, answers, stamp, stamped, sha1, text) => size, said)
 }
 
 /// The questions of a stamp, under the list of a handle.
@@ -97,8 +75,5 @@ pub extern "C" fn cmsproof_stamp_questions(
     // The trust list stays as it was.
     ensures trust { trust.new.inside.kept ≡ trust.old.inside.kept }
 {
-    let told = questions_held(alloc, trust, stamp, text);
-    *size = told.size;
-    *said = told.said;
-    told.status
+    put_by!(alloc, trust: TrustHandle, list => tell_stamp_questions(alloc, list.list(), stamp, text) => size, said)
 }

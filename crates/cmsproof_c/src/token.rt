@@ -24,13 +24,8 @@ fn check_held(
     ensures trust { trust.new.inside.kept ≡ trust.old.inside.kept }
     ensures answers { VouchesSame answers.old.inside.kept answers.new.inside.kept }
 {
-    let Some((mut list, mut asked)) = take_both(alloc, trust, answers) else {
-        return Told::without_text(NO_LIST, Answer::nothing());
-    };
-    let told = tell_token_check(&mut list, &mut asked, token, octets, sha1);
-    *trust = TrustHandle::of(list);
-    *answers = AnswersHandle::of(asked);
-    told
+    told_by_lists!(alloc, trust, answers, list, asked
+        => tell_token_check(&mut list, &mut asked, token, octets, sha1))
 }
 
 /// Whether a token is valid for octets that were stamped, under the lists of two handles.

@@ -3,36 +3,9 @@ ghost use Rattle.library_records.specs.Trees.{ReadsTree};
 ghost use Rattle.cmsproof_c.specs.Trees.{TellsRoot};
 
 use crate::tree_handle::TreeHandle;
-use library_answers::{Answer, DONE, NO_LIST, NO_MEMORY, Told};
+use library_answers::{Answer, DONE, NO_LIST, NO_MEMORY};
 use library_records::{read_tree, tell_root};
 use std::alloc::Global;
-
-/// Puts the tree over digests into an empty handle.
-fn make_in(
-    alloc: Global,
-    tree: &mut TreeHandle,
-    algorithm: &[u8],
-    digests: &[u8],
-    said: &mut Answer,
-) -> u32
-    requires { tree.old.inside.kept ≡ None }
-    ensures { ReadsTree algorithm.now digests.now tree.new.inside.kept said.new result }
-{
-    let read = match read_tree(alloc, algorithm, digests, said) {
-        Ok(read) => read,
-        Err(status) => return status,
-    };
-    match TreeHandle::keep(alloc, read) {
-        Some(kept) => {
-            *tree = kept;
-            DONE
-        }
-        None => {
-            *said = Answer::nothing();
-            NO_MEMORY
-        }
-    }
-}
 
 /// Makes the hash tree over digests in a handle, and frees what it held.
 #[unsafe(no_mangle)]
@@ -48,15 +21,7 @@ pub extern "C" fn cmsproof_tree_make(
     ensures { ReadsTree algorithm.now digests.now tree.new.inside.kept said.new result }
 {
     cmsproof_tree_free(alloc, tree);
-    make_in(alloc, tree, algorithm, digests, said)
-}
-
-/// Takes the tree out of its handle, says its root, and puts it back.
-fn root_held(alloc: Global, handle: &mut TreeHandle, room: &mut [u8]) -> Told
-    ensures root { TellsRoot handle.old.inside.kept result.said result.status room.old result.size room.new }
-    ensures tree { handle.new.inside.kept ≡ handle.old.inside.kept }
-{
-    told_by_tree!(alloc, handle, tree => tell_root(&tree, room))
+    keep_in!(alloc, tree: TreeHandle, read_tree(alloc, algorithm, digests, said), said)
 }
 
 /// The root of the tree of a handle.
@@ -73,10 +38,7 @@ pub extern "C" fn cmsproof_tree_root(
     // The tree stays as it was.
     ensures tree { tree.new.inside.kept ≡ tree.old.inside.kept }
 {
-    let told = root_held(alloc, tree, text);
-    *size = told.size;
-    *said = told.said;
-    told.status
+    put_by!(alloc, tree: TreeHandle, held => tell_root(&held, text) => size, said)
 }
 
 /// Frees the tree of a handle, if it holds one.

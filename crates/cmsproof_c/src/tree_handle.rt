@@ -38,33 +38,20 @@ impl TreeHandle {
         Some(TreeHandle::of(kept))
     }
 
-    /// A handle of none.
-    pub(crate) fn empty() -> TreeHandle
-        ensures { result.inside.kept ≡ None }
-    {
-        TreeHandle {
-            inside: TreeSeal::empty(),
-            held: false,
-        }
-    }
-
-    /// The tree, if there is one.
-    pub(crate) fn into_tree(self, alloc: Global) -> Option<Box<Tree>>
-        ensures { option_map (λ b. b.value) result ≡ self.inside.kept }
-    {
-        let TreeHandle { inside, held } = self;
-        if held {
-            Some(inside.into_parts(alloc).into_box())
-        } else {
-            None
-        }
-    }
-
     /// The tree, if there is one; the handle then holds none.
     pub(crate) fn take(&mut self, alloc: Global) -> Option<Box<Tree>>
         ensures taken { option_map (λ b. b.value) result ≡ self.old.inside.kept }
         ensures none { self.new.inside.kept ≡ None }
     {
-        mem::replace(self, TreeHandle::empty()).into_tree(alloc)
+        let none = TreeHandle {
+            inside: TreeSeal::empty(),
+            held: false,
+        };
+        let TreeHandle { inside, held } = mem::replace(self, none);
+        if held {
+            Some(inside.into_parts(alloc).into_box())
+        } else {
+            None
+        }
     }
 }

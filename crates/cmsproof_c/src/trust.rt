@@ -7,27 +7,6 @@ use library_answers::{Answer, DONE, NO_LIST, NO_MEMORY};
 use library_calls::read_trust;
 use std::alloc::Global;
 
-/// Puts the list that a text states into an empty handle.
-fn read_into(alloc: Global, trust: &mut TrustHandle, list: &[u8], said: &mut Answer) -> u32
-    requires { trust.old.inside.kept ≡ None }
-    ensures { ReadsTrust list.now trust.new.inside.kept said.new result }
-{
-    let read = match read_trust(alloc, list, said) {
-        Ok(read) => read,
-        Err(status) => return status,
-    };
-    match TrustHandle::keep(alloc, read) {
-        Some(kept) => {
-            *trust = kept;
-            DONE
-        }
-        None => {
-            *said = Answer::nothing();
-            NO_MEMORY
-        }
-    }
-}
-
 /// Reads a trust list into a handle, and frees what it held.
 #[unsafe(no_mangle)]
 pub extern "C" fn cmsproof_trust_read(
@@ -41,7 +20,7 @@ pub extern "C" fn cmsproof_trust_read(
     ensures { ReadsTrust list.now trust.new.inside.kept said.new result }
 {
     cmsproof_trust_free(alloc, trust);
-    read_into(alloc, trust, list, said)
+    keep_in!(alloc, trust: TrustHandle, read_trust(alloc, list, said), said)
 }
 
 /// How many entries the list of a handle has.

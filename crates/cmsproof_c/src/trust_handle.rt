@@ -51,33 +51,20 @@ impl TrustHandle {
         Some(TrustHandle::of(kept))
     }
 
-    /// A handle of none.
-    pub(crate) fn empty() -> TrustHandle
-        ensures { result.inside.kept ≡ None }
-    {
-        TrustHandle {
-            inside: TrustSeal::empty(),
-            held: false,
-        }
-    }
-
-    /// The list, if there is one.
-    pub(crate) fn into_list(self, alloc: Global) -> Option<Box<HeldTrust>>
-        ensures { option_map (λ b. b.value) result ≡ self.inside.kept }
-    {
-        let TrustHandle { inside, held } = self;
-        if held {
-            Some(inside.into_parts(alloc).into_box())
-        } else {
-            None
-        }
-    }
-
     /// The list, if there is one; the handle then holds none.
     pub(crate) fn take(&mut self, alloc: Global) -> Option<Box<HeldTrust>>
         ensures taken { option_map (λ b. b.value) result ≡ self.old.inside.kept }
         ensures none { self.new.inside.kept ≡ None }
     {
-        mem::replace(self, TrustHandle::empty()).into_list(alloc)
+        let none = TrustHandle {
+            inside: TrustSeal::empty(),
+            held: false,
+        };
+        let TrustHandle { inside, held } = mem::replace(self, none);
+        if held {
+            Some(inside.into_parts(alloc).into_box())
+        } else {
+            None
+        }
     }
 }

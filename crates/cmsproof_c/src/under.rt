@@ -25,13 +25,8 @@ fn check_held(
     ensures trust { trust.new.inside.kept ≡ trust.old.inside.kept }
     ensures answers { VouchesSame answers.old.inside.kept answers.new.inside.kept }
 {
-    let Some((list, mut asked)) = take_both(alloc, trust, answers) else {
-        return Told::without_text(NO_LIST, Answer::nothing());
-    };
-    let told = tell_check_under(alloc, list.list(), &mut asked, input, room);
-    *trust = TrustHandle::of(list);
-    *answers = AnswersHandle::of(asked);
-    told
+    told_by_lists!(alloc, trust, answers, list, asked
+        => tell_check_under(alloc, list.list(), &mut asked, input, room))
 }
 
 /// Whether each signature of a file in memory existed by a moment, under an evidence record and the lists of two
@@ -84,8 +79,5 @@ pub extern "C" fn cmsproof_check_under(
         ends,
         at,
     };
-    let told = check_held(alloc, trust, answers, &input, text);
-    *size = told.size;
-    *said = told.said;
-    told.status
+    put!(check_held(alloc, trust, answers, &input, text) => size, said)
 }

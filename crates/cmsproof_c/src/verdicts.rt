@@ -32,10 +32,7 @@ pub extern "C" fn cmsproof_fit(
         content,
         given: content_given,
     };
-    let told = tell_fit(alloc, input, sha1, text);
-    *size = told.size;
-    *said = told.said;
-    told.status
+    put!(tell_fit(alloc, input, sha1, text) => size, said)
 }
 
 /// Whether a signer of one file and a signer of another sign the same.
@@ -54,10 +51,7 @@ pub extern "C" fn cmsproof_compare(
     ensures { IsComparison first.now first_signer second.now second_signer said.new result text.old size.new
         text.new }
 {
-    let told = tell_comparison(alloc, first, first_signer, second, second_signer, text);
-    *size = told.size;
-    *said = told.said;
-    told.status
+    put!(tell_comparison(alloc, first, first_signer, second, second_signer, text) => size, said)
 }
 
 /// Whether a response answers a request.
@@ -73,10 +67,7 @@ pub extern "C" fn cmsproof_match(
     // Whether it answers by the definitions, or the first rule that fails, in numbers and as the line.
     ensures { IsMatch request.now response.now said.new result text.old size.new text.new }
 {
-    let told = tell_match(alloc, request, response, text);
-    *size = told.size;
-    *said = told.said;
-    told.status
+    put!(tell_match(alloc, request, response, text) => size, said)
 }
 
 /// What an input of one of six types is: a request, a response, a TSTInfo, a SignedData, a certificate or an evidence
@@ -106,8 +97,5 @@ pub extern "C" fn cmsproof_show(
     // For any other number status 4, no verdict, and no text.
     ensures other { IsNoType kind → (result ≡ 4) × (said.new ≡ nothing) × (size.new ≡ 0) × (text.new ≡ text.old) }
 {
-    let told = tell_shown(alloc, kind, input, text);
-    *size = told.size;
-    *said = told.said;
-    told.status
+    put!(tell_shown(alloc, kind, input, text) => size, said)
 }

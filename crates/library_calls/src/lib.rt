@@ -1,6 +1,6 @@
-//! What each call of the library for C says, over slices and lists; `library_records` has those about evidence records.
-//! `library_answers` says how: in numbers, by a status, and as text. `cmsproof_c` exports the calls, and holds the lists
-//! for its callers.
+//! What each call of the library for C says, over slices and lists; `library_records` has those about records.
+//! `library_answers` says how: in numbers, by a status, and as text. `cmsproof_c` exports the calls, and holds the
+//! lists for its callers.
 #![tactic(auto)]
 
 mod attach;

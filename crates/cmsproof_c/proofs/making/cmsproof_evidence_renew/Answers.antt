@@ -1,6 +1,6 @@
 use Rattle.library_records.specs.Renewals.{IsRenewed, RenewsNot}
 use Rattle.cmsproof_c.proofs.HeldTrees.{tells_by}
-use Rattle.cmsproof_c.proofs.making.renew_held.Goals as goal
+use Rattle.cmsproof_c.proofs.making.cmsproof_evidence_renew.Goals as goal
 
 pub returns-clause-renewed : goal.returns-clause-renewed
 returns-clause-renewed c =

@@ -1,6 +1,6 @@
 use Rattle.library_records.specs.Records.{IsRecordOf, MakesNoRecord}
 use Rattle.cmsproof_c.proofs.HeldTrees.{tells_by}
-use Rattle.cmsproof_c.proofs.making.make_held.Goals as goal
+use Rattle.cmsproof_c.proofs.making.cmsproof_evidence_make.Goals as goal
 
 pub returns-clause-record : goal.returns-clause-record
 returns-clause-record c =

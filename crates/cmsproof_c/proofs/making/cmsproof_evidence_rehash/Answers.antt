@@ -1,6 +1,6 @@
 use Rattle.library_records.specs.NewChains.{IsRehashed, RehashesNot}
 use Rattle.cmsproof_c.proofs.HeldTrees.{tells_by}
-use Rattle.cmsproof_c.proofs.making.rehash_held.Goals as goal
+use Rattle.cmsproof_c.proofs.making.cmsproof_evidence_rehash.Goals as goal
 
 pub returns-clause-rehashed : goal.returns-clause-rehashed
 returns-clause-rehashed c =

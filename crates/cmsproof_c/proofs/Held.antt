@@ -11,17 +11,17 @@ use Rattle.check_questions.specs.Written.{EncodesNothing}
 use Rattle.library_answers.specs.declared.answer.Answer.{Answer}
 use Rattle.library_calls.specs.Checked.{terms_under, IsChecked, SaysYes, SaysMoment, AnswersAsked}
 use Rattle.library_calls.specs.CheckedTokens.{SaysPasses}
-use Rattle.library_records.specs.Evidence.{AnswersAlike, IsEvidenceChecked, SaysShown}
 use Rattle.library_calls.specs.Questions.{IsAskedIfMemory, IsQuestioned}
 use Rattle.library_calls.specs.Stamps.{SaysStamped}
+use Rattle.library_records.specs.Evidence.{AnswersAlike, IsEvidenceChecked, SaysShown}
 use Rattle.library_records.specs.Stated.{EvidenceCheck}
 use Rattle.library_records.specs.Under.{AnswersUnderAlike, IsUnderChecked, SaysYesUnder, UnderCheck}
 use Rattle.library_calls.proofs.Asking.{checked_by_asked}
 use Rattle.library_calls.proofs.Checking.{says_yes, says_moment, checked_suffices}
 use Rattle.library_calls.proofs.CheckingTokens.{says_passes}
+use Rattle.library_calls.proofs.StampsSaid.{says_stamped}
 use Rattle.library_records.proofs.EvidenceAlike.{checked_alike}
 use Rattle.library_records.proofs.EvidenceSaid.{says_shown}
-use Rattle.library_calls.proofs.StampsSaid.{says_stamped}
 use Rattle.library_records.proofs.UnderAlike.{under_alike}
 use Rattle.library_records.proofs.UnderSaid.{says_yes_under}
 use Rattle.cmsproof_c.specs.Held.{SaysNoList, IsCheck, IsEvidenceCheck, IsStampCheck, IsTokenCheck, AsksFile}

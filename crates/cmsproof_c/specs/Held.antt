@@ -6,9 +6,9 @@ use Rattle.library_answers.specs.declared.answer.Answer.{Answer}
 use Rattle.library_answers.specs.Numbers.{nothing}
 use Rattle.library_calls.specs.Checked.{handed, terms_under, IsChecked}
 use Rattle.library_calls.specs.CheckedTokens.{IsTokenChecked}
-use Rattle.library_records.specs.Evidence.{IsEvidenceChecked, IsEvidenceQuestioned}
 use Rattle.library_calls.specs.Questions.{IsQuestioned}
 use Rattle.library_calls.specs.Stamps.{IsStampChecked, IsStampQuestioned}
+use Rattle.library_records.specs.Evidence.{IsEvidenceChecked, IsEvidenceQuestioned}
 use Rattle.library_records.specs.Stated.{EvidenceCheck}
 use Rattle.library_records.specs.Under.{IsUnderChecked, UnderCheck}
 

@@ -1,6 +1,6 @@
 -- What follows from what the call says of an evidence record, by an answers list, which never fails.
 use Rattle.std.proofs.Common.{◌≡◌, ◌⊎◌, ℕ, true, List, [], ◌∷◌, Option, Result, Ok, Err, inl, inr, refl, sym, ap, subst}
-use Rattle.std.proofs.Common.{◌∙◌, ◌≢◌}
+use Rattle.std.proofs.Common.{◌∙◌}
 use Rattle.std.specs.List.{AllByRecursion}
 use Rattle.digests.specs.Selection.{set_given}
 use Rattle.digests.specs.Sets.{is_in}
@@ -26,18 +26,16 @@ use Rattle.judge_evidence.specs.Data.{HaveAlg, HaveWanted, IsFirstAlg}
 use Rattle.judge_evidence.specs.RecordVerdicts.{FailsToOpen, IsVerdict, IsWanted, ShowsOrDevice}
 use Rattle.judge_evidence.specs.Walking.{CountsRefused}
 use Rattle.cli_failures.specs.declared.failure.Failure.{Failure}
-use Rattle.cli_failures.specs.declared.failure.Failure.TheVariants as failure
 use Rattle.cli_failures.specs.Causes.{Names}
 use Rattle.library_answers.specs.declared.answer.Answer.{Answer}
-use Rattle.library_answers.specs.Failures.{failure_numbers}
 use Rattle.library_answers.specs.Numbers.{accepted_numbers, nothing, record_rule_numbers, stamp_rule_numbers}
 use Rattle.library_records.specs.Evidence.{IsKnownEvidenceVerdict, IsEvidenceJudged, IsDevice, SaysEvidence}
-use Rattle.library_records.specs.Evidence.{IsEvidenceChecked, SaysNoMemory, SaysShown, ShowsStated, grounds_under}
-use Rattle.library_calls.specs.Stamps.{SaysFailure}
+use Rattle.library_records.specs.Evidence.{IsEvidenceChecked, SaysShown, ShowsStated, grounds_under}
 use Rattle.library_records.specs.Stated.{EvidenceCheck, RefusesStated, data_of}
 use Rattle.library_calls.proofs.InMemory.{never_raised}
 use Rattle.library_calls.proofs.Moments.{one_moment_in, token_is_no}
 use Rattle.library_records.proofs.Stated.{states_one, states_or_refuses}
+use Rattle.library_records.proofs.Unstated.{ends_name, no_verdict, says_none}
 
 -- ---- what must be digested
 
@@ -120,51 +118,11 @@ stamp_rule_is_no stamp.Weak e = cc
 stamp_rule_is_no stamp.Lapsed e = cc
 stamp_rule_is_no stamp.Others e = cc
 
--- what names a value says no verdict
-pub names_no_verdict : (value : List ℕ) (f : Failure) → Names value f → failure_numbers f ≡ nothing
-names_no_verdict value (failure.Usage named) h = refl
-names_no_verdict value (failure.Words text) h = refl
-names_no_verdict value failure.NotText h = refl
-names_no_verdict value failure.NotSignedData h = absurd h
-names_no_verdict value (failure.Malformed fault) h = absurd h
-names_no_verdict value (failure.MalformedMessage message fault) h = absurd h
-names_no_verdict value (failure.Unmatched fault) h = absurd h
-names_no_verdict value (failure.Refused why) h = absurd h
-names_no_verdict value (failure.Unstamped rule) h = absurd h
-names_no_verdict value (failure.Unshown why) h = absurd h
-names_no_verdict value (failure.Unevidenced why) h = absurd h
-names_no_verdict value (failure.Unasked fault) h = refl
-names_no_verdict value failure.Different h = absurd h
-names_no_verdict value failure.Collision h = absurd h
-names_no_verdict value (failure.Uncompared fault) h = absurd h
-names_no_verdict value (failure.Unattached fault) h = absurd h
-names_no_verdict value (failure.Trust fault) h = refl
-names_no_verdict value (failure.Answers fault) h = refl
-names_no_verdict value (failure.Sums fault) h = refl
-names_no_verdict value (failure.Unstamping why) h = absurd h
-names_no_verdict value (failure.Unmade why) h = absurd h
-names_no_verdict value (failure.Unrenewable why) h = absurd h
-names_no_verdict value failure.Mixed h = absurd h
-names_no_verdict value (failure.Open path) h = refl
-names_no_verdict value (failure.Read path) h = refl
-names_no_verdict value (failure.Size path) h = refl
-names_no_verdict value (failure.Write path) h = refl
-names_no_verdict value (failure.Unopened path) h = refl
-names_no_verdict value (failure.Unread path) h = refl
-names_no_verdict value (failure.Oversized path) h = refl
-names_no_verdict value (failure.Unput path) h = refl
-names_no_verdict value (failure.Taken path) h = refl
-names_no_verdict value failure.Memory h = refl
-
-pub no_verdict : (said : Answer) (m : ℕ) → said ≡ nothing → said ≡ accepted_numbers m → ⊥
-no_verdict said m none one =
-    let no : nothing.verdict ≡ (accepted_numbers m).verdict = ap (λ (a : Answer). a.verdict) (sym none ∙ one) in cc
-
-refused_no_verdict : (i : EvidenceCheck) (f : Failure) → RefusesStated i f → failure_numbers f ≡ nothing
-refused_no_verdict i f (inl (some, inl (names, none))) = names_no_verdict _ f names
-refused_no_verdict i f (inl (some, inr (names, none))) = names_no_verdict _ f names
-refused_no_verdict i f (inr (ends, inl (names, some, none))) = names_no_verdict _ f names
-refused_no_verdict i f (inr (ends, inr (at, names))) = names_no_verdict _ f names.0
+-- what is not as it must be is named
+pub stated_names : (i : EvidenceCheck) (f : Failure) → RefusesStated i f → (value : List ℕ) × Names value f
+stated_names i f (inl ends) = ends_name i.ends f ends
+stated_names i f (inr (ends, inl (names, some, none))) = (_, names)
+stated_names i f (inr (ends, inr (at, (names, why)))) = (_, names)
 
 module _ (said : Answer) (status : ℕ) (before : List ℕ) (size : ℕ) (after : List ℕ) where
   -- an acceptance is one of the record
@@ -199,9 +157,7 @@ module _ (said : Answer) (status : ℕ) (before : List ℕ) (size : ℕ) (after 
       stated = stated;
       shows = shown_is (grounds_under list asked i ends at) i.evidence (data_of i) answer m judged.verdict says one;
     }
-    sound (inr (inl (why, refuses, says))) one =
-        absurd (no_verdict said m (says.0 ∙ refused_no_verdict i why refuses) one)
-    sound (inr (inr (seven, none, empty, same))) one = absurd (no_verdict said m none one)
+    sound (inr h) one = absurd (says_none (RefusesStated i) (stated_names i) said status before size after m h one)
 
     complete : IsEvidenceChecked list asked i said status before size after → ShowsStated list asked i m
         → (said ≡ accepted_numbers m) ⊎ ((said ≡ nothing) × (status ≡ 7))
@@ -216,20 +172,3 @@ module _ (said : Answer) (status : ℕ) (before : List ℕ) (size : ℕ) (after 
     pub says_shown : IsEvidenceChecked list asked i said status before size after
         → SaysShown list asked i said status m
     says_shown checked = record { sound = sound checked; complete = complete checked }
-
--- nothing that a caller states is a lack of memory
-not_memory : (i : EvidenceCheck) → RefusesStated i failure.Memory → ⊥
-not_memory i (inl (some, inl (names, none))) = names
-not_memory i (inl (some, inr (names, none))) = names
-not_memory i (inr (ends, inl (names, some, none))) = names
-not_memory i (inr (ends, inr (at, names))) = names.0
-
--- what the caller states is not as it must be, or memory was refused
-pub unstated : (list : List EntryValue) (asked : List Asked) (i : EvidenceCheck) (why : Failure)
-    → (why ≡ failure.Memory) ⊎ RefusesStated i why → {said : Answer} {status : ℕ} {before : List ℕ} {size : ℕ}
-    → {after : List ℕ} → (why ≡ failure.Memory → SaysNoMemory said status before size after)
-    → (why ≢ failure.Memory → SaysFailure why said status before size after)
-    → IsEvidenceChecked list asked i said status before size after
-unstated list asked i why (inl is) memory other = inr (inr (memory is))
-unstated list asked i why (inr refuses) memory other =
-    inr (inl (why, refuses, other (λ is. not_memory i (subst (λ (f : Failure). RefusesStated i f) is refuses))))

@@ -10,3 +10,4 @@ pub mod TreeRenewals
 pub mod Trees
 pub mod UnderAlike
 pub mod UnderSaid
+pub mod Unstated

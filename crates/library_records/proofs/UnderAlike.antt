@@ -6,8 +6,7 @@ use Rattle.check_fit.specs.declared.rules.Refused.{Refused}
 use Rattle.check_verdict.specs.Passing.{Terms}
 use Rattle.check_verdict.specs.Questions.{with_answers}
 use Rattle.check_evidence.specs.Grounds.{AlgEnd}
-use Rattle.check_evidence.specs.declared.rules.EvidenceRefused.TheVariants as evidence
-use Rattle.evidence_questions.proofs.Verdicts.{show_alike, refused_alike}
+use Rattle.evidence_questions.proofs.Verdicts.{show_alike}
 use Rattle.check_under.specs.Under.{data_of, AreTermsUnder, YesUnder}
 use Rattle.check_under.specs.Laws.{RefusalsUnderSuffice, YesUnderSuffices}
 use Rattle.check_under.specs.declared.refused.UnderRefused.{UnderRefused}
@@ -15,6 +14,7 @@ use Rattle.check_under.specs.declared.refused.UnderRefused.TheVariants as refuse
 use Rattle.library_answers.specs.declared.answer.Answer.{Answer}
 use Rattle.library_records.specs.Under.{AnswersUnderAlike, grounds_by, IsKnownVerdictUnder, IsUnderChecked}
 use Rattle.library_records.specs.Under.{IsUnderJudged, UnderCheck}
+use Rattle.library_records.proofs.EvidenceAlike.{known_alike}
 
 module _ (suffices : YesUnderSuffices) (refusals : RefusalsUnderSuffice) (list : List EntryValue)
     (octets file : List ℕ) (handed : Option (List ℕ)) (ends : List AlgEnd) (at : Option ℕ) where
@@ -48,13 +48,8 @@ module _ (suffices : YesUnderSuffices) (refusals : RefusalsUnderSuffice) (list :
         → IsKnownVerdictUnder (grounds_by list others ends at) octets file handed answer
     known_along (Ok m) h = yes_along m h
     known_along (Err (refused.Signed why)) h = signed_along why h
-    known_along (Err (refused.Evidence (evidence.Record failed))) h =
-        (refused_alike (grounds_by list asked ends at) octets (is_among others) alike.0 (data_of file handed)
-        (evidence.Record failed)).0 h
-    known_along (Err (refused.Evidence (evidence.Stamp chain stamp failed))) h =
-        (refused_alike (grounds_by list asked ends at) octets (is_among others) alike.0 (data_of file handed)
-        (evidence.Stamp chain stamp failed)).0 h
-    known_along (Err (refused.Evidence (evidence.Device fault))) h = h
+    known_along (Err (refused.Evidence why)) h =
+        known_alike (grounds_by list asked ends at) octets (is_among others) alike.0 (data_of file handed) (Err why) h
 
   -- answers of the list are those of the other too
   back : (asked others : List Asked) → AnswersUnderAlike list octets file asked others

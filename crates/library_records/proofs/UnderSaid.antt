@@ -1,5 +1,5 @@
 -- What follows from what the call says of a signed file under an evidence record.
-use Rattle.std.proofs.Common.{◌≡◌, ◌≢◌, ◌⊎◌, ◌∙◌, ℕ, List, map, Option, Result, Ok, Err, inl, inr, refl, sym, ap}
+use Rattle.std.proofs.Common.{◌≡◌, ◌⊎◌, ◌∙◌, ℕ, List, map, Option, Result, Ok, Err, inl, inr, refl, sym, ap}
 use Rattle.std.proofs.Common.{subst}
 use Rattle.trust_lists.specs.Asking.{Asked}
 use Rattle.trust_lists.specs.Entries.{EntryValue}
@@ -18,19 +18,18 @@ use Rattle.check_under.specs.UnderVerdicts.{said_under}
 use Rattle.check_under.specs.declared.refused.UnderRefused.{UnderRefused}
 use Rattle.check_under.specs.declared.refused.UnderRefused.TheVariants as refused
 use Rattle.cli_failures.specs.declared.failure.Failure.{Failure}
-use Rattle.cli_failures.specs.declared.failure.Failure.TheVariants as failure
+use Rattle.cli_failures.specs.Causes.{Names}
 use Rattle.library_answers.specs.declared.answer.Answer.{Answer}
-use Rattle.library_answers.specs.Failures.{failure_numbers}
 use Rattle.library_answers.specs.Numbers.{accepted_numbers, nothing}
 use Rattle.library_calls.specs.Checked.{IsKnownVerdict, SaysTooLong}
-use Rattle.library_records.specs.Evidence.{IsEvidenceJudged, SaysNoMemory}
-use Rattle.library_calls.specs.Stamps.{SaysFailure}
+use Rattle.library_records.specs.Evidence.{IsEvidenceJudged}
 use Rattle.library_records.specs.Under.{grounds_by, IsDeviceUnder, IsKnownVerdictUnder, IsUnderChecked, IsUnderJudged}
 use Rattle.library_records.specs.Under.{RefusesStatedUnder, SaysUnder, SaysYesUnder, UnderCheck, YesStated}
 use Rattle.library_calls.proofs.Checking.{long_is_no, too_long}
-use Rattle.library_records.proofs.EvidenceSaid.{names_no_verdict, no_verdict, record_rule_is_no, stamp_rule_is_no}
 use Rattle.library_calls.proofs.Moments.{one_moment_in, refused_is_no}
+use Rattle.library_records.proofs.EvidenceSaid.{record_rule_is_no, stamp_rule_is_no}
 use Rattle.library_records.proofs.Stated.{at_refused, ends_refused, one_at, one_list}
+use Rattle.library_records.proofs.Unstated.{ends_name, no_verdict, says_none}
 
 -- ---- the verdict
 
@@ -82,10 +81,10 @@ judged_shown one never g octets file handed k policy shows allows said verdict =
 
 -- ---- what is said
 
-refused_no_verdict : (i : UnderCheck) (f : Failure) → RefusesStatedUnder i f → failure_numbers f ≡ nothing
-refused_no_verdict i f (inl (some, inl (names, none))) = names_no_verdict _ f names
-refused_no_verdict i f (inl (some, inr (names, none))) = names_no_verdict _ f names
-refused_no_verdict i f (inr (ends, (names, some, none))) = names_no_verdict _ f names
+-- what is not as it must be is named
+pub stated_under_names : (i : UnderCheck) (f : Failure) → RefusesStatedUnder i f → (value : List ℕ) × Names value f
+stated_under_names i f (inl ends) = ends_name i.ends f ends
+stated_under_names i f (inr (ends, (names, some, none))) = (_, names)
 
 module _ (said : Answer) (status : ℕ) (before : List ℕ) (size : ℕ) (after : List ℕ) where
   -- an acceptance is one under the record
@@ -124,9 +123,8 @@ module _ (said : Answer) (status : ℕ) (before : List ℕ) (size : ℕ) (after 
       stated = stated;
       yes = yes_is (grounds_by list asked ends at) i.evidence i.file i.content answer m judged.verdict says one;
     }
-    sound (inr (inl (why, refuses, says))) one =
-        absurd (no_verdict said m (says.0 ∙ refused_no_verdict i why refuses) one)
-    sound (inr (inr (seven, none, empty, same))) one = absurd (no_verdict said m none one)
+    sound (inr h) one =
+        absurd (says_none (RefusesStatedUnder i) (stated_under_names i) said status before size after m h one)
 
     complete : IsUnderChecked list asked i said status before size after → YesStated list asked i m
         → (said ≡ accepted_numbers m) ⊎ (((said ≡ nothing) × (status ≡ 7)) ⊎ SaysTooLong i.content said)
@@ -144,19 +142,3 @@ module _ (said : Answer) (status : ℕ) (before : List ℕ) (size : ℕ) (after 
     pub says_yes_under : IsUnderChecked list asked i said status before size after
         → SaysYesUnder list asked i said status m
     says_yes_under checked = record { sound = sound checked; complete = complete checked }
-
--- nothing that a caller states is a lack of memory
-not_memory : (i : UnderCheck) → RefusesStatedUnder i failure.Memory → ⊥
-not_memory i (inl (some, inl (names, none))) = names
-not_memory i (inl (some, inr (names, none))) = names
-not_memory i (inr (ends, (names, some, none))) = names
-
--- what the caller states is not as it must be, or memory was refused
-pub unstated_under : (list : List EntryValue) (asked : List Asked) (i : UnderCheck) (why : Failure)
-    → (why ≡ failure.Memory) ⊎ RefusesStatedUnder i why → {said : Answer} {status : ℕ} {before : List ℕ} {size : ℕ}
-    → {after : List ℕ} → (why ≡ failure.Memory → SaysNoMemory said status before size after)
-    → (why ≢ failure.Memory → SaysFailure why said status before size after)
-    → IsUnderChecked list asked i said status before size after
-unstated_under list asked i why (inl is) memory other = inr (inr (memory is))
-unstated_under list asked i why (inr refuses) memory other =
-    inr (inl (why, refuses, other (λ is. not_memory i (subst (λ (f : Failure). RefusesStatedUnder i f) is refuses))))

@@ -15,11 +15,11 @@ use Rattle.evidence_making.specs.Laws.{TokenStands}
 use Rattle.evidence_making.specs.Leaves.{HasNoMoment, IsRehashLeaf}
 use Rattle.evidence_making.specs.Renewed.{rehashed}
 use Rattle.evidence_making.specs.Renewing.{StandIn}
+use Rattle.library_calls.specs.Requests.{IsGiven, RefusesAlg, RefusesDigest}
 use Rattle.library_records.specs.TreeRenewals.{IsNewRecord, IsTooLongNew}
 use Rattle.cli_failures.specs.declared.failure.Failure.{Failure}
 use Rattle.cli_failures.specs.declared.failure.Failure.TheVariants as failure
 use Rattle.cli_failures.specs.Causes.{Names}
-use Rattle.library_calls.specs.Requests.{IsGiven, RefusesAlg, RefusesDigest}
 use Rattle.library_records.specs.Renewals.{token_in, IsStampedAfter, IsNotStamped, IsUnrenewable}
 use Rattle.library_records.specs.Trees.{IsDigestBy}
 

@@ -25,11 +25,11 @@ use Rattle.evidence_making.specs.Laws.{TokenStands}
 use Rattle.evidence_making.specs.Leaves.{HasNoStamp, IsLastStamp}
 use Rattle.evidence_making.specs.Renewed.{renewed}
 use Rattle.evidence_making.specs.Renewing.{ChainsStandIn}
+use Rattle.library_calls.specs.Requests.{RefusesAlg}
 use Rattle.library_records.specs.TreeRenewals.{IsNewRecord, IsTooLongNew, StampsTree}
 use Rattle.cli_failures.specs.declared.failure.Failure.{Failure}
 use Rattle.cli_failures.specs.declared.failure.Failure.TheVariants as failure
 use Rattle.cli_failures.specs.Causes.{IsMalformed, Names}
-use Rattle.library_calls.specs.Requests.{RefusesAlg}
 use Rattle.library_records.specs.Trees.{StampsNot}
 
 -- ---- what a renewal stands on

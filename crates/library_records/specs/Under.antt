@@ -17,9 +17,9 @@ use Rattle.library_answers.specs.declared.answer.Answer.{Answer}
 use Rattle.library_answers.specs.Numbers.{nothing, accepted_numbers, refused_numbers}
 use Rattle.library_answers.specs.Verdicts.{Tells}
 use Rattle.library_calls.specs.Checked.{IsKnownVerdict, SaysTooLong}
-use Rattle.library_records.specs.Evidence.{AnswersAlike, IsDevice, IsKnownEvidenceVerdict, SaysNoMemory}
 use Rattle.library_calls.specs.Known.{IsTooLong}
 use Rattle.library_calls.specs.Stamps.{accepting, SaysFailure}
+use Rattle.library_records.specs.Evidence.{AnswersAlike, IsDevice, IsKnownEvidenceVerdict, SaysNoMemory}
 use Rattle.library_records.specs.Stated.{RefusesAt, RefusesEnds, StatesAt, StatesEnds}
 
 -- An evidence record; a signed file, and the content if one is handed in; texts that state ends of algorithms and a

@@ -3,10 +3,10 @@ ghost use Rattle.std.specs.Prelude.{◌≡◌, ◌≢◌, ◌⊎◌, List, IfErr
 ghost use Rattle.trust_lists.specs.Asking.{Asked, is_among};
 ghost use Rattle.check_questions.specs.QuestionsText.{questions_text};
 ghost use Rattle.evidence_questions.specs.RecordQuestions.{AreQuestionsOfRecord};
+ghost use Rattle.library_calls.specs.Stamps.{SaysFailure};
 ghost use Rattle.library_records.specs.Evidence.{IsEvidenceChecked, IsEvidenceJudged, IsEvidenceQuestioned};
 ghost use Rattle.library_records.specs.Evidence.{IsRecordUnasked, SaysEvidence, SaysNoMemory, failure_of_questions};
 ghost use Rattle.library_records.specs.Evidence.{grounds_under};
-ghost use Rattle.library_calls.specs.Stamps.{SaysFailure};
 ghost use Rattle.library_records.specs.Stated.{RefusesStated, States, data_of};
 
 use crate::data_objects::{digests_of, have_lengths};

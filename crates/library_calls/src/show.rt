@@ -10,64 +10,56 @@ use lines_shown::{
 };
 use std::alloc::Global;
 
+/// Puts the lines of what was read into their room, or says why it wasn't.
+macro_rules! tell_lines {
+    ($alloc:ident, $shown:expr, $room:ident) => {
+        match $shown {
+            Ok(lines) => tell_made(lines.as_bytes(), $room),
+            Err(fault) => tell_unmade($alloc, &Failure::from(fault), $room),
+        }
+    };
+}
+
 /// The lines of a request.
 fn tell_request(alloc: Global, input: &[u8], room: &mut [u8]) -> Told
     ensures { IsRequestShown input.now result.said result.status room.old result.size room.new }
 {
-    match show_request::text_of(alloc, input) {
-        Ok(lines) => tell_made(lines.as_bytes(), room),
-        Err(fault) => tell_unmade(alloc, &Failure::from(fault), room),
-    }
+    tell_lines!(alloc, show_request::text_of(alloc, input), room)
 }
 
 /// The lines of a response.
 fn tell_response(alloc: Global, input: &[u8], room: &mut [u8]) -> Told
     ensures { IsResponseShown input.now result.said result.status room.old result.size room.new }
 {
-    match show_response::text_of(alloc, input) {
-        Ok(lines) => tell_made(lines.as_bytes(), room),
-        Err(fault) => tell_unmade(alloc, &Failure::from(fault), room),
-    }
+    tell_lines!(alloc, show_response::text_of(alloc, input), room)
 }
 
 /// The lines of a TSTInfo.
 fn tell_tst(alloc: Global, input: &[u8], room: &mut [u8]) -> Told
     ensures { IsTstShown input.now result.said result.status room.old result.size room.new }
 {
-    match show_tst::text_of(alloc, input) {
-        Ok(lines) => tell_made(lines.as_bytes(), room),
-        Err(fault) => tell_unmade(alloc, &Failure::from(fault), room),
-    }
+    tell_lines!(alloc, show_tst::text_of(alloc, input), room)
 }
 
 /// The lines of a certificate.
 fn tell_certificate(alloc: Global, input: &[u8], room: &mut [u8]) -> Told
     ensures { IsCertificateShown input.now result.said result.status room.old result.size room.new }
 {
-    match show_certificate::text_of(alloc, input) {
-        Ok(lines) => tell_made(lines.as_bytes(), room),
-        Err(fault) => tell_unmade(alloc, &Failure::from(fault), room),
-    }
+    tell_lines!(alloc, show_certificate::text_of(alloc, input), room)
 }
 
 /// The lines of a SignedData.
 fn tell_signed(alloc: Global, input: &[u8], room: &mut [u8]) -> Told
     ensures { IsShownSigned input.now result.said result.status room.old result.size room.new }
 {
-    match show_signed::text_of(alloc, input) {
-        Ok(lines) => tell_made(lines.as_bytes(), room),
-        Err(fault) => tell_unmade(alloc, &Failure::from(fault), room),
-    }
+    tell_lines!(alloc, show_signed::text_of(alloc, input), room)
 }
 
 /// The lines of an evidence record.
 fn tell_evidence(alloc: Global, input: &[u8], room: &mut [u8]) -> Told
     ensures { IsEvidenceShown input.now result.said result.status room.old result.size room.new }
 {
-    match show_evidence::text_of(alloc, input) {
-        Ok(lines) => tell_made(lines.as_bytes(), room),
-        Err(fault) => tell_unmade(alloc, &Failure::from(fault), room),
-    }
+    tell_lines!(alloc, show_evidence::text_of(alloc, input), room)
 }
 
 /// What an input of one of six types is: a request, a response, a TSTInfo, a SignedData, a certificate or an evidence

@@ -7,7 +7,7 @@ use Rattle.library_answers.specs.declared.answer.Answer.{Answer}
 use Rattle.library_answers.specs.Failures.{failure_numbers}
 use Rattle.library_answers.specs.Numbers.{accepted_numbers, nothing}
 use Rattle.library_calls.specs.Stamps.{SaysFailure}
-use Rattle.library_records.specs.Evidence.{SaysNoMemory}
+use Rattle.library_records.specs.Evidence.{IsUnstated, SaysNoMemory}
 use Rattle.library_records.specs.Stated.{RefusesEnds}
 
 names_no_verdict : (value : List ℕ) (f : Failure) → Names value f → failure_numbers f ≡ nothing
@@ -57,8 +57,7 @@ ends_name text f (some, inr (names, none)) = (_, names)
 module _ (Refuses : Failure → Type 0) (names : (f : Failure) → Refuses f → (value : List ℕ) × Names value f)
     (said : Answer) (status : ℕ) (before : List ℕ) (size : ℕ) (after : List ℕ) where
   -- it is no acceptance
-  pub says_none : (m : ℕ) → ((f : Failure) × Refuses f × SaysFailure f said status before size after)
-      ⊎ SaysNoMemory said status before size after → said ≡ accepted_numbers m → ⊥
+  pub says_none : (m : ℕ) → IsUnstated Refuses said status before size after → said ≡ accepted_numbers m → ⊥
   says_none m (inl (f, refuses, says)) one =
       let (value, named) = names f refuses in no_verdict said m (says.0 ∙ names_no_verdict value f named) one
   says_none m (inr (seven, none, empty, same)) one = no_verdict said m none one
@@ -67,8 +66,7 @@ module _ (Refuses : Failure → Type 0) (names : (f : Failure) → Refuses f →
   pub unstated : {Stated : Type 0} (why : Failure) → (why ≡ failure.Memory) ⊎ Refuses why
       → (why ≡ failure.Memory → SaysNoMemory said status before size after)
       → (why ≢ failure.Memory → SaysFailure why said status before size after)
-      → Stated ⊎ (((f : Failure) × Refuses f × SaysFailure f said status before size after)
-      ⊎ SaysNoMemory said status before size after)
+      → Stated ⊎ IsUnstated Refuses said status before size after
   unstated why (inl is) memory other = inr (inr (memory is))
   unstated why (inr refuses) memory other = inr (inl (
     why,

@@ -71,13 +71,19 @@ IsEvidenceStated list asked i said status before size after = (ends : List AlgEn
     × IsEvidenceJudged (grounds_under list asked i ends at) i.evidence (data_of i) answer
     × SaysEvidence answer said status before size after)
 
+-- what the caller states is not as it must be, for this reason; or memory was refused
+abbrev pub IsUnstated : (Refuses : Failure → Type 0) → (said : Answer)
+    (status : ℕ) (before : List ℕ) (size : ℕ) (after : List ℕ) → Type 0
+IsUnstated Refuses said status before size after =
+    ((why : Failure) × Refuses why × SaysFailure why said status before size after)
+    ⊎ SaysNoMemory said status before size after
+
 -- that verdict; or what the caller states is not as it must be; or memory was refused
 abbrev pub IsEvidenceChecked : (list : List EntryValue) → (asked : List Asked) → EvidenceCheck → (said : Answer)
     (status : ℕ) (before : List ℕ) (size : ℕ) (after : List ℕ) → Type 0
 IsEvidenceChecked list asked i said status before size after =
     IsEvidenceStated list asked i said status before size after
-    ⊎ (((why : Failure) × RefusesStated i why × SaysFailure why said status before size after)
-    ⊎ SaysNoMemory said status before size after)
+    ⊎ IsUnstated (RefusesStated i) said status before size after
 
 -- another list answers each question about the tokens of the record as the answers list does
 abbrev pub AnswersAlike : (list : List EntryValue) → (octets : List ℕ) → (asked others : List Asked) → Type 0

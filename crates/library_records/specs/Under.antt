@@ -19,7 +19,7 @@ use Rattle.library_answers.specs.Verdicts.{Tells}
 use Rattle.library_calls.specs.Checked.{IsKnownVerdict, SaysTooLong}
 use Rattle.library_calls.specs.Known.{IsTooLong}
 use Rattle.library_calls.specs.Stamps.{accepting, SaysFailure}
-use Rattle.library_records.specs.Evidence.{AnswersAlike, IsDevice, IsKnownEvidenceVerdict, SaysNoMemory}
+use Rattle.library_records.specs.Evidence.{AnswersAlike, IsDevice, IsKnownEvidenceVerdict, IsUnstated, SaysNoMemory}
 use Rattle.library_records.specs.Stated.{RefusesAt, RefusesEnds, StatesAt, StatesEnds}
 
 -- An evidence record; a signed file, and the content if one is handed in; texts that state ends of algorithms and a
@@ -106,8 +106,7 @@ abbrev pub IsUnderChecked : (list : List EntryValue) → (asked : List Asked) �
     (status : ℕ) (before : List ℕ) (size : ℕ) (after : List ℕ) → Type 0
 IsUnderChecked list asked i said status before size after =
     IsUnderStated list asked i said status before size after
-    ⊎ (((why : Failure) × RefusesStatedUnder i why × SaysFailure why said status before size after)
-    ⊎ SaysNoMemory said status before size after)
+    ⊎ IsUnstated (RefusesStatedUnder i) said status before size after
 
 -- with what the caller states, the file is accepted under the record with this moment
 pub record YesStated (list : List EntryValue) (asked : List Asked) (i : UnderCheck) (m : ℕ) : Type 0 where

@@ -1,5 +1,6 @@
 pub mod Stated
 pub mod Texts
+pub mod Adding
 pub mod Walked
 pub mod Records
 pub mod Requested

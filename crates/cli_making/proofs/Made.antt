@@ -1,5 +1,5 @@
 -- How making records fails, and what was made.
-use Rattle.std.proofs.Common.{◌≡◌, ◌⊎◌, ℕ, List, Option, None, Result, Ok, Err, inl, inr}
+use Rattle.std.proofs.Common.{◌≡◌, ◌⊎◌, ◌++◌, ◌∷◌, ℕ, List, Option, None, Result, Ok, Err, inl, inr, subst}
 use Rattle.std.specs.Prelude.{IfErr, OnOk}
 use Rattle.digests.specs.declared.algorithm.Alg.{Alg}
 use Rattle.digests.specs.declared.value.Digest.{Digest}
@@ -11,16 +11,19 @@ use Rattle.cli_failures.specs.declared.failure.Failure.{Failure}
 use Rattle.cli_failures.specs.declared.failure.Failure.TheVariants as failure
 use Rattle.cli_making.specs.declared.stamp.Stamp.{Stamp}
 use Rattle.cli_making.specs.Given.{AreGiven, GivesNot}
-use Rattle.cli_making.specs.Placing.{Adds, Placed, Ways, system_ways}
+use Rattle.cli_making.specs.Adding.{Adds}
+use Rattle.cli_making.specs.Placing.{Placed, Ways, system_ways}
 use Rattle.cli_making.specs.Sums.{AreNamed, AreStated, IsMisnamed, IsRootOf, IsTreeOver, LacksMemory, RefusesSums}
 use Rattle.cli_making.specs.Sums.{StatesNone}
-use Rattle.cli_making.specs.Making.{AreMade, ArePut, AreTested, EachFile}
+use Rattle.cli_making.specs.Making.{AreFiles, AreMade, ArePut, AreTested, EachFile}
 use Rattle.cli_making.specs.Stamps.{IsStamp, StampsNoTree, StampsTree}
-use Rattle.cli_making.specs.Unmade.{IsUnmade, IsUntested, MakesNoRecords, StopsAt}
+use Rattle.cli_making.specs.Unmade.{FailsAt, IsNotPut, IsUnmade, IsUntested, MakesNoRecords, StopsAt}
 use Rattle.cli_making.proofs.Givens.{given_fails, gives_not}
+use Rattle.cli_making.proofs.Records.{not_put}
 use Rattle.cli_making.proofs.Stamps.{as_of}
 use Rattle.cli_making.proofs.Stated.{formed_if}
-use Rattle.cli_making.proofs.Walked.{adds_none}
+use Rattle.cli_making.proofs.Adding.{adds_none}
+use Rattle.cli_making.proofs.Walked.{file_at}
 
 -- a text of sums is refused: why it states none, why memory ran out behind that, or a name
 module _ (alg : Alg) (text : List ℕ) where
@@ -75,14 +78,31 @@ module _ (ways : Ways) (put : Option (List Placed)) (folder : List ℕ) (alg : A
           }
 
           abbrev Stops : HashTree → List ℕ → Failure → Type 0
-          Stops t octets f = (stop : StopsAt ways folder t octets sums f) × Adds put after stop.files
+          Stops t octets f = (stop : StopsAt (λ l g. FailsAt ways folder t octets l g) folder t octets sums f)
+              × Adds put after stop.files
+
+          abbrev stops_put : (f : Failure)
+              → (stop : StopsAt (λ l g. FailsAt ways folder tree token l g) folder tree token sums f)
+              → StopsAt (λ l g. IsNotPut ways folder tree token l g) folder tree token sums f
+          stops_put f stop = record {
+            before = stop.before;
+            line = stop.line;
+            after = stop.after;
+            all = stop.all;
+            files = stop.files;
+            are = stop.are;
+            why = not_put tree token stop.line ways folder over.leaves.rising
+                (file_at folder tree token stop.before stop.line stop.after ready.tested.files
+                (subst (λ (ss : List SumValue). AreFiles folder tree token ss ready.tested.files) stop.all
+                ready.tested.are)) f stop.why;
+          }
 
           pub stopped_if : {T : Type 0} (r : Result T Failure) → IfErr r (Stops s.tree.now s.token.now)
               → IfErr r (IsUnmade ways put after folder alg text token)
           stopped_if (Ok t) why = tt
           stopped_if (Err f) why =
               let (stop, adds) = as_of s tree token has (λ t octets. Stops t octets f) why in
-              inr (record { ready = ready; stop = stop; put = adds })
+              inr (record { ready = ready; stop = stops_put f stop; put = adds })
 
           pub made_if : {T E : Type 0} (Did : Placed → Type 0) (r : Result T E)
               → OnOk r (ArePut Did put after folder s.tree.now s.token.now sums)

@@ -1,12 +1,13 @@
 -- The record of a leaf: what it shows, and when it is too long or can't be put.
-use Rattle.std.proofs.Common.{◌≡◌, ◌≤◌, ◌^◌, ℕ, List, [], ◌∷◌, Option, Result, Ok, Err, sym, subst, refl, inl, inr}
-use Rattle.std.proofs.Common.{length}
+use Rattle.std.proofs.Common.{◌≡◌, ◌≤◌, ◌<◌, ◌^◌, ℕ, List, [], ◌∷◌, Option, Result, Ok, Err, sym, subst, refl, inl, inr}
+use Rattle.std.proofs.Common.{length, arith}
 use Rattle.std.specs.Prelude.{IfErr, IfOk, OnOk}
 use Rattle.digests.specs.declared.algorithm.Alg.{Alg}
 use Rattle.digests.specs.declared.value.Digest.{Digest}
 use Rattle.digests.specs.Digests.{octets_of}
 use Rattle.evidence_types.specs.EvidenceValue.{EncodesEvidence, evidence_parts}
-use Rattle.evidence_trees.specs.HashTrees.{HashTree, IsWayFrom, AreListsOf}
+use Rattle.evidence_trees.specs.HashTrees.{HashTree, IsRising, IsWayFrom, AreListsOf}
+use Rattle.evidence_trees.proofs.Ways.{one_way}
 use Rattle.evidence_making.specs.Laws.{ShowsLeaf}
 use Rattle.evidence_making.specs.Made.{made}
 use Rattle.evidence_making.specs.declared.fault.MakeFault.{MakeFault}
@@ -14,9 +15,10 @@ use Rattle.evidence_making.specs.declared.fault.MakeFault.TheVariants as make
 use Rattle.evidence_sums.specs.SumLines.{SumValue}
 use Rattle.cli_failures.specs.declared.failure.Failure.{Failure}
 use Rattle.cli_failures.specs.Failures.{failure_of_making}
-use Rattle.cli_making.specs.Placing.{Adds, Placed, Ways, placed}
+use Rattle.cli_making.specs.Adding.{Adds}
+use Rattle.cli_making.specs.Placing.{Placed, Ways, placed}
 use Rattle.cli_making.specs.Making.{IsFileOf, IsRecordOf, ShowsData}
-use Rattle.cli_making.specs.Unmade.{FailsAt, IsNotMade, IsTooLong}
+use Rattle.cli_making.specs.Unmade.{FailsAt, IsNotMade, IsNotPut, IsTooLong}
 
 shows_data : (tree : HashTree) (token : List ℕ) (digest : Digest) (values : List (List ℕ)) (octets : List ℕ)
     → AreListsOf tree (octets_of digest) values → ShowsLeaf tree.algorithm values token octets
@@ -62,7 +64,25 @@ module _ (tree : HashTree) (token : List ℕ) (digest leaf : Digest) (alg : Alg)
     size = subst (λ (a : Alg). 2 ^ 32 ≤ length (evidence_parts (made a values token))) by size;
   }
 
+-- a record that was made isn't too long
+never_long : (tree : HashTree) (token : List ℕ) (digest : Digest) (octets : List ℕ) → IsRising tree.leaves
+    → IsRecordOf tree token digest octets → IsTooLong tree token digest → ⊥
+never_long tree token digest octets rising is long =
+    let same : long.values ≡ is.values = one_way tree (octets_of digest) is.values long.values rising is.way long.way in
+    let short : length (evidence_parts (made tree.algorithm is.values token)) < 2 ^ 32 = is.encoded.1.size in
+    let size : 2 ^ 32 ≤ length (evidence_parts (made tree.algorithm is.values token)) =
+    subst (λ (vs : List (List ℕ)). 2 ^ 32 ≤ length (evidence_parts (made tree.algorithm vs token))) same long.size in
+    omega (arith, short, size)
+
 module _ (tree : HashTree) (token : List ℕ) (s : SumValue) where
+  -- a line of which there is a file fails when that is put
+  pub not_put : (ways : Ways) (folder : List ℕ) → IsRising tree.leaves → (p : Placed) × IsFileOf folder tree token s p
+      → (f : Failure) → FailsAt ways folder tree token s f → IsNotPut ways folder tree token s f
+  not_put ways folder rising (p, of) f (inl (inl m)) = inl m
+  not_put ways folder rising (p, of) f (inl (inr (told, long))) =
+      absurd (never_long tree token s.digest p.octets rising of.is long)
+  not_put ways folder rising (p, of) f (inr fails) = inr fails
+
   -- a record isn't made, for this fault
   pub not_made : {O : Type 0} (r : Result O MakeFault) (fault : MakeFault) → r ≡ Err fault
       → (r ≡ Err make.TooLong → IsTooLong tree token s.digest) → IsNotMade tree token s (failure_of_making fault)

@@ -7,9 +7,11 @@ use Rattle.evidence_trees.specs.HashTrees.{HashTree}
 use Rattle.evidence_sums.specs.Lines.{first_number}
 use Rattle.evidence_sums.specs.SumLines.{SumValue}
 use Rattle.cli_failures.specs.declared.failure.Failure.{Failure}
-use Rattle.cli_making.specs.Placing.{Adds, Placed, Ways}
+use Rattle.cli_making.specs.Adding.{Adds}
+use Rattle.cli_making.specs.Placing.{Placed, Ways}
 use Rattle.cli_making.specs.Making.{AreFiles, ArePut, EachFile, IsFileOf}
 use Rattle.cli_making.specs.Unmade.{FailsAt, StopsAt}
+use Rattle.cli_making.proofs.Adding.{adds_more, adds_none, adds_nothing}
 
 abbrev Sums : Type 0
 Sums = List SumValue
@@ -42,20 +44,17 @@ pub next_number : (sum : SumValue) (left others : Sums) (line : ℕ) → left �
     → first_number (λ s. not (is_utf8 s.name)) (line + 1) others ≡ first_number (λ s. not (is_utf8 s.name)) line left
 next_number sum left others line is text = rw (is, text) refl
 
--- ---- what was put
-
-pub adds_none : (put : Option Files) → Adds put put []
-adds_none None = tt
-adds_none (Some files) = sym (append-nil files)
-
-pub adds_on : (a b c : Option Files) (files more : Files) → Adds a b files → Adds b c more → Adds a c (files ++ more)
-adds_on None b c files more h k = tt
-adds_on (Some a) None c files more h k = absurd h
-adds_on (Some a) (Some b) None files more h k = absurd k
-adds_on (Some a) (Some b) (Some c) files more h k =
-    k ∙ ap (λ (l : Files). l ++ more) h ∙ append_assoc a files more
-
 -- ---- files
+
+-- the file of a line, of those of all
+pub file_at : (folder : List ℕ) (tree : HashTree) (token : List ℕ) (before : Sums) (s : SumValue) (after : Sums)
+    (files : Files) → AreFiles folder tree token (before ++ s ∷ after) files
+    → (p : Placed) × IsFileOf folder tree token s p
+file_at folder tree token [] s after [] are = absurd are
+file_at folder tree token [] s after (p ∷ files) are = (p, are.0)
+file_at folder tree token (b ∷ before) s after [] are = absurd are
+file_at folder tree token (b ∷ before) s after (p ∷ files) are =
+    file_at folder tree token before s after files are.1
 
 module _ (Is : Placed → Type 0) (folder : List ℕ) (tree : HashTree) (token : List ℕ) where
   -- the lines before those that are left have files of which this is so
@@ -93,9 +92,9 @@ module _ (Is : Placed → Type 0) (folder : List ℕ) (tree : HashTree) (token :
       each = more_each w.files p w.each so;
     }
 
-    abbrev pub walk_stops : (ways : Ways) (f : Failure) → FailsAt ways folder tree token sum f
-        → StopsAt ways folder tree token sums f
-    walk_stops ways f why = record {
+    abbrev pub walk_stops : (Fails : SumValue → Failure → Type 0) (f : Failure) → Fails sum f
+        → StopsAt Fails folder tree token sums f
+    walk_stops Fails f why = record {
       before = w.before;
       line = sum;
       after = others;
@@ -108,8 +107,10 @@ module _ (Is : Placed → Type 0) (folder : List ℕ) (tree : HashTree) (token :
   -- the same of a walk that tests
   pub test_stops : (ways : Ways) → (sum : SumValue) (left others sums : Sums) → left ≡ sum ∷ others
       → (w : Walked left sums) → (f : Failure) → FailsAt ways folder tree token sum f
-      → (stop : StopsAt ways folder tree token sums f) × AllByRecursion Is stop.files
-  test_stops ways sum left others sums is w f why = (walk_stops sum left others sums is w ways f why, w.each)
+      → (stop : StopsAt (λ s g. FailsAt ways folder tree token s g) folder tree token sums f)
+      × AllByRecursion Is stop.files
+  test_stops ways sum left others sums is w f why =
+      (walk_stops sum left others sums is w (λ s g. FailsAt ways folder tree token s g) f why, w.each)
 
   abbrev pub walk_ends : (left sums : Sums) → left ≡ [] → Walked left sums → EachFile Is folder tree token sums
   walk_ends left sums is w =
@@ -137,13 +138,13 @@ module _ (Is : Placed → Type 0) (folder : List ℕ) (tree : HashTree) (token :
         → Written first after others sums
     write_on (p, of, so, adds) = (
       walk_on sum left others sums is h.0 p of so,
-      adds_on first before after h.0.files (p ∷ []) h.1 adds,
+      adds_more first before after h.0.files (p ∷ []) h.1 adds,
     )
 
     pub write_stops : (ways : Ways) (f : Failure) → FailsAt ways folder tree token sum f → Adds before after []
-        → (stop : StopsAt ways folder tree token sums f) × Adds first after stop.files
+        → (stop : StopsAt (λ s g. FailsAt ways folder tree token s g) folder tree token sums f)
+        × Adds first after stop.files
     write_stops ways f why adds = (
-      walk_stops sum left others sums is h.0 ways f why,
-      subst (λ (fs : Files). Adds first after fs) (append-nil h.0.files)
-          (adds_on first before after h.0.files [] h.1 adds),
+      walk_stops sum left others sums is h.0 (λ s g. FailsAt ways folder tree token s g) f why,
+      adds_nothing first before after h.0.files h.1 adds,
     )

@@ -1,5 +1,6 @@
 pub mod Sums
 pub mod Requesting
+pub mod Adding
 pub mod Placing
 pub mod Making
 pub mod Unmade

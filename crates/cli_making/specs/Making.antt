@@ -18,7 +18,8 @@ use Rattle.evidence_sums.specs.SumLines.{SumValue}
 use Rattle.cli_tasks.specs.declared.task.MakeWords.{MakeWords}
 use Rattle.cli_making.specs.Given.{AreGiven}
 use Rattle.cli_making.specs.Sums.{AreStated}
-use Rattle.cli_making.specs.Placing.{Placed, Ways, Adds, system_ways, SystemPut}
+use Rattle.cli_making.specs.Adding.{Adds}
+use Rattle.cli_making.specs.Placing.{Placed, Ways, system_ways, SystemPut}
 
 -- ---- a record
 

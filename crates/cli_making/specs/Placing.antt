@@ -1,6 +1,6 @@
 -- Files that are put below folders. No contract of the system says which path is written: here names stand for what is
 -- asked of it, by which contracts say which octets are put where, and in which order.
-use Rattle.std.specs.Prelude.{◌≡◌, ⊤, ℕ, List, ◌++◌, Option, Some, None}
+use Rattle.std.specs.Prelude.{⊤, ℕ, List, Option}
 use Rattle.cli_failures.specs.declared.failure.Failure.{Failure}
 use Rattle.cli_failures.specs.Files.{IsFailureBelow, IsPut}
 
@@ -18,12 +18,6 @@ placed folder name octets = record { folder = folder; name = name; octets = octe
 pub record Ways : Type 1 where
   pub can : Placed → Type 0
   pub fails : Placed → Failure → Type 0
-
--- these files were put, in this order, and no others, if it is known which were put before
-abbrev pub Adds : (before after : Option (List Placed)) → List Placed → Type 0
-Adds None after files = ⊤
-Adds (Some put) None files = ⊥
-Adds (Some put) (Some all) files = all ≡ put ++ files
 
 -- ---- of the system, by what its open files hold
 

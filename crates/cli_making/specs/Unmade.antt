@@ -15,7 +15,8 @@ use Rattle.cli_tasks.specs.declared.task.MakeWords.{MakeWords}
 use Rattle.cli_failures.specs.declared.failure.Failure.{Failure}
 use Rattle.cli_failures.specs.declared.failure.Failure.TheVariants as failure
 use Rattle.cli_making.specs.Sums.{AreStated, RefusesSums}
-use Rattle.cli_making.specs.Placing.{Placed, Ways, Adds, system_ways}
+use Rattle.cli_making.specs.Adding.{Adds}
+use Rattle.cli_making.specs.Placing.{Placed, Ways, system_ways}
 use Rattle.cli_making.specs.Making.{AreFiles, AreTested, IsFileOf}
 use Rattle.cli_making.specs.Given.{GivesNot}
 use Rattle.cli_making.specs.Stamps.{StampsNot}
@@ -36,21 +37,27 @@ abbrev pub FailsAt : Ways → (folder : List ℕ) → HashTree → (token : List
 FailsAt ways folder tree token s f = IsNotMade tree token s f
     ⊎ ((p : Placed) × IsFileOf folder tree token s p × ways.fails p f)
 
--- the files of the lines before one are these, and that of this one can't be put
-pub record StopsAt (ways : Ways) (folder : List ℕ) (tree : HashTree) (token : List ℕ) (sums : List SumValue)
-    (f : Failure) : Type 0 where
+-- why the file of a line isn't put, of which a record was made before: memory ran out; or the file fails
+abbrev pub IsNotPut : Ways → (folder : List ℕ) → HashTree → (token : List ℕ) → SumValue → Failure → Type 0
+IsNotPut ways folder tree token s f = (f ≡ failure.Memory)
+    ⊎ ((p : Placed) × IsFileOf folder tree token s p × ways.fails p f)
+
+-- the files of the lines before one are these, and that of this one fails so
+pub record StopsAt (Fails : SumValue → Failure → Type 0) (folder : List ℕ) (tree : HashTree) (token : List ℕ)
+    (sums : List SumValue) (f : Failure) : Type 0 where
   pub before : List SumValue
   pub line : SumValue
   pub after : List SumValue
   pub all : sums ≡ before ++ line ∷ after
   pub files : List Placed
   pub are : AreFiles folder tree token before files
-  pub why : FailsAt ways folder tree token line f
+  pub why : Fails line f
 
 -- a test found of the first of these lines that its file can't be put
 abbrev pub IsUntested : Ways → (folder : List ℕ) → HashTree → (token : List ℕ) → List SumValue → Failure → Type 0
 IsUntested ways folder tree token sums f =
-    (stop : StopsAt ways folder tree token sums f) × AllByRecursion ways.can stop.files
+    (stop : StopsAt (λ s g. FailsAt ways folder tree token s g) folder tree token sums f)
+    × AllByRecursion ways.can stop.files
 
 -- why no file is put: the text states no sums; the token doesn't stamp the root of the tree over their digests; or a
 -- test found that the file of a line can't be put
@@ -59,12 +66,12 @@ IsRefused ways folder alg text token f = RefusesSums alg text f
     ⊎ ((sums : List SumValue) × (tree : HashTree) × (root : Digest) × AreStated alg text sums tree root
     × (StampsNot token root f ⊎ ((m : ℕ) × StampsRoot token root m × IsUntested ways folder tree token sums f)))
 
--- nothing was refused, and a test found that the file of each line can be put; then those of the lines before one were
--- put, and no others, and that of this one wasn't
+-- Nothing was refused, and a test found that the file of each line can be put; then those of the lines before one were
+-- put, and no others, and that of this one wasn't. No rule refuses then.
 pub record IsStopped (ways : Ways) (before after : Option (List Placed)) (folder : List ℕ) (alg : Alg)
     (text token : List ℕ) (f : Failure) : Type 0 where
   pub ready : AreTested ways folder alg text token
-  pub stop : StopsAt ways folder ready.tree token ready.sums f
+  pub stop : StopsAt (λ s g. IsNotPut ways folder ready.tree token s g) folder ready.tree token ready.sums f
   pub put : Adds before after stop.files
 
 -- no records are made, and nothing was put; or not all

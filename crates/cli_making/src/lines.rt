@@ -2,9 +2,10 @@
 ghost use Rattle.std.specs.Prelude.{◌≡◌, ◌∷◌, ℕ, List, [], Err, IfErr, IfOk, OnErr, OnOk, IsUtf8};
 ghost use Rattle.evidence_types.specs.StampValue.{IsSequence};
 ghost use Rattle.evidence_making.specs.declared.fault.MakeFault.TheVariants.{TooLong};
+ghost use Rattle.cli_making.specs.Adding.{Adds};
 ghost use Rattle.cli_making.specs.Leaves.{IsLeaf, IsReady};
 ghost use Rattle.cli_making.specs.Making.{IsFileOf, IsRecordOf};
-ghost use Rattle.cli_making.specs.Placing.{Adds, Placed, placed};
+ghost use Rattle.cli_making.specs.Placing.{Placed, placed};
 ghost use Rattle.cli_making.specs.Stamps.{IsStamp};
 ghost use Rattle.cli_making.specs.Unmade.{FailsAt, IsNotMade, IsTooLong};
 

@@ -1,11 +1,11 @@
 //! `evidence make`: the evidence records of many files, by the stamp of the root of the tree over their digests
 //! (RFC 4998 4.2).
 ghost use Rattle.std.specs.Prelude.{◌≡◌, [], IfErr, IfOk, OnOk};
+ghost use Rattle.cli_making.specs.Adding.{Adds};
 ghost use Rattle.cli_making.specs.Leaves.{AreReady};
-ghost use Rattle.cli_making.specs.Placing.{Adds};
 ghost use Rattle.cli_making.specs.Making.{AreMade, ArePut, AreRecordsWritten, EachFile};
 ghost use Rattle.cli_making.specs.Stamps.{IsStamp};
-ghost use Rattle.cli_making.specs.Unmade.{IsUnmade, IsUntested, MakesNoRecords, StopsAt};
+ghost use Rattle.cli_making.specs.Unmade.{FailsAt, IsUnmade, IsUntested, MakesNoRecords, StopsAt};
 
 use crate::given::given_by;
 use crate::lines::{test_line, write_line};
@@ -63,7 +63,7 @@ pub fn make_all<'a, P: Puts>(
     // The records of all lines were put, each by its line's name, in their order, and no other files.
     ensures made { OnOk result (AreMade P.ways P.did (P.put puts.old) (P.put puts.new) folder.now alg text.now
         token.now) }
-    // After a failure nothing was put, or the records of the first lines, if a test had found that all can be put.
+    // After a failure nothing was put; or a test found that all can be put, no rule refuses, and the first were.
     ensures failed { IfErr result (IsUnmade P.ways (P.put puts.old) (P.put puts.new) folder.now alg text.now
         token.now) }
 {
@@ -107,8 +107,9 @@ fn write_records<'a, P: Puts>(
     requires stamp { IsStamp by.now }
     ensures written { OnOk result (ArePut P.did (P.put puts.old) (P.put puts.new) folder.now by.now.tree.now
         by.now.token.now sums.now) }
-    ensures failed { IfErr result (λ f. (stop : StopsAt P.ways folder.now by.now.tree.now by.now.token.now sums.now f)
-        × Adds (P.put puts.old) (P.put puts.new) stop.files) }
+    ensures failed { IfErr result (λ f. (stop : StopsAt
+        (λ s g. FailsAt P.ways folder.now by.now.tree.now by.now.token.now s g) folder.now by.now.tree.now
+        by.now.token.now sums.now f) × Adds (P.put puts.old) (P.put puts.new) stop.files) }
 {
     let mut left = sums.again();
     while let Some((sum, others)) = left.next() {

@@ -5,7 +5,8 @@ use std::rt::Files;
 /// Puts files below folders: the system, or what stands for it in a test.
 pub trait Puts {
     ghost use Rattle.std.specs.Prelude.{ℕ, List, [], ◌∷◌, Option, IfErr, OnErr, OnOk};
-    ghost use Rattle.cli_making.specs.Placing.{Adds, Placed, Ways, placed};
+    ghost use Rattle.cli_making.specs.Adding.{Adds};
+    ghost use Rattle.cli_making.specs.Placing.{Placed, Ways, placed};
 
     // What is known of its tests and failures. No contract of `Files` says which path is written: here names stand for
     // what is asked of the system, by which the contracts say which octets are put where.

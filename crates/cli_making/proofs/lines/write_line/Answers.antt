@@ -1,7 +1,7 @@
 use Rattle.std.proofs.Common.{◌∙◌}
 use Rattle.std.proofs.lemmas.Result.{err_from_is_err_and}
 use Rattle.cli_making.proofs.Records.{fails_at, was_put}
-use Rattle.cli_making.proofs.Walked.{adds_none}
+use Rattle.cli_making.proofs.Adding.{adds_none}
 use Rattle.cli_making.proofs.lines.write_line.Goals as goal
 
 pub returns-in_err-file-clause-none : goal.returns-in_err-file-clause-none

@@ -36,7 +36,7 @@ LEFT_OUT += ("answers_in", "ask_by", "check_by", "line_of", "stamp_questions_by"
 # and those that cli_making makes
 LEFT_OUT += ("alg_of", "nonce_contents", "nonce_in", "policy_contents")
 # and those of cli_making and cli_renewing that cli_rehashing makes
-LEFT_OUT += ("given_by", "later_stamp", "lists_of", "stamp_of", "sums_in", "tree_on")
+LEFT_OUT += ("given_by", "later_stamp", "lists_of", "stamp_of", "sums_in", "tree_on", "Unrenewed")
 TEXTS = ("Display", "Debug")  # the traits that print
 EXACT = "The exact text."
 FEW = 4  # words that are as short as a reference to them

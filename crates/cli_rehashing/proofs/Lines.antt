@@ -2,9 +2,14 @@
 use Rattle.std.proofs.Common.{◌≡◌, ◌≢◌, ◌⊎◌, ◌<◌, ℕ, Bool, true, false, List, [], ◌∷◌, ◌++◌, map, Option, Some, None}
 use Rattle.std.proofs.Common.{refl, sym, ◌∙◌, subst, inl, inr, length, arith}
 use Rattle.std.specs.List.{AllByRecursion}
+use Rattle.der_core.specs.declared.fault.Fault.{Fault}
+use Rattle.der_core.specs.Faults.{Faults}
+use Rattle.der_core.specs.Grammar.{file}
 use Rattle.digests.specs.Digests.{alg_of}
 use Rattle.digests.specs.declared.algorithm.Alg.{Alg}
 use Rattle.digests.specs.declared.value.Digest.{Digest}
+use Rattle.evidence_types.specs.EvidenceTable.{evidence_record}
+use Rattle.evidence_trees.specs.HashTrees.{HashTree}
 use Rattle.evidence_sums.specs.SumLines.{SumValue}
 use Rattle.evidence_making.specs.Done.{IsDoneAnewBy, StandsAnewOn}
 use Rattle.evidence_making.specs.Leaves.{IsRehashLeaf}
@@ -18,7 +23,9 @@ use Rattle.cli_renewing.specs.Keeping.{Ways, kept}
 use Rattle.cli_renewing.specs.Steps.{AreOfFirst}
 use Rattle.cli_renewing.proofs.Zips.{zip_push}
 use Rattle.cli_rehashing.specs.Footings.{AreLineFootings, AreLines, IsLineFooting}
-use Rattle.cli_rehashing.specs.Standing.{IsFoundAnew}
+use Rattle.cli_renewing.specs.Renewing.{IsNoLeaf}
+use Rattle.cli_rehashing.specs.Rehashing.{IsOutsideAnew}
+use Rattle.cli_rehashing.specs.Standing.{HasNoLeaf, IsFoundAnew}
 use Rattle.cli_rehashing.specs.Unrehashed.{RefusesRecord, StopsAt}
 use Rattle.cli_rehashing.proofs.Walks.{Walked, along, goes_on}
 
@@ -54,6 +61,24 @@ line_footing ways token folder s name octets held digest done f named same by re
   stands = subst (λ (d : Digest). StandsAnewOn token octets d f.leaf f.after) by
       (stands_anew token octets digest done f.leaf f.after found);
 }
+
+-- ---- a record that the tree isn't over
+
+module _ (tree : HashTree) (token : List ℕ) (m : ℕ) (digest : Digest) (octets : List ℕ) where
+  pub outside_fault : (fault : Fault) → Faults (file evidence_record) octets fault
+      → IsOutsideAnew tree token m digest octets
+  outside_fault fault found = inl (fault, found)
+
+  pub outside_none : (f : Failure) → (f ≡ failure.Memory → ⊥) → (f ≡ failure.Memory) ⊎ HasNoLeaf octets f
+      → IsOutsideAnew tree token m digest octets
+  outside_none f never (inl memory) = absurd (never memory)
+  outside_none f never (inr (inl h)) = outside_fault h.fault h.found
+  outside_none f never (inr (inr (told, none))) = inr (inl none)
+
+  pub outside_leaf : (done : Bool) (leaf : Digest) (last : ℕ) → IsFoundAnew (Some token) octets digest done leaf last
+      → IsNoLeaf tree m leaf last → IsOutsideAnew tree token m digest octets
+  outside_leaf done leaf last found none =
+      inr (inr (leaf, last, stands_anew (Some token) octets digest done leaf last found, none))
 
 -- ---- all lines
 

@@ -1,8 +1,9 @@
 -- Records that are tested and put, one line after the other.
 use Rattle.std.proofs.Common.{◌≡◌, ◌⊎◌, ℕ, List, [], ◌∷◌, ◌++◌, Option}
 use Rattle.cli_failures.specs.declared.failure.Failure.{Failure}
-use Rattle.cli_renewing.specs.Keeping.{Adds, Kept, Ways}
-use Rattle.cli_renewing.specs.Records.{ArePut, AreTested, FailsAt, IsPutAt, IsTested, IsTooLongAt, IsUntested}
+use Rattle.cli_making.specs.Adding.{Adds}
+use Rattle.cli_renewing.specs.Keeping.{Kept, Ways}
+use Rattle.cli_renewing.specs.Records.{ArePut, AreTested, IsPutAt, IsTested, IsUnputAt, IsUntested, IsUntestedAt}
 use Rattle.cli_renewing.specs.Records.{Renewal, StopsAtPut}
 use Rattle.cli_renewing.proofs.Puts.{none_put, one_put, one_tested, stops_at, untested_at}
 use Rattle.cli_rehashing.proofs.Walks.{Walked, along, begins, goes_on}
@@ -23,7 +24,7 @@ module _ {A : Type 0} (ways : Ways) (r : Renewal A) where
         (one_tested ways r w.front x w.so t)
 
     pub untested_there : Walked (AreTested ways r) left xs → (f : Failure)
-        → IsTooLongAt ways r x f ⊎ FailsAt ways (r.path x) f → IsUntested ways r xs f
+        → IsUntestedAt ways r x f → IsUntested ways r xs f
     untested_there w f why = untested_at ways r xs w.front x others (along (AreTested ways r) left xs x others is w) f
         w.so why
 
@@ -32,7 +33,7 @@ module _ {A : Type 0} (ways : Ways) (r : Renewal A) where
       put_on h = goes_on (News before mid) left xs x others is w (News before after)
           (w.so.0 ++ h.new ∷ [], one_put ways r before mid after w.front w.so.0 x w.so.1 h)
 
-      pub put_stops : (f : Failure) → FailsAt ways (r.path x) f → Adds mid after []
+      pub put_stops : (f : Failure) → IsUnputAt ways r x f → Adds mid after []
           → StopsAtPut ways before after r xs f
       put_stops f why none = stops_at ways r xs w.front x others (along (News before mid) left xs x others is w) f
           before mid after w.so.0 w.so.1 none why

@@ -1,22 +1,26 @@
 -- What `evidence rehash` makes (Hash-Tree Renewal, RFC 4998, 5.2): the request for a stamp of the root of the tree over
 -- the leaves of the lines of a text of sums, and with its token the record of each line with a new chain, in its place.
 -- `holds` is what an open file holds, and `contents` what it has taken, if that is known. Begin here.
-use Rattle.std.specs.Prelude.{◌≡◌, ◌≢◌, ◌<◌, ◌≤◌, ◌^◌, ℕ, List, [], ◌∷◌, Option, None, Some, Contains, length}
+use Rattle.std.specs.Prelude.{◌≡◌, ◌≢◌, ◌⊎◌, ◌<◌, ◌≤◌, ◌^◌, ℕ, List, [], ◌∷◌, Option, None, Some, Contains, length}
 use Rattle.std.specs.List.{AllByRecursion}
+use Rattle.der_core.specs.declared.fault.Fault.{Fault}
+use Rattle.der_core.specs.Faults.{Faults}
+use Rattle.der_core.specs.Grammar.{file}
 use Rattle.digests.specs.declared.algorithm.Alg.{Alg}
 use Rattle.digests.specs.declared.value.Digest.{Digest}
 use Rattle.digests.specs.Algorithms.{name_of}
 use Rattle.digests.specs.Digests.{alg_of, octets_of}
 use Rattle.digests.specs.Messages.{digest_of}
+use Rattle.evidence_types.specs.EvidenceTable.{evidence_record}
 use Rattle.evidence_types.specs.EvidenceValue.{EvidenceValue, EncodesEvidence, chains_parts, evidence_parts}
 use Rattle.check_evidence.specs.Grounds.{Grounds}
 use Rattle.check_evidence.specs.Showing.{Shows}
 use Rattle.judge_evidence.specs.ShowingLaws.{held_at}
 use Rattle.evidence_trees.specs.HashTrees.{HashTree}
 use Rattle.evidence_sums.specs.SumLines.{SumValue}
-use Rattle.evidence_making.specs.Done.{IsRehashedBy}
+use Rattle.evidence_making.specs.Done.{IsRehashedBy, StandsAnewOn}
 use Rattle.evidence_making.specs.Laws.{TokenStands}
-use Rattle.evidence_making.specs.Leaves.{IsRehashLeaf}
+use Rattle.evidence_making.specs.Leaves.{HasNoMoment, IsRehashLeaf}
 use Rattle.evidence_making.specs.Renewed.{rehashed}
 use Rattle.evidence_making.specs.Renewing.{StandIn}
 use Rattle.cli_tasks.specs.declared.task.RehashRequestWords.{RehashRequestWords}
@@ -25,7 +29,7 @@ use Rattle.cli_failures.specs.Files.{IsHeld, path_below}
 use Rattle.cli_making.specs.Given.{AreGiven}
 use Rattle.cli_renewing.specs.Keeping.{IsTaken, Kept, Ways, system_ways}
 use Rattle.cli_renewing.specs.Records.{Renewal}
-use Rattle.cli_renewing.specs.Renewing.{LeadsUp}
+use Rattle.cli_renewing.specs.Renewing.{IsNoLeaf, LeadsUp}
 use Rattle.cli_renewing.specs.Runs.{AreDone, IsRequestOn}
 use Rattle.cli_rehashing.specs.Footings.{AreLineFootings, AreLines}
 
@@ -110,6 +114,13 @@ pub record IsTooLongAnew (tree : HashTree) (token : List ℕ) (digest : Digest) 
   pub size : (old : EvidenceValue) × EncodesEvidence octets old
       × (2 ^ 32 ≤ length (evidence_parts (rehashed old tree.algorithm values token)))
 
+-- the tree isn't over these octets, for the data object of a digest: they encode no record; or, by U3, one that can't
+-- be renewed; or what its renewal by the token stands on is no leaf of the tree, or not earlier
+abbrev pub IsOutsideAnew : HashTree → (token : List ℕ) → (m : ℕ) → Digest → (octets : List ℕ) → Type 0
+IsOutsideAnew tree token m digest octets = ((fault : Fault) × Faults (file evidence_record) octets fault)
+    ⊎ (HasNoMoment octets
+    ⊎ ((leaf : Digest) × (last : ℕ) × StandsAnewOn (Some token) octets digest leaf last × IsNoLeaf tree m leaf last))
+
 -- ---- all records
 
 -- so it is done with the record of a line, which is below a folder
@@ -118,6 +129,7 @@ rehashing folder tree token m = record {
   path = λ s. path_below folder s.name;
   Becomes = λ s octets new. BecomesAnew tree token m s.digest octets new;
   IsTooLong = λ s octets. IsTooLongAnew tree token s.digest octets;
+  IsOutside = λ s octets. IsOutsideAnew tree token m s.digest octets;
 }
 
 -- The token stamps the root of the tree on the records of these lines, later than their last time-stamps; a test found

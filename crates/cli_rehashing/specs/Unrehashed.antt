@@ -15,10 +15,11 @@ use Rattle.cli_failures.specs.declared.failure.Failure.TheVariants as failure
 use Rattle.cli_failures.specs.Causes.{Names}
 use Rattle.cli_failures.specs.Files.{IsFailureToRead, IsHeld, path_below}
 use Rattle.cli_commands.specs.Refusals.{RefusesAlg}
+use Rattle.cli_making.specs.Adding.{Adds}
 use Rattle.cli_making.specs.Given.{GivesNot}
 use Rattle.cli_making.specs.Sums.{RefusesSums}
 use Rattle.cli_renewing.specs.declared.footing.Footing.{Footing}
-use Rattle.cli_renewing.specs.Keeping.{Adds, Kept, Ways, kept, system_ways}
+use Rattle.cli_renewing.specs.Keeping.{Kept, Ways, kept, system_ways}
 use Rattle.cli_renewing.specs.Runs.{AreNotDone}
 use Rattle.cli_rehashing.specs.Footings.{AreLineFootings, AreLines}
 use Rattle.cli_rehashing.specs.Rehashing.{rehashing}

@@ -7,7 +7,8 @@ use std::rt::Files;
 pub trait KeepsBelow {
     ghost use Rattle.std.specs.Prelude.{ℕ, List, [], ◌∷◌, Option, IfErr, IfOk, OnErr, OnOk};
     ghost use Rattle.cli_failures.specs.Files.{path_below};
-    ghost use Rattle.cli_renewing.specs.Keeping.{Adds, Kept, Ways, kept};
+    ghost use Rattle.cli_making.specs.Adding.{Adds};
+    ghost use Rattle.cli_renewing.specs.Keeping.{Kept, Ways, kept};
 
     // What is known of reading files and replacing them. No contract of `Files` says which path is read or written:
     // here paths stand for what is asked of the system, by which the contracts say of which file what is read and put.

@@ -1,11 +1,11 @@
 //! The renewal of the record of one line.
 ghost use Rattle.std.specs.Prelude.{◌≡◌, ◌⊎◌, [], IfErr, OnErr, OnOk, IsUtf8, vec_items};
 ghost use Rattle.cli_failures.specs.Files.{IsUnread, path_below};
+ghost use Rattle.cli_making.specs.Adding.{Adds};
 ghost use Rattle.cli_making.specs.Stamps.{IsStamp};
-ghost use Rattle.cli_renewing.specs.Keeping.{Adds};
-ghost use Rattle.cli_renewing.specs.Records.{FailsAt, IsPutAt, IsTested, IsTooLongAt};
+ghost use Rattle.cli_renewing.specs.Records.{IsPutAt, IsTested, IsUnputAt, IsUntestedAt};
 ghost use Rattle.cli_renewing.specs.Steps.{IsStep};
-ghost use Rattle.cli_rehashing.specs.Rehashing.{BecomesAnew, IsTooLongAnew, rehashing};
+ghost use Rattle.cli_rehashing.specs.Rehashing.{BecomesAnew, IsOutsideAnew, IsTooLongAnew, rehashing};
 
 use crate::footing::standing_of;
 use crate::keeping::KeepsBelow;
@@ -29,12 +29,12 @@ fn rehashed_of(
 ) -> Result<Option<Vec<u8>>, Unrenewed>
     requires { IsStamp by.now }
     ensures { IsStep vec_items (BecomesAnew by.now.tree.now by.now.token.now by.now.moment digest.now octets.now)
-        (IsTooLongAnew by.now.tree.now by.now.token.now digest.now octets.now) result }
+        (IsTooLongAnew by.now.tree.now by.now.token.now digest.now octets.now)
+        (IsOutsideAnew by.now.tree.now by.now.token.now by.now.moment digest.now octets.now) result }
 {
     let standing = match standing_of(alloc, octets, digest, Some(by.token)) {
         Ok(standing) => standing,
-        Err(Failure::Memory) => return Err(Unrenewed::OutOfMemory),
-        Err(_) => return Err(Unrenewed::Changed),
+        Err(failure) => return Err(Unrenewed::of(&failure)),
     };
     let Some(values) = lists_of(by, &standing.footing) else {
         return Err(Unrenewed::Changed);
@@ -75,9 +75,8 @@ pub fn test_line<'a, K: KeepsBelow>(
     requires stamp { IsStamp by.now }
     ensures tested { OnOk result (IsTested K.ways
         (rehashing folder.now by.now.tree.now by.now.token.now by.now.moment) sum.now) }
-    ensures fails { IfErr result (λ f. IsTooLongAt K.ways
-        (rehashing folder.now by.now.tree.now by.now.token.now by.now.moment) sum.now f
-        ⊎ FailsAt K.ways (path_below folder.now sum.now.name) f) }
+    ensures fails { IfErr result (IsUntestedAt K.ways
+        (rehashing folder.now by.now.tree.now by.now.token.now by.now.moment) sum.now) }
 {
     let name = sum.name(alloc)?;
     let name = text_of(name.as_slice());
@@ -107,7 +106,8 @@ pub fn put_line<'a, K: KeepsBelow>(
     requires stamp { IsStamp by.now }
     ensures put { OnOk result (IsPutAt K.ways (K.put keeps.old) (K.put keeps.new)
         (rehashing folder.now by.now.tree.now by.now.token.now by.now.moment) sum.now) }
-    ensures fails { IfErr result (FailsAt K.ways (path_below folder.now sum.now.name)) }
+    ensures fails { IfErr result (IsUnputAt K.ways
+        (rehashing folder.now by.now.tree.now by.now.token.now by.now.moment) sum.now) }
     ensures none { OnErr result (Adds (K.put keeps.old) (K.put keeps.new) []) }
 {
     let name = sum.name(alloc)?;
@@ -117,7 +117,8 @@ pub fn put_line<'a, K: KeepsBelow>(
     match rehashed_of(alloc, by, octets.as_slice(), &digest) {
         Ok(Some(rehashed)) => keeps.put_file(folder, name, rehashed.as_slice()),
         Ok(None) => Ok(()),
-        Err(Unrenewed::Changed | Unrenewed::TooLong) => Err(changed(alloc, folder, name)),
+        Err(Unrenewed::Changed) => Err(changed(alloc, folder, name)),
+        Err(Unrenewed::TooLong) => Err(changed(alloc, folder, name)),
         Err(Unrenewed::OutOfMemory) => Err(Failure::Memory),
     }
 }

@@ -1,36 +1,23 @@
 -- Records that are tested and put, one after the other.
 use Rattle.std.proofs.Common.{◌≡◌, ◌⊎◌, ◌<◌, ◌+◌, ℕ, List, [], ◌∷◌, ◌++◌, Option, Some, None, refl, sym, ap, ◌∙◌, subst}
-use Rattle.std.proofs.Common.{append_assoc, append-nil, length, take, get_or, Result, Ok, Err}
+use Rattle.std.proofs.Common.{length, take, get_or, Result, Ok, Err, inl, inr}
 use Rattle.std.specs.Prelude.{OnOk}
 use Rattle.std.specs.List.{AllZip}
 use Rattle.std.proofs.lemmas.List.{take_more}
 use Rattle.cli_failures.specs.declared.failure.Failure.{Failure}
-use Rattle.cli_renewing.specs.Keeping.{Adds, Kept, Ways, kept}
-use Rattle.cli_renewing.specs.Records.{ArePut, AreTested, FailsAt, IsNewAt, IsPut, IsPutAt, IsTested, IsTooLongAt}
-use Rattle.cli_renewing.specs.Records.{IsUntested, Renewal, StopsAtPut, puts_of}
+use Rattle.cli_failures.specs.declared.failure.Failure.TheVariants as failure
+use Rattle.cli_failures.specs.Files.{IsUnread}
+use Rattle.cli_making.specs.Adding.{Adds}
+use Rattle.cli_making.proofs.Adding.{adds_more, adds_none, adds_nothing}
+use Rattle.cli_renewing.specs.Keeping.{Kept, Ways, kept}
+use Rattle.cli_renewing.specs.Records.{ArePut, AreTested, FailsAt, IsChangedAt, IsNewAt, IsPut, IsPutAt, IsTested}
+use Rattle.cli_renewing.specs.Records.{IsUnputAt, IsUntested, IsUntestedAt, Renewal, StopsAtPut, puts_of}
 use Rattle.cli_renewing.proofs.Zips.{all_push, split_at, zip_push}
 
 abbrev News : Type 0
 News = List (Option (List ℕ))
 
--- ---- what is added
-
-pub adds_none : (put : Option (List Kept)) → Adds put put []
-adds_none None = tt
-adds_none (Some put) = sym (append-nil put)
-
-pub adds_more : (before mid after : Option (List Kept)) (xs ys : List Kept) → Adds before mid xs → Adds mid after ys
-    → Adds before after (xs ++ ys)
-adds_more None mid after xs ys h k = tt
-adds_more (Some b) None after xs ys h k = absurd h
-adds_more (Some b) (Some m) None xs ys h k = absurd k
-adds_more (Some b) (Some m) (Some a) xs ys h k =
-    k ∙ ap (λ (l : List Kept). l ++ ys) h ∙ append_assoc b xs ys
-
-adds_nothing : (before mid after : Option (List Kept)) (xs : List Kept) → Adds before mid xs → Adds mid after []
-    → Adds before after xs
-adds_nothing before mid after xs h k =
-    subst (λ (l : List Kept). Adds before after l) (append-nil xs) (adds_more before mid after xs [] h k)
+-- ---- what is put
 
 puts_more : {A : Type 0} (path : A → List ℕ) (R : A → Option (List ℕ) → Type 0) (front : List A) (news : News) (x : A)
     (new : Option (List ℕ)) → AllZip R front news
@@ -70,6 +57,13 @@ module _ {A : Type 0} (ways : Ways) (r : Renewal A) where
         there : kept path given ≡ kept (r.path x) new
         there = ap (λ (p : List ℕ). kept p given) its ∙ ap (λ (os : List ℕ). kept (r.path x) os) is
 
+    -- the failure of a file that doesn't hold any more what it held
+    pub changed_at : (Other : A → List ℕ → Type 0) → Other x octets → (f : Failure)
+        → (f ≡ failure.Memory) ⊎ IsUnread path f → IsChangedAt ways r Other x f ⊎ FailsAt ways (r.path x) f
+    changed_at Other is f (inl m) = inr (inl m)
+    changed_at Other is f (inr unread) =
+        inl (subst (λ (p : List ℕ). IsUnread p f) its unread, (octets, read_there, is))
+
   -- ---- all, of which these are at the front
 
   pub one_tested : (front : List A) (x : A) → AreTested ways r front → IsTested ways r x
@@ -90,13 +84,12 @@ module _ {A : Type 0} (ways : Ways) (r : Renewal A) where
   }
 
   module _ (xs front : List A) (x : A) (others : List A) (all : xs ≡ front ++ x ∷ others) (f : Failure) where
-    pub untested_at : AreTested ways r front → IsTooLongAt ways r x f ⊎ FailsAt ways (r.path x) f
-        → IsUntested ways r xs f
+    pub untested_at : AreTested ways r front → IsUntestedAt ways r x f → IsUntested ways r xs f
     untested_at tested why =
         record { front = front; x = x; others = others; all = all; tested = tested; why = why }
 
     pub stops_at : (before mid after : Option (List Kept)) (news : News) → ArePut ways before mid r front news
-        → Adds mid after [] → FailsAt ways (r.path x) f → StopsAtPut ways before after r xs f
+        → Adds mid after [] → IsUnputAt ways r x f → StopsAtPut ways before after r xs f
     stops_at before mid after news are none why =
         let made : ArePut ways before after r front news =
         record { each = are.each; put = adds_nothing before mid after (puts_of r.path front news) are.put none } in
@@ -117,14 +110,14 @@ module _ {A : Type 0} (ways : Ways) (r : Renewal A) where
         subst (λ (ys : List A). ArePut ways before after r ys (news ++ h.new ∷ [])) (sym (take_more xs i d within))
         (one_put before mid after (take i xs) news (get_or xs i d) are h)
 
-    pub untested_next : (f : Failure) → AreTested ways r (take i xs)
-        → IsTooLongAt ways r (get_or xs i d) f ⊎ FailsAt ways (r.path (get_or xs i d)) f → IsUntested ways r xs f
+    pub untested_next : (f : Failure) → AreTested ways r (take i xs) → IsUntestedAt ways r (get_or xs i d) f
+        → IsUntested ways r xs f
     untested_next f tested why =
         let split = split_at xs i d within in
         untested_at xs (take i xs) (get_or xs i d) split.0 split.1 f tested why
 
     pub stops_next : (f : Failure) (before mid after : Option (List Kept)) (news : News)
-        → ArePut ways before mid r (take i xs) news → Adds mid after [] → FailsAt ways (r.path (get_or xs i d)) f
+        → ArePut ways before mid r (take i xs) news → Adds mid after [] → IsUnputAt ways r (get_or xs i d) f
         → StopsAtPut ways before after r xs f
     stops_next f before mid after news are none why =
         let split = split_at xs i d within in

@@ -14,6 +14,7 @@ use Rattle.cli_failures.specs.Causes.{Names}
 use Rattle.cli_making.specs.declared.stamp.Stamp.{Stamp}
 use Rattle.cli_making.specs.Stamps.{IsStamp, StampsTree}
 use Rattle.cli_making.specs.Sums.{IsRootOf}
+use Rattle.cli_making.proofs.Adding.{adds_none}
 use Rattle.cli_making.proofs.Stamps.{as_of}
 use Rattle.cli_renewing.specs.declared.footing.Footing.{Footing}
 use Rattle.cli_renewing.specs.Footings.{AreFootings, ComesAfter, IsFootingRead, IsTreeOn}
@@ -21,7 +22,6 @@ use Rattle.cli_renewing.specs.Keeping.{Kept, Ways}
 use Rattle.cli_renewing.specs.Records.{ArePut, AreTested, IsUntested, Renewal, StopsAtPut}
 use Rattle.cli_renewing.specs.Runs.{AreDone, AreNotDone, AreRefused, AreStamped, IsNotLater, IsRequestOn}
 use Rattle.cli_renewing.specs.Unrenewed.{HaveNoTree, StopsAt}
-use Rattle.cli_renewing.proofs.Puts.{adds_none}
 
 -- no footing is only of no path
 none_of_none : {A B : Type 0} (R : A → B → Type 0) (xs : List A) (ys : List B) → AllZip R xs ys → ys ≡ [] → xs ≡ []

@@ -9,6 +9,7 @@ use Rattle.der_core.specs.declared.fault.Fault.{Fault}
 use Rattle.der_core.specs.Faults.{Faults}
 use Rattle.der_core.specs.Grammar.{file}
 use Rattle.evidence_types.specs.EvidenceTable.{evidence_record}
+use Rattle.evidence_trees.specs.HashTrees.{HashTree}
 use Rattle.evidence_making.specs.declared.fault.LeafFault.{LeafFault}
 use Rattle.evidence_making.specs.declared.fault.LeafFault.TheVariants as leaf
 use Rattle.evidence_making.specs.declared.leaves.LastStamp.{LastStamp}
@@ -20,6 +21,7 @@ use Rattle.cli_failures.specs.Failures.{failure_of_leaf}
 use Rattle.cli_renewing.specs.declared.footing.Footing.{Footing}
 use Rattle.cli_renewing.specs.Footings.{AreFootings, IsFootingRead}
 use Rattle.cli_renewing.specs.Keeping.{Ways, kept}
+use Rattle.cli_renewing.specs.Renewing.{IsNoLeaf, IsOutside}
 use Rattle.cli_renewing.specs.Standing.{HasNoFooting, IsFound}
 use Rattle.cli_renewing.specs.Steps.{AreOfFirst, IsOfFirst}
 use Rattle.cli_renewing.specs.Unrenewed.{IsMixed, RefusesRecord, StopsAt}
@@ -58,6 +60,21 @@ is_footing ways token path octets done last read found = record {
   read = read;
   is = record { last = last; stands = stands_on token octets done last found; leaf = refl; after = refl };
 }
+
+-- ---- a record that the tree isn't over
+
+module _ (tree : HashTree) (token : List ℕ) (m : ℕ) (octets : List ℕ) where
+  pub outside_fault : (fault : Fault) → Faults (file evidence_record) octets fault → IsOutside tree token m octets
+  outside_fault fault found = inl (fault, found)
+
+  pub outside_none : (f : Failure) → (f ≡ failure.Memory → ⊥) → HasNoFooting octets f → IsOutside tree token m octets
+  outside_none f never (inl memory) = absurd (never memory)
+  outside_none f never (inr (inl h)) = outside_fault h.fault h.found
+  outside_none f never (inr (inr (told, none))) = inr (inl none)
+
+  pub outside_leaf : (done : Bool) (last : LastStamp) → IsFound (Some token) octets done last
+      → IsNoLeaf tree m last.leaf last.moment → IsOutside tree token m octets
+  outside_leaf done last found none = inr (inr (last, stands_on (Some token) octets done last found, none))
 
 -- ---- the algorithm of the first
 

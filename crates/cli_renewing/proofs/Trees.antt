@@ -1,6 +1,6 @@
 -- The tree on footings.
-use Rattle.std.proofs.Common.{◌≡◌, ℕ, List, [], ◌∷◌, map, Option, Some, None, All}
-use Rattle.std.proofs.Common.{◌↔◌, Contains, refl, sym, ap, ◌∙◌, subst}
+use Rattle.std.proofs.Common.{◌≡◌, ℕ, Bool, true, false, List, [], ◌∷◌, map, Option, Some, None, All}
+use Rattle.std.proofs.Common.{◌↔◌, Contains, refl, sym, ap, ◌∙◌, subst, inr}
 use Rattle.std.specs.Prelude.{IfSome, IsSome}
 use Rattle.std.specs.List.{AllByRecursion, slice_get}
 use Rattle.std.proofs.lemmas.List.Elements.{All-from_recursion}
@@ -11,7 +11,7 @@ use Rattle.evidence_trees.specs.HashTrees.{AreListsOf, HashTree, IsTreeOf, IsWay
 use Rattle.cli_making.specs.Sums.{IsRootOf}
 use Rattle.cli_renewing.specs.declared.footing.Footing.{Footing}
 use Rattle.cli_renewing.specs.Footings.{AreBy, IsTreeOn}
-use Rattle.cli_renewing.specs.Renewing.{LeadsUp}
+use Rattle.cli_renewing.specs.Renewing.{IsNoLeaf, LeadsUp}
 use Rattle.cli_renewing.specs.Steps.{AreOfFirst}
 
 -- all are by the algorithm of the first, which is at the front
@@ -60,3 +60,10 @@ pub leads_up : (tree : HashTree) (leaf : Digest) (r : Option (List (List ℕ)))
 leads_up tree leaf None some way lists = tt
 leads_up tree leaf (Some values) some way lists =
     record { by = (some.0 refl).0; there = (some.0 refl).1; way = way; lists = lists }
+
+-- where nothing leads from there to the root
+pub no_leaf : (tree : HashTree) (leaf : Digest) (m last : ℕ) (r : Option (List (List ℕ)))
+    → IsSome r ↔ (alg_of leaf ≡ tree.algorithm) × Contains tree.leaves (octets_of leaf) → r ≡ None
+    → IsNoLeaf tree m leaf last
+no_leaf tree leaf m last None some is = inr (λ there. let z : false ≡ true = some.1 there in cc)
+no_leaf tree leaf m last (Some values) some is = absurd (let z : Some values ≡ None = is in cc)

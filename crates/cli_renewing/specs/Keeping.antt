@@ -1,7 +1,7 @@
 -- Files that are read and replaced, each by its path. No contract of the system says which path is read or written:
 -- here paths stand for what is asked of it, by which contracts say of which file what is read, what is put into its
 -- place, and in which order.
-use Rattle.std.specs.Prelude.{◌≡◌, ⊤, ℕ, List, ◌++◌, Option, Some, None}
+use Rattle.std.specs.Prelude.{⊤, ℕ, List, Option}
 use Rattle.std.specs.Io.KnownBytes.{Appends}
 use Rattle.cli_failures.specs.declared.failure.Failure.{Failure}
 use Rattle.cli_failures.specs.Files.{IsFailureToReadShown, IsFailureToReplaceShown, IsHeld}
@@ -22,12 +22,6 @@ pub record Ways : Type 1 where
   pub did : Kept → Type 0
   pub unread : (path : List ℕ) → Failure → Type 0
   pub unput : (path : List ℕ) → Failure → Type 0
-
--- these files were put, in this order, and no others, if it is known which were put before
-abbrev pub Adds : (before after : Option (List Kept)) → List Kept → Type 0
-Adds None after files = ⊤
-Adds (Some put) None files = ⊥
-Adds (Some put) (Some all) files = all ≡ put ++ files
 
 -- ---- of the system, by what its open files hold and what they have taken
 

@@ -6,14 +6,17 @@ use Rattle.evidence_making.specs.declared.fault.MakeFault.TheVariants as make
 use Rattle.cli_failures.specs.declared.failure.Failure.{Failure}
 use Rattle.cli_failures.specs.declared.failure.Failure.TheVariants as failure
 use Rattle.cli_failures.specs.Files.{IsUnread}
-use Rattle.cli_renewing.specs.Keeping.{Adds, Kept, Ways, kept}
+use Rattle.cli_making.specs.Adding.{Adds}
+use Rattle.cli_renewing.specs.Keeping.{Kept, Ways, kept}
 
 -- What is to be done, where each record is named by one of these: the path of its file; that a record becomes new
--- octets, or is renewed already, and stays; and that the new one would be longer than an element can be.
+-- octets, or is renewed already, and stays; that the new one would be longer than an element can be; and that the tree
+-- isn't over the record.
 pub record Renewal (A : Type 0) : Type 1 where
   pub path : A → List ℕ
   pub Becomes : A → (octets : List ℕ) → (new : Option (List ℕ)) → Type 0
   pub IsTooLong : A → (octets : List ℕ) → Type 0
+  pub IsOutside : A → (octets : List ℕ) → Type 0
 
 -- ---- one record
 
@@ -38,9 +41,27 @@ abbrev pub IsTooLongAt : {A : Type 0} → Ways → Renewal A → A → Failure �
 IsTooLongAt ways r x f = (f ≡ failure.Unmade make.TooLong)
     × ((octets : List ℕ) × ways.read (kept (r.path x) octets) × r.IsTooLong x octets)
 
--- memory ran out, or the file of this path can't be read, can't be put, or doesn't hold any more what it held
+-- the file doesn't hold any more what it held: the record that was read from it is one of these; the failure is that it
+-- can't be read
+abbrev pub IsChangedAt : {A : Type 0} → Ways → Renewal A → (Other : A → (octets : List ℕ) → Type 0) → A → Failure
+    → Type 0
+IsChangedAt ways r Other x f = IsUnread (r.path x) f
+    × ((octets : List ℕ) × ways.read (kept (r.path x) octets) × Other x octets)
+
+-- memory ran out, or the file of this path can't be read or put
 abbrev pub FailsAt : Ways → (path : List ℕ) → Failure → Type 0
-FailsAt ways path f = (f ≡ failure.Memory) ⊎ (ways.unread path f ⊎ (ways.unput path f ⊎ IsUnread path f))
+FailsAt ways path f = (f ≡ failure.Memory) ⊎ (ways.unread path f ⊎ ways.unput path f)
+
+-- why a test finds that a record can't be renewed, or put into its place: U10; the tree isn't over it any more; or that
+abbrev pub IsUntestedAt : {A : Type 0} → Ways → Renewal A → A → Failure → Type 0
+IsUntestedAt ways r x f = IsTooLongAt ways r x f
+    ⊎ (IsChangedAt ways r (λ y octets. r.IsOutside y octets) x f ⊎ FailsAt ways (r.path x) f)
+
+-- why a record isn't put, once all were tested: the tree isn't over it any more, or the new one would be too long; or
+-- that
+abbrev pub IsUnputAt : {A : Type 0} → Ways → Renewal A → A → Failure → Type 0
+IsUnputAt ways r x f = IsChangedAt ways r (λ y octets. r.IsOutside y octets ⊎ r.IsTooLong y octets) x f
+    ⊎ FailsAt ways (r.path x) f
 
 -- ---- all records
 
@@ -55,7 +76,7 @@ pub record IsUntested {A : Type 0} (ways : Ways) (r : Renewal A) (xs : List A) (
   pub others : List A
   pub all : xs ≡ front ++ x ∷ others
   pub tested : AreTested ways r front
-  pub why : IsTooLongAt ways r x f ⊎ FailsAt ways (r.path x) f
+  pub why : IsUntestedAt ways r x f
 
 -- the files that are put: of each the new octets, where there are some
 abbrev pub puts_of : {A : Type 0} → (path : A → List ℕ) → List A → (news : List (Option (List ℕ))) → List Kept
@@ -85,4 +106,4 @@ pub record StopsAtPut {A : Type 0} (ways : Ways) (before after : Option (List Ke
   pub all : xs ≡ front ++ x ∷ others
   pub news : List (Option (List ℕ))
   pub made : ArePut ways before after r front news
-  pub why : FailsAt ways (r.path x) f
+  pub why : IsUnputAt ways r x f

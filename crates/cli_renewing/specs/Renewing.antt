@@ -1,20 +1,24 @@
 -- What `evidence renew` makes (Time-Stamp Renewal, RFC 4998, 5.2): the request for a stamp of the root of the tree over
 -- the last time-stamps of records, and with its token the records renewed, each in its place. `holds` is what an open
 -- file holds, and `contents` what it has taken, if that is known. Begin here.
-use Rattle.std.specs.Prelude.{◌≡◌, ◌≢◌, ◌<◌, ◌≤◌, ◌^◌, ℕ, List, Option, None, Some, Contains, codes, length}
+use Rattle.std.specs.Prelude.{◌≡◌, ◌≢◌, ◌⊎◌, ◌<◌, ◌≤◌, ◌^◌, ℕ, List, Option, None, Some, Contains, codes, length}
 use Rattle.std.specs.Borrow.{Bor}
 use Rattle.std.specs.List.{AllByRecursion}
+use Rattle.der_core.specs.declared.fault.Fault.{Fault}
+use Rattle.der_core.specs.Faults.{Faults}
+use Rattle.der_core.specs.Grammar.{file}
 use Rattle.digests.specs.declared.value.Digest.{Digest}
 use Rattle.digests.specs.Digests.{alg_of, octets_of}
+use Rattle.evidence_types.specs.EvidenceTable.{evidence_record}
 use Rattle.evidence_types.specs.EvidenceValue.{EvidenceValue, EncodesEvidence, evidence_parts}
 use Rattle.check_evidence.specs.Grounds.{Grounds}
 use Rattle.check_evidence.specs.Showing.{Shows}
 use Rattle.judge_evidence.specs.ShowingLaws.{held_at}
 use Rattle.evidence_trees.specs.HashTrees.{HashTree, IsWayFrom, AreListsOf}
 use Rattle.evidence_making.specs.declared.leaves.LastStamp.{LastStamp}
-use Rattle.evidence_making.specs.Done.{IsRenewedBy}
+use Rattle.evidence_making.specs.Done.{IsRenewedBy, StandsOn}
 use Rattle.evidence_making.specs.Laws.{TokenStands}
-use Rattle.evidence_making.specs.Leaves.{IsLastStamp}
+use Rattle.evidence_making.specs.Leaves.{HasNoStamp, IsLastStamp}
 use Rattle.evidence_making.specs.Renewed.{renewed}
 use Rattle.evidence_making.specs.Renewing.{ChainsStandIn}
 use Rattle.cli_tasks.specs.declared.task.RenewWords.{RenewWords}
@@ -98,6 +102,16 @@ pub record IsTooLong (tree : HashTree) (token octets : List ℕ) : Type 0 where
   pub size : (old : EvidenceValue) × EncodesEvidence octets old
       × (2 ^ 32 ≤ length (evidence_parts (renewed old tree.algorithm values token)))
 
+-- what a renewal stands on isn't earlier than the new time-stamp, or no leaf of the tree, by its algorithm
+abbrev pub IsNoLeaf : HashTree → (m : ℕ) → (leaf : Digest) → (last : ℕ) → Type 0
+IsNoLeaf tree m leaf last = (m ≤ last) ⊎ ((alg_of leaf ≡ tree.algorithm) × Contains tree.leaves (octets_of leaf) → ⊥)
+
+-- the tree isn't over these octets: they encode no record; or, by U3, one that can't be renewed; or what its renewal by
+-- the token stands on is no leaf of the tree, or not earlier
+abbrev pub IsOutside : HashTree → (token : List ℕ) → (m : ℕ) → (octets : List ℕ) → Type 0
+IsOutside tree token m octets = ((fault : Fault) × Faults (file evidence_record) octets fault) ⊎ (HasNoStamp octets
+    ⊎ ((last : LastStamp) × StandsOn (Some token) octets last × IsNoLeaf tree m last.leaf last.moment))
+
 -- ---- all records
 
 -- so it is done with the record of a path
@@ -106,6 +120,7 @@ renewal tree token m = record {
   path = λ path. path.now;
   Becomes = λ path octets new. Becomes tree token m octets new;
   IsTooLong = λ path octets. IsTooLong tree token octets;
+  IsOutside = λ path octets. IsOutside tree token m octets;
 }
 
 -- The token stamps the root of the tree on these records, later than their last time-stamps; a test found that all can

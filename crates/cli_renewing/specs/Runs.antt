@@ -9,10 +9,11 @@ use Rattle.evidence_making.specs.declared.fault.StampFault.TheVariants as stamp
 use Rattle.evidence_making.specs.Stamping.{StampsRoot}
 use Rattle.cli_failures.specs.declared.failure.Failure.{Failure}
 use Rattle.cli_failures.specs.declared.failure.Failure.TheVariants as failure
+use Rattle.cli_making.specs.Adding.{Adds}
 use Rattle.cli_making.specs.Stamps.{StampsNoTree, StampsNot, StampsTree}
 use Rattle.cli_renewing.specs.declared.footing.Footing.{Footing}
 use Rattle.cli_renewing.specs.Footings.{ComesAfter, IsTreeOn}
-use Rattle.cli_renewing.specs.Keeping.{Adds, Kept, Ways}
+use Rattle.cli_renewing.specs.Keeping.{Kept, Ways}
 use Rattle.cli_renewing.specs.Records.{ArePut, AreTested, IsUntested, Renewal, StopsAtPut}
 
 -- these octets encode the request for a stamp of the root of the tree on the records, under no policy, without a nonce,

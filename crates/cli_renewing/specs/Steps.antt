@@ -17,11 +17,11 @@ abbrev pub AreOfFirst : List Footing → Type 0
 AreOfFirst [] = ⊤
 AreOfFirst (f ∷ footings) = AreBy (alg_of f.leaf) (f ∷ footings)
 
--- what was made, seen as octets, is what the record becomes; or it would be too long; or it isn't what it was when the
--- tree was made; or memory was refused
+-- what was made, seen as octets, is what the record becomes; or it would be too long; or the tree isn't over the
+-- record; or memory was refused
 abbrev pub IsStep : {X : Type 0} → (octets_of_made : X → List ℕ) → (Becomes : Option (List ℕ) → Type 0)
-    → (TooLongSo : Type 0) → Result (Option X) Unrenewed → Type 0
-IsStep of_made Becomes TooLongSo (Ok made) = Becomes (option_map of_made made)
-IsStep of_made Becomes TooLongSo (Err TooLong) = TooLongSo
-IsStep of_made Becomes TooLongSo (Err Changed) = ⊤
-IsStep of_made Becomes TooLongSo (Err OutOfMemory) = ⊤
+    → (TooLongSo OutsideSo : Type 0) → Result (Option X) Unrenewed → Type 0
+IsStep of_made Becomes TooLongSo OutsideSo (Ok made) = Becomes (option_map of_made made)
+IsStep of_made Becomes TooLongSo OutsideSo (Err TooLong) = TooLongSo
+IsStep of_made Becomes TooLongSo OutsideSo (Err Changed) = OutsideSo
+IsStep of_made Becomes TooLongSo OutsideSo (Err OutOfMemory) = ⊤

@@ -1,9 +1,9 @@
 //! The renewal of one record.
-ghost use Rattle.std.specs.Prelude.{◌≡◌, ◌⊎◌, ◌<◌, [], IfErr, IfSome, OnErr, OnOk, vec_items};
+ghost use Rattle.std.specs.Prelude.{◌≡◌, ◌≢◌, ◌⊎◌, ◌<◌, [], None, IfErr, IfSome, OnErr, OnOk, vec_items};
+ghost use Rattle.cli_making.specs.Adding.{Adds};
 ghost use Rattle.cli_making.specs.Stamps.{IsStamp};
-ghost use Rattle.cli_renewing.specs.Keeping.{Adds};
-ghost use Rattle.cli_renewing.specs.Records.{FailsAt, IsPutAt, IsTested, IsTooLongAt};
-ghost use Rattle.cli_renewing.specs.Renewing.{Becomes, IsTooLong, LeadsUp, renewal};
+ghost use Rattle.cli_renewing.specs.Records.{IsPutAt, IsTested, IsUnputAt, IsUntestedAt};
+ghost use Rattle.cli_renewing.specs.Renewing.{Becomes, IsNoLeaf, IsOutside, IsTooLong, LeadsUp, renewal};
 ghost use Rattle.cli_renewing.specs.Steps.{IsStep};
 
 use crate::footing::{Footing, standing_of};
@@ -25,6 +25,19 @@ pub enum Unrenewed {
     OutOfMemory,
 }
 
+impl Unrenewed {
+    /// Why a record isn't renewed that has no footing any more: what isn't a lack of memory is a change.
+    pub fn of(failure: &Failure) -> Unrenewed
+        ensures { ((result ≡ Unrenewed.OutOfMemory) × (failure.now ≡ Failure.Memory))
+            ⊎ ((result ≡ Unrenewed.Changed) × (failure.now ≢ Failure.Memory)) }
+    {
+        match failure {
+            Failure::Memory => Unrenewed::OutOfMemory,
+            _ => Unrenewed::Changed,
+        }
+    }
+}
+
 /// The lists that lead from what a renewal stands on to the root of the tree, if it is a leaf, and the stamp is later.
 /// It allocates nothing.
 pub fn lists_of<'t>(by: &Stamp<'t>, footing: &Footing) -> Option<LeafLists<'t>>
@@ -32,6 +45,8 @@ pub fn lists_of<'t>(by: &Stamp<'t>, footing: &Footing) -> Option<LeafLists<'t>>
     ensures up { IfSome result (LeadsUp by.now.tree.now footing.now.leaf) }
     // The stamp is later.
     ensures later { IfSome result (λ _. footing.now.after < by.now.moment) }
+    // Returns `None` only if it isn't, or the tree has no such leaf.
+    ensures none { result ≡ None → IsNoLeaf by.now.tree.now by.now.moment footing.now.leaf footing.now.after }
 {
     if footing.after < by.moment {
         by.tree.lists_of(&footing.leaf)
@@ -46,12 +61,12 @@ pub fn lists_of<'t>(by: &Stamp<'t>, footing: &Footing) -> Option<LeafLists<'t>>
 fn renewed_of(alloc: Global, by: &Stamp, octets: &[u8]) -> Result<Option<Vec<u8>>, Unrenewed>
     requires { IsStamp by.now }
     ensures { IsStep vec_items (Becomes by.now.tree.now by.now.token.now by.now.moment octets.now)
-        (IsTooLong by.now.tree.now by.now.token.now octets.now) result }
+        (IsTooLong by.now.tree.now by.now.token.now octets.now)
+        (IsOutside by.now.tree.now by.now.token.now by.now.moment octets.now) result }
 {
     let standing = match standing_of(alloc, octets, Some(by.token)) {
         Ok(standing) => standing,
-        Err(Failure::Memory) => return Err(Unrenewed::OutOfMemory),
-        Err(_) => return Err(Unrenewed::Changed),
+        Err(failure) => return Err(Unrenewed::of(&failure)),
     };
     let last = standing.last;
     let footing = Footing {
@@ -85,8 +100,8 @@ pub fn test_record<'a, K: Keeps>(
     requires { IsStamp by.now }
     ensures tested { OnOk result (IsTested K.ways (renewal by.now.tree.now by.now.token.now by.now.moment)
         path.entry) }
-    ensures fails { IfErr result (λ f. IsTooLongAt K.ways (renewal by.now.tree.now by.now.token.now by.now.moment)
-        path.entry f ⊎ FailsAt K.ways path.now f) }
+    ensures fails { IfErr result (IsUntestedAt K.ways (renewal by.now.tree.now by.now.token.now by.now.moment)
+        path.entry) }
 {
     keeps.test_file(path)?;
     let octets = keeps.read_file(path)?;
@@ -111,14 +126,16 @@ pub fn put_record<'a, K: Keeps>(
     requires { IsStamp by.now }
     ensures put { OnOk result (IsPutAt K.ways (K.put keeps.old) (K.put keeps.new)
         (renewal by.now.tree.now by.now.token.now by.now.moment) path.entry) }
-    ensures fails { IfErr result (FailsAt K.ways path.now) }
+    ensures fails { IfErr result (IsUnputAt K.ways (renewal by.now.tree.now by.now.token.now by.now.moment)
+        path.entry) }
     ensures none { OnErr result (Adds (K.put keeps.old) (K.put keeps.new) []) }
 {
     let octets = keeps.read_file(path)?;
     match renewed_of(alloc, by, octets.as_slice()) {
         Ok(Some(renewed)) => keeps.put_file(path, renewed.as_slice()),
         Ok(None) => Ok(()),
-        Err(Unrenewed::Changed | Unrenewed::TooLong) => Err(files::changed(alloc, path)),
+        Err(Unrenewed::Changed) => Err(files::changed(alloc, path)),
+        Err(Unrenewed::TooLong) => Err(files::changed(alloc, path)),
         Err(Unrenewed::OutOfMemory) => Err(Failure::Memory),
     }
 }

@@ -1,10 +1,17 @@
-use Rattle.std.proofs.Common.{◌≡◌, ◌∙◌, List, ℕ, Some, None, ap, subst, rules}
+use Rattle.std.proofs.Common.{◌≡◌, ◌⊎◌, ◌∙◌, List, ℕ, Some, None, inl, inr, ap, subst, rules}
 use Rattle.std.proofs.lemmas.Result.{err_from_is_err_and}
 use Rattle.digests.specs.declared.value.Digest.{Digest}
+use Rattle.evidence_trees.specs.HashTrees.{HashTree}
+use Rattle.evidence_sums.specs.SumLines.{SumValue}
 use Rattle.cli_failures.specs.Files.{path_below}
-use Rattle.cli_renewing.proofs.Puts.{adds_none, put_if, stays}
-use Rattle.cli_rehashing.specs.Rehashing.{BecomesAnew, rehashing}
+use Rattle.cli_making.proofs.Adding.{adds_none}
+use Rattle.cli_renewing.proofs.Puts.{changed_at, put_if, stays}
+use Rattle.cli_rehashing.specs.Rehashing.{BecomesAnew, IsOutsideAnew, IsTooLongAnew, rehashing}
 use Rattle.cli_rehashing.proofs.step.put_line.Goals as goal
+
+-- of a record that isn't what was tested
+abbrev Other : HashTree → (token : List ℕ) → (m : ℕ) → SumValue → (octets : List ℕ) → Type 0
+Other tree token m s octets = IsOutsideAnew tree token m s.digest octets ⊎ IsTooLongAnew tree token s.digest octets
 
 pub returns-in_err-octets-clause-none : goal.returns-in_err-octets-clause-none
 returns-in_err-octets-clause-none g c =
@@ -37,3 +44,35 @@ returns-in-Ok-None-clause-put g c =
     c.in_ok-octets.ensures.read _
     (subst (λ (d : Digest). BecomesAnew c.args.by.now.tree.now c.args.by.now.token.now c.args.by.now.moment d
     c.as_slice-2.result.now None) c.in_ok-digest.ensures (rw none at c.in-Ok-None.ensures))
+
+pub returns-in-Err-Changed-clause-fails : goal.returns-in-Err-Changed-clause-fails
+returns-in-Err-Changed-clause-fails g c =
+    changed_at g.K.KeepsBelow.ways
+    (rehashing c.args.folder.now c.args.by.now.tree.now c.args.by.now.token.now c.args.by.now.moment)
+    c.args.sum.now _ c.as_slice-2.result.now c.in_ok-octets.octets.items
+    (ap (λ (n : List ℕ). path_below c.args.folder.now n)
+    (c.text_of-name.ensures ∙ c.as_slice.ensures.value ∙ c.in_ok-name.ensures))
+    c.as_slice-2.ensures.value c.in_ok-octets.ensures.read
+    (Other c.args.by.now.tree.now c.args.by.now.token.now c.args.by.now.moment)
+    (inl (subst (λ (d : Digest). IsOutsideAnew c.args.by.now.tree.now c.args.by.now.token.now c.args.by.now.moment d
+    c.as_slice-2.result.now) c.in_ok-digest.ensures
+    (rw c.in-Err-Changed.field-0-is at c.in-Err-Changed.ensures))) c.changed.result c.changed.ensures
+
+pub returns-in-Err-Changed-clause-none : goal.returns-in-Err-Changed-clause-none
+returns-in-Err-Changed-clause-none g c = adds_none _
+
+pub returns-in-Err-TooLong-clause-fails : goal.returns-in-Err-TooLong-clause-fails
+returns-in-Err-TooLong-clause-fails g c =
+    changed_at g.K.KeepsBelow.ways
+    (rehashing c.args.folder.now c.args.by.now.tree.now c.args.by.now.token.now c.args.by.now.moment)
+    c.args.sum.now _ c.as_slice-2.result.now c.in_ok-octets.octets.items
+    (ap (λ (n : List ℕ). path_below c.args.folder.now n)
+    (c.text_of-name.ensures ∙ c.as_slice.ensures.value ∙ c.in_ok-name.ensures))
+    c.as_slice-2.ensures.value c.in_ok-octets.ensures.read
+    (Other c.args.by.now.tree.now c.args.by.now.token.now c.args.by.now.moment)
+    (inr (subst (λ (d : Digest). IsTooLongAnew c.args.by.now.tree.now c.args.by.now.token.now d c.as_slice-2.result.now)
+    c.in_ok-digest.ensures (rw c.in-Err-TooLong.field-0-is at c.in-Err-TooLong.ensures)))
+    c.changed-in-Err-TooLong.result c.changed-in-Err-TooLong.ensures
+
+pub returns-in-Err-TooLong-clause-none : goal.returns-in-Err-TooLong-clause-none
+returns-in-Err-TooLong-clause-none g c = adds_none _

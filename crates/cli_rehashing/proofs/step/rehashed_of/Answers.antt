@@ -1,6 +1,6 @@
-use Rattle.std.proofs.Common.{Some}
+use Rattle.std.proofs.Common.{Some, inl, inr, refl}
 use Rattle.cli_rehashing.proofs.Anew.{has_new_chain, is_new_chain, too_long}
-use Rattle.cli_rehashing.proofs.Lines.{found_done, found_leaf}
+use Rattle.cli_rehashing.proofs.Lines.{found_done, found_leaf, outside_leaf, outside_none}
 use Rattle.cli_rehashing.proofs.step.rehashed_of.Goals as goal
 
 pub returns-then-standing : goal.returns-then-standing
@@ -34,3 +34,17 @@ returns-in-Err-TooLong c =
     (found_leaf (Some c.args.by.now.token.now) c.args.octets.now c.args.digest.now standing.done standing.footing.leaf
     standing.footing.after c.if-standing.false c.in-Ok.ensures.found)
     c.alg.result c.alg.ensures long.0 long.1 long.2
+
+pub returns-in-Err : goal.returns-in-Err
+returns-in-Err c = elim c.of.ensures [
+  | inl w ↦ rw w.0 tt
+  | inr w ↦ rw w.0
+      (outside_none c.args.by.now.tree.now c.args.by.now.token.now c.args.by.now.moment c.args.digest.now
+      c.args.octets.now c.in-Err.failure w.1 c.in-Err.ensures.refused)
+]
+
+pub returns-in_default : goal.returns-in_default
+returns-in_default c =
+    outside_leaf c.args.by.now.tree.now c.args.by.now.token.now c.args.by.now.moment c.args.digest.now
+    c.args.octets.now c.in-Ok.standing.done c.in-Ok.standing.footing.leaf c.in-Ok.standing.footing.after
+    c.in-Ok.ensures.found (c.in_default.ensures.none refl)

@@ -1,0 +1,42 @@
+use Rattle.std.proofs.Common.{◌∙◌, List, ℕ, inl, inr, ap, refl, subst}
+use Rattle.digests.specs.declared.value.Digest.{Digest}
+use Rattle.evidence_trees.specs.HashTrees.{HashTree}
+use Rattle.evidence_sums.specs.SumLines.{SumValue}
+use Rattle.cli_failures.specs.Files.{path_below}
+use Rattle.cli_renewing.proofs.Puts.{changed_at, read_there}
+use Rattle.cli_rehashing.specs.Rehashing.{IsOutsideAnew, IsTooLongAnew, rehashing}
+use Rattle.cli_rehashing.proofs.step.test_line.Goals as goal
+
+-- of a record that isn't one that the tree is over
+abbrev Other : HashTree → (token : List ℕ) → (m : ℕ) → SumValue → (octets : List ℕ) → Type 0
+Other tree token m s octets = IsOutsideAnew tree token m s.digest octets
+
+pub returns-in-Err-Changed-clause-fails : goal.returns-in-Err-Changed-clause-fails
+returns-in-Err-Changed-clause-fails g c =
+    inr (changed_at g.K.KeepsBelow.ways
+    (rehashing c.args.folder.now c.args.by.now.tree.now c.args.by.now.token.now c.args.by.now.moment)
+    c.args.sum.now _ c.as_slice-2.result.now c.in_ok-octets.octets.items
+    (ap (λ (n : List ℕ). path_below c.args.folder.now n)
+    (c.text_of-name.ensures ∙ c.as_slice.ensures.value ∙ c.in_ok-name.ensures))
+    c.as_slice-2.ensures.value c.in_ok-octets.ensures.read
+    (Other c.args.by.now.tree.now c.args.by.now.token.now c.args.by.now.moment)
+    (subst (λ (d : Digest). IsOutsideAnew c.args.by.now.tree.now c.args.by.now.token.now c.args.by.now.moment d
+    c.as_slice-2.result.now) c.in_ok-digest.ensures
+    (rw c.in-Err-Changed.field-0-is at c.in-Err-Changed.ensures)) c.changed.result c.changed.ensures)
+
+pub returns-in-Err-TooLong-clause-fails : goal.returns-in-Err-TooLong-clause-fails
+returns-in-Err-TooLong-clause-fails g c =
+    inl (
+      refl,
+      (
+        c.as_slice-2.result.now,
+        read_there g.K.KeepsBelow.ways
+            (rehashing c.args.folder.now c.args.by.now.tree.now c.args.by.now.token.now c.args.by.now.moment)
+            c.args.sum.now _ c.as_slice-2.result.now c.in_ok-octets.octets.items
+            (ap (λ (n : List ℕ). path_below c.args.folder.now n)
+            (c.text_of-name.ensures ∙ c.as_slice.ensures.value ∙ c.in_ok-name.ensures))
+            c.as_slice-2.ensures.value c.in_ok-octets.ensures.read,
+        subst (λ (d : Digest). IsTooLongAnew c.args.by.now.tree.now c.args.by.now.token.now d c.as_slice-2.result.now)
+            c.in_ok-digest.ensures (rw c.in-Err-TooLong.field-0-is at c.in-Err-TooLong.ensures),
+      ),
+    )

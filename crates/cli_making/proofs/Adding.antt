@@ -1,5 +1,5 @@
 -- What was put, and what was put after that.
-use Rattle.std.proofs.Common.{◌≡◌, List, [], ◌++◌, Option, Some, None, sym, ap, ◌∙◌, subst, append_assoc, append-nil}
+use Rattle.std.proofs.Common.{List, [], ◌++◌, Option, Some, None, sym, ap, ◌∙◌, subst, append_assoc, append-nil}
 use Rattle.cli_making.specs.Adding.{Adds}
 
 pub adds_none : {A : Type 0} (put : Option (List A)) → Adds put put []

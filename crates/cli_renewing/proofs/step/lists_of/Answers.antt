@@ -8,5 +8,4 @@ returns-then-lt-clause-up c = leads_up _ _ c.lists_of.result c.lists_of.ensures.
 pub returns-then-lt-clause-none : goal.returns-then-lt-clause-none
 returns-then-lt-clause-none c =
     no_leaf c.args.by.now.tree.now c.args.footing.now.leaf c.args.by.now.moment c.args.footing.now.after
-    c.lists_of.result
-    c.lists_of.ensures.some
+    c.lists_of.result c.lists_of.ensures.some

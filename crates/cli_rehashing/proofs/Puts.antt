@@ -1,5 +1,5 @@
 -- Records that are tested and put, one line after the other.
-use Rattle.std.proofs.Common.{◌≡◌, ◌⊎◌, ℕ, List, [], ◌∷◌, ◌++◌, Option}
+use Rattle.std.proofs.Common.{◌≡◌, ℕ, List, [], ◌∷◌, ◌++◌, Option}
 use Rattle.cli_failures.specs.declared.failure.Failure.{Failure}
 use Rattle.cli_making.specs.Adding.{Adds}
 use Rattle.cli_renewing.specs.Keeping.{Kept, Ways}

@@ -1,5 +1,5 @@
 /// What a command is asked to do.
-#[derive(Clone, Copy, Debug, PartialEq, Eq)]
+#[derive(Clone, Copy, Debug)]
 pub enum Task<'a> {
     /// To print what a verifier must be asked about a file. The questions are printed as they are found.
     Questions(QuestionsWords<'a>),
@@ -8,7 +8,7 @@ pub enum Task<'a> {
 }
 
 /// A task whose text is made before it is printed: every task but questions.
-#[derive(Clone, Copy, Debug, PartialEq, Eq)]
+#[derive(Clone, Copy, Debug)]
 pub enum TextTask<'a> {
     /// To make a request.
     Request(RequestWords<'a>),
@@ -43,7 +43,7 @@ pub enum TextTask<'a> {
 }
 
 /// What a request asks a stamp for.
-#[derive(Clone, Copy, Debug, PartialEq, Eq)]
+#[derive(Clone, Copy, Debug)]
 pub enum Stamped<'a> {
     /// This digest, in hexadecimal.
     Digest(&'a str),
@@ -52,7 +52,7 @@ pub enum Stamped<'a> {
 }
 
 /// The values of a request, as they were written on the command line.
-#[derive(Clone, Copy, Debug, PartialEq, Eq)]
+#[derive(Clone, Copy, Debug)]
 pub struct RequestWords<'a> {
     /// The digest's algorithm, by its name.
     pub alg: &'a str,
@@ -69,7 +69,7 @@ pub struct RequestWords<'a> {
 }
 
 /// The files whose content and signed attributes are compared, and what is allowed.
-#[derive(Clone, Copy, Debug, PartialEq, Eq)]
+#[derive(Clone, Copy, Debug)]
 pub struct FitWords<'a> {
     /// The path of the file that holds the SignedData.
     pub file: &'a str,
@@ -80,7 +80,7 @@ pub struct FitWords<'a> {
 }
 
 /// The request and the response that are matched, and the file that a token goes into.
-#[derive(Clone, Copy, Debug, PartialEq, Eq)]
+#[derive(Clone, Copy, Debug)]
 pub struct MatchWords<'a> {
     /// The path of the file that holds the request.
     pub request: &'a str,
@@ -91,7 +91,7 @@ pub struct MatchWords<'a> {
 }
 
 /// The trust list that is read, and the file that it goes into.
-#[derive(Clone, Copy, Debug, PartialEq, Eq)]
+#[derive(Clone, Copy, Debug)]
 pub struct MigrateWords<'a> {
     /// The path of the file that holds the list.
     pub list: &'a str,
@@ -100,7 +100,7 @@ pub struct MigrateWords<'a> {
 }
 
 /// The file whose questions are printed, and who is trusted.
-#[derive(Clone, Copy, Debug, PartialEq, Eq)]
+#[derive(Clone, Copy, Debug)]
 pub struct QuestionsWords<'a> {
     /// The path of the file that holds the trust list.
     pub trust: &'a str,
@@ -111,7 +111,7 @@ pub struct QuestionsWords<'a> {
 }
 
 /// The file that is checked, the lists that it is checked with, and what is allowed.
-#[derive(Clone, Copy, Debug, PartialEq, Eq)]
+#[derive(Clone, Copy, Debug)]
 pub struct CheckWords<'a> {
     /// The path of the file that holds the trust list.
     pub trust: &'a str,
@@ -128,7 +128,7 @@ pub struct CheckWords<'a> {
 }
 
 /// The two signatures that are compared.
-#[derive(Clone, Copy, Debug, PartialEq, Eq)]
+#[derive(Clone, Copy, Debug)]
 pub struct CompareWords<'a> {
     /// The path of the file that holds the first SignedData.
     pub first_file: &'a str,
@@ -141,7 +141,7 @@ pub struct CompareWords<'a> {
 }
 
 /// The token that is attached, the signer that it is attached to, and the file that the new file goes into.
-#[derive(Clone, Copy, Debug, PartialEq, Eq)]
+#[derive(Clone, Copy, Debug)]
 pub struct AttachWords<'a> {
     /// The number of the signer, from 1.
     pub signer: u64,
@@ -154,7 +154,7 @@ pub struct AttachWords<'a> {
 }
 
 /// The stamp that is checked, the file that it should stamp, the lists that it is checked with, and what is allowed.
-#[derive(Clone, Copy, Debug, PartialEq, Eq)]
+#[derive(Clone, Copy, Debug)]
 pub struct StampWords<'a> {
     /// The path of the file that holds the trust list.
     pub trust: &'a str,
@@ -169,7 +169,7 @@ pub struct StampWords<'a> {
 }
 
 /// The stamp whose questions are printed, and who is trusted.
-#[derive(Clone, Copy, Debug, PartialEq, Eq)]
+#[derive(Clone, Copy, Debug)]
 pub struct StampQuestionsWords<'a> {
     /// The path of the file that holds the trust list.
     pub trust: &'a str,
@@ -243,7 +243,7 @@ pub struct UnderWords<'a> {
 }
 
 /// The evidence record whose questions are printed, and who is trusted.
-#[derive(Clone, Copy, Debug, PartialEq, Eq)]
+#[derive(Clone, Copy, Debug)]
 pub struct EvidenceQuestionsWords<'a> {
     /// The path of the file that holds the trust list.
     pub trust: &'a str,
@@ -253,7 +253,7 @@ pub struct EvidenceQuestionsWords<'a> {
 
 /// The digests of many files, as `sha256sum` and its kin write them, and the values of the request for a stamp of the
 /// root of the tree over them.
-#[derive(Clone, Copy, Debug, PartialEq, Eq)]
+#[derive(Clone, Copy, Debug)]
 pub struct RootRequestWords<'a> {
     /// The algorithm of the digests, by its name.
     pub alg: &'a str,
@@ -271,7 +271,7 @@ pub struct RootRequestWords<'a> {
 
 /// The digests of many files, as `sha256sum` and its kin write them, the stamp of the root of the tree over them, and
 /// the folder that the records go into.
-#[derive(Clone, Copy, Debug, PartialEq, Eq)]
+#[derive(Clone, Copy, Debug)]
 pub struct MakeWords<'a> {
     /// The algorithm of the digests, by its name.
     pub alg: &'a str,
@@ -304,7 +304,7 @@ pub struct RenewWords<'a> {
 
 /// The digests of the data of evidence records by an algorithm, as `sha256sum` and its kin write them, the folder with
 /// the records, and the file for the request for a stamp of the root of the tree over the data and their records.
-#[derive(Clone, Copy, Debug, PartialEq, Eq)]
+#[derive(Clone, Copy, Debug)]
 pub struct RehashRequestWords<'a> {
     /// The algorithm of the digests, by its name.
     pub alg: &'a str,
@@ -317,7 +317,7 @@ pub struct RehashRequestWords<'a> {
 }
 
 /// The same, and the stamp of that root.
-#[derive(Clone, Copy, Debug, PartialEq, Eq)]
+#[derive(Clone, Copy, Debug)]
 pub struct RehashWords<'a> {
     /// The algorithm of the digests, by its name.
     pub alg: &'a str,
@@ -348,7 +348,7 @@ pub enum Several<'a> {
 }
 
 /// A list of paths.
-#[derive(Clone, Copy, Debug, PartialEq, Eq)]
+#[derive(Clone, Copy, Debug)]
 pub struct ListWords<'a> {
     /// The path of the file that holds the list.
     pub list: &'a str,
@@ -357,7 +357,7 @@ pub struct ListWords<'a> {
 }
 
 /// What a command that takes several files asks of each of them.
-#[derive(Clone, Copy, Debug, PartialEq, Eq)]
+#[derive(Clone, Copy, Debug)]
 pub enum Each<'a> {
     /// To say by when its signatures existed.
     Check(CheckEach<'a>),
@@ -368,7 +368,7 @@ pub enum Each<'a> {
 }
 
 /// The lists that each file is checked with, and what is allowed.
-#[derive(Clone, Copy, Debug, PartialEq, Eq)]
+#[derive(Clone, Copy, Debug)]
 pub struct CheckEach<'a> {
     /// The path of the file that holds the trust list.
     pub trust: &'a str,
@@ -383,7 +383,7 @@ pub struct CheckEach<'a> {
 }
 
 /// The content that the signed attributes of each file are compared with, and what is allowed.
-#[derive(Clone, Copy, Debug, PartialEq, Eq)]
+#[derive(Clone, Copy, Debug)]
 pub struct FitEach<'a> {
     /// The path of the file that is the content, if the SignedData don't have it.
     pub content: Option<&'a str>,
@@ -392,7 +392,7 @@ pub struct FitEach<'a> {
 }
 
 /// Who is trusted, whatever the file is whose questions are printed, and what each file holds.
-#[derive(Clone, Copy, Debug, PartialEq, Eq)]
+#[derive(Clone, Copy, Debug)]
 pub struct QuestionsEach<'a> {
     /// The path of the file that holds the trust list.
     pub trust: &'a str,
@@ -401,7 +401,7 @@ pub struct QuestionsEach<'a> {
 }
 
 /// What the files hold whose questions are printed.
-#[derive(Clone, Copy, Debug, PartialEq, Eq)]
+#[derive(Clone, Copy, Debug)]
 pub enum About {
     /// SignedData, of each of which so many octets may be kept while it is read, if the words say.
     Signed(Option<u64>),

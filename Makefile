@@ -87,7 +87,7 @@ test:
 	$(PYTHON) tools/dist.py begin && \
 	$(PYTHON) tools/api.py --check && \
 	$(PYTHON) tools/lines.py --check && \
-	$(PYTHON) tools/soak.py --changed --minutes $(or $(SOAK_MINUTES),40) --jobs "$$jobs" && \
+	$(PYTHON) tools/soak.py --changed --minutes $(or $(SOAK_MINUTES),20) --jobs "$$jobs" && \
 	began=$$(date +%s) && \
 	RT_JOBS=$$jobs sh tools/proofs.sh && \
 	$(PYTHON) tools/dist.py gate "$$began" "$$sources" && \

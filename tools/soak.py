@@ -267,7 +267,7 @@ def read_words():
     )
     parser.add_argument("crates", nargs="*", metavar="CRATE", help="the crates; all, if none is named")
     parser.add_argument("--changed", action="store_true", help="only crates in which something changed since their line")
-    parser.add_argument("--minutes", type=float, help="with --changed: how long; 40, if it isn't said")
+    parser.add_argument("--minutes", type=float, help="with --changed: how long; 20, if it isn't said")
     parser.add_argument("--jobs", type=int, default=1, help="how many edits are tried side by side; 1, if it isn't said")
     words = parser.parse_args()
     if words.minutes is not None and not (words.changed and words.minutes >= 0):
@@ -288,7 +288,7 @@ def main(top=changes.TOP):
     for number in (signal.SIGTERM, signal.SIGHUP, signal.SIGINT):
         signal.signal(number, stop)
     if words.changed:
-        return soak_changed(top, crates, names, words.jobs, 40 if words.minutes is None else words.minutes)
+        return soak_changed(top, crates, names, words.jobs, 20 if words.minutes is None else words.minutes)
     return soak(top, crates, names, words.jobs)
 
 

@@ -4,14 +4,14 @@ use crate::notation::Octets;
 use std::alloc::Global;
 
 /// An octet string and its name.
-#[derive(Debug, Drop)]
+#[derive(Drop)]
 struct Blob {
     name: String,
     octets: Vec<u8>,
 }
 
 /// Octet strings that have names.
-#[derive(Debug, Drop)]
+#[derive(Drop)]
 pub struct Blobs {
     all: Vec<Blob>,
 }

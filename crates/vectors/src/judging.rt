@@ -29,28 +29,39 @@ pub fn judge_file<R: Files + AllocGlobal, J: Judge, O: Write>(
     out: &mut O,
 ) -> io::Result<()> {
     let text = fs::read_to_string(rt, name)?;
-    if !matches!(name.split_once(".blobs"), Some((_, ""))) {
-        return judge_rows(rt.alloc(), judge, blobs, (name, text.as_str()), out);
-    }
-    if let Err((line, bad)) = blobs.read(rt.alloc(), text.as_str()) {
-        write!(out, "{name}:{line}: {bad}\n")?;
-    }
-    Ok(())
+    let said = said_of_file(rt.alloc(), judge, blobs, name, text.as_str())?;
+    out.write_all(said.as_bytes())
 }
 
-/// Compares each row of a text with what is said, and prints the others with the number of their line, counted from 1;
+/// What is printed of the file of this name, which has this text.
+fn said_of_file<J: Judge>(
+    alloc: Global,
+    judge: &J,
+    blobs: &mut Blobs,
+    name: &str,
+    text: &str,
+) -> Result<String, AllocError> {
+    if !matches!(name.split_once(".blobs"), Some((_, ""))) {
+        return said_of_rows(alloc, judge, blobs, name, text);
+    }
+    match blobs.read(alloc, text) {
+        Ok(()) => Ok(String::new(alloc)),
+        Err((line, bad)) => format!(in alloc; "{name}:{line}: {bad}\n"),
+    }
+}
+
+/// Compares each row of a text with what is said, and gives the others with the number of their line, counted from 1;
 /// then how many rows there are, bad ones too, and how many agree. Empty lines and those that begin with `#` are no
 /// rows.
-///
-/// Errors: no memory, or `out` failed.
-fn judge_rows<J: Judge, O: Write>(
+fn said_of_rows<J: Judge>(
     alloc: Global,
     judge: &J,
     blobs: &Blobs,
-    (name, text): (&str, &str),
-    out: &mut O,
-) -> io::Result<()> {
+    name: &str,
+    text: &str,
+) -> Result<String, AllocError> {
     let (mut number, mut rows, mut agreed) = (0u64, 0u64, 0u64);
+    let mut lines = String::new(alloc);
     for line in text.lines() {
         number = number.saturating_add(1);
         if line.is_empty() || line.starts_with('#') {
@@ -59,11 +70,14 @@ fn judge_rows<J: Judge, O: Write>(
         rows = rows.saturating_add(1);
         match difference(alloc, judge, blobs, line)? {
             None => agreed = agreed.saturating_add(1),
-            Some(why) => write!(out, "{name}:{number}: {why}\n")?,
+            Some(why) => lines.push_str(line_of(alloc, name, number, why.as_str())?.as_str())?,
         }
     }
-    write!(out, "{name}: {agreed} of {rows} rows agree\n")?;
-    Ok(())
+    format!(in alloc; "{lines}{name}: {agreed} of {rows} rows agree\n")
+}
+
+fn line_of(alloc: Global, name: &str, number: u64, why: &str) -> Result<String, AllocError> {
+    format!(in alloc; "{name}:{number}: {why}\n")
 }
 
 /// How what is said of a row differs from what it wants.
@@ -73,19 +87,27 @@ fn difference<J: Judge>(
     blobs: &Blobs,
     line: &str,
 ) -> Result<Option<String>, AllocError> {
-    let row = match Row::read(alloc, line, blobs) {
-        Ok(row) => row,
+    let (said, wanted) = match answer(alloc, judge, blobs, line) {
+        Ok(answer) => answer,
         Err(bad) => return Ok(Some(format!(in alloc; "bad row: {bad}")?)),
     };
-    let said = match judge.said(&row) {
-        Ok(said) => flat(alloc, said.as_str())?,
-        Err(bad) => return Ok(Some(format!(in alloc; "bad row: {bad}")?)),
-    };
-    let wanted = row.wanted;
     if said.as_str() == wanted {
         return Ok(None);
     }
     Ok(Some(format!(in alloc; "wanted `{wanted}`, said `{said}`")?))
+}
+
+/// What is said of a row, on one line, and what it wants.
+fn answer<'a, J: Judge>(
+    alloc: Global,
+    judge: &J,
+    blobs: &'a Blobs,
+    line: &'a str,
+) -> Result<(String, &'a str), Bad> {
+    let row = Row::read(alloc, line, blobs)?;
+    let wanted = row.wanted;
+    let said = flat(alloc, judge.said(&row)?.as_str())?;
+    Ok((said, wanted))
 }
 
 /// The lines of a text, with a space between them.

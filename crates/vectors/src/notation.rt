@@ -6,14 +6,14 @@ use std::alloc::Global;
 use std::mem;
 
 /// An element whose contents are being written: its identifier octet, and what was written before it.
-#[derive(Debug, Drop)]
+#[derive(Drop)]
 struct Open {
     tag: u8,
     before: Vec<u8>,
 }
 
 /// Octets that are put together: the elements that are open, outermost first, and the contents of the innermost.
-#[derive(Debug, Drop)]
+#[derive(Drop)]
 pub struct Octets {
     open: Vec<Open>,
     contents: Vec<u8>,

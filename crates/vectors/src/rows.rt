@@ -6,7 +6,7 @@ use std::alloc::Global;
 use std::fmt::Display;
 
 /// A row, `KIND NAME=VALUE .. => WANTED`. Spaces divide the words before the arrow; all after it is what is wanted.
-#[derive(Debug, Drop)]
+#[derive(Drop)]
 pub struct Row<'a> {
     /// Where memory comes from.
     pub alloc: Global,

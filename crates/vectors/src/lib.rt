@@ -14,4 +14,4 @@ pub use blobs::Blobs;
 pub use judging::{Judge, judge_file};
 pub use notation::{number_of, range_of};
 pub use rows::{Row, has_part};
-pub use saying::{Done, Said};
+pub use saying::Said;

@@ -3,8 +3,8 @@ use crate::names::named;
 use crate::told::found;
 use devices::{FromRead, Pieces, Slice, Source};
 use digests::Alg::{self, Sha1, Sha224, Sha256, Sha384, Sha512, Sha512_224, Sha512_256};
-use digests::{Algs, All, Digest, Wanted, digest};
-use vectors::{Bad, Done, Row, Said};
+use digests::{Algs, All, ContentFault, Digest, Wanted, digest};
+use vectors::{Bad, Row, Said};
 use vectors_doubles::Failing;
 
 /// All algorithms, in the order of each table of digests.
@@ -51,7 +51,7 @@ impl Both {
     }
 
     /// Says how many octets hashers read from the source of a message, or why not; the others are fed the message.
-    fn read<S: Source>(&mut self, said: &mut Said, message: &[u8], source: &mut S) -> Done {
+    fn read<S: Source>(&mut self, said: &mut Said, message: &[u8], source: &mut S) {
         let read = if self.by_all {
             self.wanted.update(message);
             self.all.read_from(source)
@@ -59,14 +59,11 @@ impl Both {
             self.all.update(message);
             self.wanted.read_from(source)
         };
-        match read {
-            Ok(count) => said.shown(&count),
-            Err(fault) => said.word(format!(in said.alloc; "{fault:?}")?.as_str()),
-        }
+        tell_count(said, read);
     }
 
     /// Whether the digests are those in the table, by all algorithms, joined; else says the first that is not.
-    fn agree(self, said: &mut Said, table: &[u8]) -> Result<bool, Bad> {
+    fn agree(self, said: &mut Said, table: &[u8]) -> bool {
         let (all, wanted) = (self.all.finish(), self.wanted.finish());
         let mut at: usize = 0;
         for alg in ALGS {
@@ -77,21 +74,30 @@ impl Both {
                 None => !self.set.has(alg),
             };
             if !is_right || all.of(alg).bytes() != octets {
-                said.word(alg.name())?;
-                said.word("differs")?;
-                return Ok(false);
+                said.word(alg.name());
+                said.word("differs");
+                return false;
             }
             at = end;
         }
         if at != table.len() {
-            return Err(Bad::Text("a table with too many digests"));
+            said.refuse(Bad::Text("a table with too many digests"));
         }
-        Ok(true)
+        true
     }
 
     /// Whether both give this digest.
     fn give(self, one: Digest) -> bool {
         self.all.finish().of(one.alg()) == one && self.wanted.finish().of(one.alg()) == Some(one)
+    }
+}
+
+/// Says how many octets were read, or the name of the fault.
+fn tell_count(said: &mut Said, read: Result<u64, ContentFault>) {
+    match read {
+        Ok(count) => said.shown(&count),
+        Err(ContentFault::ReadFailed) => said.word("ReadFailed"),
+        Err(ContentFault::ContentTooLong) => said.word("ContentTooLong"),
     }
 }
 
@@ -110,56 +116,80 @@ fn ways_agree(message: &[u8], one: Digest) -> bool {
 
 /// `digest by=NAME of=MESSAGE is=OCTETS,..` answers the digest's algorithm, and of each of the octets whether it is
 /// them.
-pub fn digests(said: &mut Said, row: &Row<'_>) -> Done {
-    row.takes("by of is")?;
-    let message = row.octets("of")?;
-    let one = digest(named(row.text("by")?)?, message.as_slice());
-    if !ways_agree(message.as_slice(), one) {
+pub fn digests(said: &mut Said, row: &Row<'_>) {
+    let message = said.given(row, "of");
+    match named(said.taken(row.text("by"), "")) {
+        Ok(alg) => tell_digest(said, row, message.as_slice(), alg),
+        Err(bad) => said.refuse(bad),
+    }
+}
+
+fn tell_digest(said: &mut Said, row: &Row<'_>, message: &[u8], alg: Alg) {
+    let one = digest(alg, message);
+    if !ways_agree(message, one) {
         return said.word("ways to hash that differ");
     }
-    said.word(one.alg().name())?;
-    for text in row.text("is")?.split(',') {
-        let octets = row.made(text)?;
-        said.word(
-            match (one.is(octets.as_slice()), one.bytes() == octets.as_slice()) {
-                (true, true) => "yes",
-                (false, false) => "no",
-                _ => "differs",
-            },
-        )?;
+    said.word(one.alg().name());
+    for text in said.taken(row.text("is"), "").split(',') {
+        let octets = said.taken(row.made(text), Vec::new(row.alloc));
+        said.word(word_of(one, octets.as_slice()));
     }
-    Ok(())
+}
+
+/// Whether a digest is these octets.
+fn word_of(one: Digest, octets: &[u8]) -> &'static str {
+    match (one.is(octets), one.bytes() == octets) {
+        (true, true) => "yes",
+        (false, false) => "no",
+        _ => "differs",
+    }
 }
 
 /// `hashers of=MESSAGE piece=LENGTH times=NUMBER digests=TABLE`; `hasher_cuts` cuts at each place, `sets` takes each
 /// set.
-pub fn hashers(said: &mut Said, row: &Row<'_>) -> Done {
-    row.takes("of piece times digests")?;
-    let message = row.octets("of")?;
-    let table = row.octets("digests")?;
-    let piece = row.number_or("piece", message.len())?;
-    let times = row.number_or("times", 1)?;
-    let (cuts, sets) = match row.kind {
-        "hasher_cuts" => (message.len(), 0),
-        "sets" => (0, 127),
-        _ => (0, 0),
-    };
-    let last = cuts.max(sets);
+pub fn hashers(said: &mut Said, row: &Row<'_>) {
+    let message = said.given(row, "of");
+    let table = said.given(row, "digests");
+    let piece = said.taken(row.number_or("piece", message.len()), 1);
+    let times = said.taken(row.number_or("times", 1), 1);
+    let last = last_of(row.kind, message.len());
     for i in 0..=last {
-        let number = if sets > 0 { i } else { 127 };
-        let mut both = Both::new(set_of(number)?);
+        let (set, at) = tried_by(row.kind, i);
+        let mut both = Both::new(said.taken(set_of(set), Algs::none()));
         for _ in 0..times {
-            feed_cut(&mut both, message.as_slice(), i.min(cuts), piece);
+            feed_cut(&mut both, message.as_slice(), at, piece);
         }
-        if !both.agree(said, table.as_slice())? {
-            said.word("at")?;
-            return said.shown(&i);
+        if !both.agree(said, table.as_slice()) {
+            return said.value("at", &i);
         }
     }
+    tell_agreement(said, last);
+}
+
+/// The last of the numbers, from 0, by which a kind of row tries a message of this length.
+fn last_of(kind: &str, length: usize) -> usize {
+    match kind {
+        "hasher_cuts" => length,
+        "sets" => 127,
+        _ => 0,
+    }
+}
+
+/// Which set a kind of row tries by a number, and where it cuts the message.
+fn tried_by(kind: &str, number: usize) -> (usize, usize) {
+    match kind {
+        "hasher_cuts" => (127, number),
+        "sets" => (number, 0),
+        _ => (127, 0),
+    }
+}
+
+/// Says how many tries agree, if it was more than the one of the number 0.
+fn tell_agreement(said: &mut Said, last: usize) {
     if last > 0 {
-        said.shown(&last.saturating_add(1))?;
+        said.shown(&last.saturating_add(1));
     }
-    said.word("agree")
+    said.word("agree");
 }
 
 /// Feeds the octets before a place and then the others in pieces, and an empty piece after each.
@@ -174,7 +204,7 @@ fn feed_cut(both: &mut Both, message: &[u8], at: usize, piece: usize) {
 }
 
 /// Says what hashers read from a source of the message, of this kind; of one that fails also how often.
-fn read_as(said: &mut Said, both: &mut Both, from: &str, message: &[u8]) -> Done {
+fn read_as(said: &mut Said, both: &mut Both, from: &str, message: &[u8]) {
     match from {
         "slice" => both.read(said, message, &mut Slice::new(message)),
         "pieces_of_1" => both.read(said, message, &mut Pieces::new(message, 1)),
@@ -183,52 +213,54 @@ fn read_as(said: &mut Said, both: &mut Both, from: &str, message: &[u8]) -> Done
         "reader" => both.read(said, message, &mut FromRead::new(message)),
         "failing" => {
             let mut failing = Failing::new(Pieces::new(message, 2));
-            both.read(said, message, &mut failing)?;
-            said.shown(&failing.failed)
+            both.read(said, message, &mut failing);
+            said.shown(&failing.failed);
         }
-        _ => Err(Bad::Text("a source that is not known")),
+        _ => said.refuse(Bad::Text("a source that is not known")),
     }
 }
 
 /// `read by=NAME of=MESSAGE from=SOURCE,.. digests=TABLE` answers how many octets are read by `all`, a set of `every`
 /// or one.
-pub fn read(said: &mut Said, row: &Row<'_>) -> Done {
-    row.takes("by of from digests")?;
-    let by = row.text("by")?;
-    let set = match by {
-        "all" | "every" => set_of(127)?,
-        name => Algs::none().with(named(name)?),
-    };
-    let message = row.octets("of")?;
-    let table = row.octets("digests")?;
-    for from in row.text("from")?.split(',') {
-        said.mark(",")?;
+pub fn read(said: &mut Said, row: &Row<'_>) {
+    let by = said.taken(row.text("by"), "");
+    let set = said.taken(set_named(by), Algs::none());
+    let message = said.given(row, "of");
+    let table = said.given(row, "digests");
+    for from in said.taken(row.text("from"), "").split(',') {
+        said.mark(",");
         let mut both = Both::new(set);
         both.by_all = by == "all";
-        read_as(said, &mut both, from, message.as_slice())?;
-        both.agree(said, table.as_slice())?;
+        read_as(said, &mut both, from, message.as_slice());
+        both.agree(said, table.as_slice());
     }
-    Ok(())
+}
+
+fn set_named(by: &str) -> Result<Algs, Bad> {
+    match by {
+        "all" | "every" => set_of(127),
+        name => Ok(Algs::none().with(named(name)?)),
+    }
 }
 
 /// `read_behind fed=OCTETS from=OCTETS,.. digests=TABLE` answers what hashers that were fed octets read from each
 /// slice.
-pub fn behind(said: &mut Said, row: &Row<'_>) -> Done {
-    row.takes("fed from digests")?;
-    let fed = row.octets("fed")?;
-    let table = row.octets("digests")?;
-    let mut both = Both::new(set_of(127)?);
+pub fn behind(said: &mut Said, row: &Row<'_>) {
+    let fed = said.given(row, "fed");
+    let table = said.given(row, "digests");
+    let mut both = Both::new(said.taken(set_of(127), Algs::none()));
     both.feed(fed.as_slice());
-    for text in row.text("from")?.split(',') {
-        let octets = row.made(text)?;
-        found(said, both.all.read_from(&mut Slice::new(octets.as_slice())))?;
-        found(
-            said,
-            both.wanted.read_from(&mut Slice::new(octets.as_slice())),
-        )?;
+    for text in said.taken(row.text("from"), "").split(',') {
+        let octets = said.taken(row.made(text), Vec::new(row.alloc));
+        read_both(said, &mut both, octets.as_slice());
     }
-    if both.agree(said, table.as_slice())? {
-        said.word("agree")?;
+    if both.agree(said, table.as_slice()) {
+        said.word("agree");
     }
-    Ok(())
+}
+
+/// Says what both hashers read from these octets.
+fn read_both(said: &mut Said, both: &mut Both, octets: &[u8]) {
+    found(said, both.all.read_from(&mut Slice::new(octets)));
+    found(said, both.wanted.read_from(&mut Slice::new(octets)));
 }

@@ -6,8 +6,9 @@ use der_core::{Fault, Kind, ReadFault, TooLong};
 use der_oid_text::{OidFault, oid_parse};
 use devices::{SinkFault, SourceFault};
 use digests::{Alg, ContentFault, Digest};
+use std::alloc::Global;
 use std::str;
-use vectors::{Bad, Done, Row, Said, needed};
+use vectors::{Bad, Row, Said};
 
 /// What can be wrong.
 const KINDS: [Kind; 15] = [
@@ -16,21 +17,28 @@ const KINDS: [Kind; 15] = [
 ];
 
 /// `fault kind=KIND at=POSITION` answers its text.
-pub fn fault(said: &mut Said, row: &Row<'_>) -> Done {
-    row.takes("kind at")?;
+pub fn fault(said: &mut Said, row: &Row<'_>) {
+    let at = said.taken(row.number("at"), 0) as u64;
+    let name = said.taken(row.text("kind"), "");
     for kind in KINDS {
-        let name = format!(in said.alloc; "{kind:?}")?;
-        if name.as_str() == row.text("kind")? {
-            return said.shown(&Fault::new(kind, row.number("at")? as u64));
+        if is_named(said.alloc, kind, name) {
+            return said.shown(&Fault::new(kind, at));
         }
     }
-    Err(Bad::Text("a kind of fault that is not known"))
+    said.refuse(Bad::Text("a kind of fault that is not known"));
+}
+
+/// Whether this is the name of a kind, if there is memory to see it.
+fn is_named(alloc: Global, kind: Kind, name: &str) -> bool {
+    match format!(in alloc; "{kind:?}") {
+        Ok(known) => known.as_str() == name,
+        Err(_) => false,
+    }
 }
 
 /// `text of=FAULT` answers its text; of `Malformed`, that of the end at the first octet.
-pub fn text(said: &mut Said, row: &Row<'_>) -> Done {
-    row.takes("of")?;
-    match row.text("of")? {
+pub fn text(said: &mut Said, row: &Row<'_>) {
+    match said.taken(row.text("of"), "") {
         "TooLong" => said.shown(&TooLong),
         "Malformed" => said.shown(&ReadFault::from(Fault::new(End, 0))),
         "OidText" => said.shown(&OidFault::OidText),
@@ -39,36 +47,47 @@ pub fn text(said: &mut Said, row: &Row<'_>) -> Done {
         "ContentTooLong" => said.shown(&ContentFault::ContentTooLong),
         "SourceFault" => said.shown(&SourceFault),
         "SinkFault" => said.shown(&SinkFault),
-        _ => Err(Bad::Text("a fault that is not known")),
+        _ => said.refuse(Bad::Text("a fault that is not known")),
     }
 }
 
 /// `oid_parse text=OCTETS` answers the contents that the text spells, or why there are none.
-pub fn oid_of_text(said: &mut Said, row: &Row<'_>) -> Done {
-    row.takes("text")?;
-    let octets = row.octets("text")?;
-    let text = needed(str::from_utf8(octets.as_slice()), "octets that are no text")?;
-    found(said, oid_parse(row.alloc, text))
+pub fn oid_of_text(said: &mut Said, row: &Row<'_>) {
+    let octets = said.given(row, "text");
+    match str::from_utf8(octets.as_slice()) {
+        Ok(text) => found(said, oid_parse(said.alloc, text)),
+        Err(_) => said.refuse(Bad::Text("octets that are no text")),
+    }
 }
 
 /// `algorithm name=NAME` answers name, contents of the object identifier and length, or `none`.
-pub fn algorithm(said: &mut Said, row: &Row<'_>) -> Done {
-    row.takes("name")?;
-    let Some(alg) = Alg::named(row.text("name")?) else {
-        return said.word("none");
-    };
-    said.word(alg.name())?;
-    said.octets(alg.oid_contents())?;
-    said.shown(&alg.length())
+pub fn algorithm(said: &mut Said, row: &Row<'_>) {
+    match Alg::named(said.taken(row.text("name"), "")) {
+        Some(alg) => {
+            said.word(alg.name());
+            said.octets(alg.oid_contents());
+            said.shown(&alg.length());
+        }
+        None => said.word("none"),
+    }
 }
 
 /// `identified oid=CONTENTS parameters=ELEMENT` answers the name of the algorithm, or `none`.
-pub fn identified(said: &mut Said, row: &Row<'_>) -> Done {
-    row.takes("oid parameters")?;
-    let (oid, parameters) = (row.octets("oid")?, row.octets_or("parameters", "-")?);
+pub fn identified(said: &mut Said, row: &Row<'_>) {
+    let oid = said.given(row, "oid");
+    let parameters = said.given_if_any(row, "parameters");
     let given = row.value("parameters").map(|_| parameters.as_slice());
-    let found = Alg::of(&identifier(&oid)?, given);
-    said.word(found.map_or("none", |alg| alg.name()))
+    match identifier(oid.as_slice()) {
+        Ok(oid) => said.word(name_of(Alg::of(&oid, given))),
+        Err(bad) => said.refuse(bad),
+    }
+}
+
+fn name_of(found: Option<Alg>) -> &'static str {
+    match found {
+        Some(alg) => alg.name(),
+        None => "none",
+    }
 }
 
 /// The algorithm that a row names.
@@ -77,16 +96,22 @@ pub fn named(name: &str) -> Result<Alg, Bad> {
 }
 
 /// `lengths by=NAME` answers each number, from 0 to 65, of octets that are a digest.
-pub fn lengths(said: &mut Said, row: &Row<'_>) -> Done {
-    row.takes("by")?;
-    let alg = named(row.text("by")?)?;
+pub fn lengths(said: &mut Said, row: &Row<'_>) {
+    let name = said.taken(row.text("by"), "");
+    let Some(alg) = Alg::named(name) else {
+        return said.refuse(Bad::Text("a name of no algorithm"));
+    };
     let octets = [7u8; 65];
     for n in 0..octets.len() + 1 {
-        match Digest::given(alg, &octets[..n]) {
-            Some(one) if one.bytes() != &octets[..n] || one.alg() != alg => said.word("other")?,
-            Some(_) => said.shown(&n)?,
-            None => {}
-        }
+        tell_length(said, alg, &octets[..n]);
     }
-    Ok(())
+}
+
+/// Says how many octets these are, if they are a digest by an algorithm.
+fn tell_length(said: &mut Said, alg: Alg, octets: &[u8]) {
+    match Digest::given(alg, octets) {
+        Some(one) if one.bytes() != octets || one.alg() != alg => said.word("other"),
+        Some(_) => said.shown(&octets.len()),
+        None => {}
+    }
 }

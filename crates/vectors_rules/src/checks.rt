@@ -70,8 +70,8 @@ pub fn granted(row: &Row<'_>) -> Result<String, Bad> {
     match granted_token(&response) {
         Ok(token) => {
             let mut said = Said::new(row)?;
-            said.octets(token)?;
-            Ok(said.text)
+            said.octets(token);
+            said.end()
         }
         Err(rule) => row.shown(&rule),
     }

@@ -5,7 +5,7 @@ ghost use Rattle.der_core.specs.Lists.{is_same};
 
 use cms_types::{Attributes, SignedData};
 use der_core::octets::is_same;
-use vectors::{Bad, Done, Row, Said};
+use vectors::{Bad, Row, Said};
 
 /// How many values the attributes of a type have, or `None` if a `usize` can't count them.
 fn count_of(attributes: &Attributes, id: &[u8]) -> Option<usize>
@@ -24,12 +24,15 @@ fn count_of(attributes: &Attributes, id: &[u8]) -> Option<usize>
 }
 
 /// `values_counted of type`: how many values the signed and the unsigned attributes of a type of the first signer have.
-pub fn values_counted(said: &mut Said, row: &Row<'_>, octets: &[u8]) -> Done {
-    let id = row.octets("type")?;
-    let counts = counts_of(octets, id.as_slice());
-    let (signed, unsigned) = counts.ok_or(Bad::Text("no such attributes"))?;
-    said.shown(&signed)?;
-    said.shown(&unsigned)
+pub fn values_counted(said: &mut Said, row: &Row<'_>, octets: &[u8]) {
+    let id = said.given(row, "type");
+    match counts_of(octets, id.as_slice()) {
+        Some((signed, unsigned)) => {
+            said.shown(&signed);
+            said.shown(&unsigned);
+        }
+        None => said.refuse(Bad::Text("no such attributes")),
+    }
 }
 
 fn counts_of(octets: &[u8], id: &[u8]) -> Option<(usize, usize)> {

@@ -16,37 +16,50 @@ mod counting;
 mod lists;
 mod values;
 
-use vectors::{Bad, Done, Judge, Row, Said};
+use vectors::{Bad, Judge, Row, Said};
 
 /// Answers these rows.
-#[derive(Clone, Copy, Debug)]
+#[derive(Clone, Copy)]
 pub struct OfTypes;
 
 impl Judge for OfTypes {
     fn said(&self, row: &Row<'_>) -> Result<String, Bad> {
+        row.takes(names_of(row.kind))?;
         let mut said = Said::new(row)?;
-        match row.kind {
-            "no_elements" => lists::no_elements(&mut said, row)?,
-            "fault_text" => values::fault_text(&mut said, row)?,
-            "moments" => values::moments(&mut said, row)?,
-            "make" | "make_room" | "made" => values::make(&mut said, row)?,
-            _ => answer(&mut said, row)?,
-        }
-        Ok(said.text)
+        answer(&mut said, row);
+        said.end()
     }
 }
 
-/// Answers a row about the octets `of`.
-fn answer(said: &mut Said, row: &Row<'_>) -> Done {
-    row.takes(match row.kind {
+/// The values that a kind of row takes.
+fn names_of(kind: &str) -> &'static str {
+    match kind {
+        "no_elements" => "",
+        "fault_text" => "of",
+        "moments" => "long short",
+        "make" | "make_room" | "made" => "alg digest policy nonce certificate known",
         "signer" => "of number known",
         "response" => "of known",
         "values_counted" => "of type",
         "cuts" => "of as header",
         "signing_certificate" => "of version",
         _ => "of at tags",
-    })?;
-    let octets = row.octets("of")?;
+    }
+}
+
+fn answer(said: &mut Said, row: &Row<'_>) {
+    match row.kind {
+        "no_elements" => lists::no_elements(said),
+        "fault_text" => values::fault_text(said, row),
+        "moments" => values::moments(said, row),
+        "make" | "make_room" | "made" => values::make(said, row),
+        _ => answer_of(said, row),
+    }
+}
+
+/// Answers a row about the octets `of`.
+fn answer_of(said: &mut Said, row: &Row<'_>) {
+    let octets = said.given(row, "of");
     let octets = octets.as_slice();
     match row.kind {
         "signed_data" | "versions" | "signer" => values::signed_data(said, row, octets),

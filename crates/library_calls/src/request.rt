@@ -18,7 +18,9 @@ use std::str;
 
 /// The algorithm of this name.
 pub fn alg_of(name: &[u8]) -> Result<Alg, Failure<'static>>
+    // The algorithm has this name.
     ensures found { IfOk result (λ alg. name.now ≡ name_of alg) }
+    // None is refused but a name that no algorithm has.
     ensures refused { IfErr result (RefusesAlg name.now) }
 {
     let Ok(name) = str::from_utf8(name) else {
@@ -32,7 +34,9 @@ pub fn alg_of(name: &[u8]) -> Result<Alg, Failure<'static>>
 
 /// The digest by the algorithm of this name that has these octets.
 pub fn given(name: &[u8], octets: &[u8]) -> Result<Digest, Failure<'static>>
+    // It is by that algorithm, and has these octets.
     ensures found { IfOk result (IsGiven name.now octets.now) }
+    // The name is no algorithm's, or a digest by it has another length.
     ensures refused { IfErr result
         (λ f. RefusesAlg name.now f ⊎ RefusesDigest name.now (IsGiven name.now octets.now) f) }
 {

@@ -117,12 +117,14 @@ class Runs:
         return answer[0]
 
 
-def measured(words, folder, stack=None):
-    """Exit status, what was printed, seconds of the processor and KiB of memory of one run, with a stack of so many octets."""
+def measured(words, folder, stack=None, room=None):
+    """Exit status, what was printed, and seconds of the processor of one run, with a stack and with memory of so many octets. (What the
+    system counts as a process's most memory begins with that of the process it came from.)"""
 
     def limit():
-        if stack is not None:
-            resource.setrlimit(resource.RLIMIT_STACK, (stack, stack))
+        for which, most in ((resource.RLIMIT_STACK, stack), (resource.RLIMIT_AS, room)):
+            if most is not None:
+                resource.setrlimit(which, (most, most))
 
     path = os.path.join(folder, "measured")
     with open(path, "wb") as out:
@@ -131,4 +133,4 @@ def measured(words, folder, stack=None):
         child.returncode = os.waitstatus_to_exitcode(status)
     with open(path, "rb") as file:
         said = file.read(400).decode("latin-1")
-    return child.returncode, said, used.ru_utime + used.ru_stime, used.ru_maxrss
+    return child.returncode, said, used.ru_utime + used.ru_stime

@@ -238,7 +238,7 @@ def grown(runs, rows, size):
         for count in (size // 10, size):
             runs.put("in", make(count))
             length = os.path.getsize(os.path.join(runs.folder, "in"))
-            status, said, seconds, memory = measured([runs.program, *words], runs.folder, None if runs.checked else STACK)
+            status, said, seconds = measured([runs.program, *words], runs.folder, None if runs.checked else STACK)
             if count == size and seconds > 13 * times[0] + 0.5:
                 seconds = min(seconds, *(measured([runs.program, *words], runs.folder)[2] for _ in range(2)))
             times.append(seconds)
@@ -248,7 +248,7 @@ def grown(runs, rows, size):
             if what is None and count == size and times[1] > 13 * times[0] + 0.5:
                 what = "the time is not linear: %.2f and %.2f seconds" % tuple(times)
             runs.note(what, words + ["(%s, %d)" % (name, count)], (status, said[:200]))
-        print("    %-40s %9d octets %7.2f seconds %9d KiB" % (name, length, times[1], memory), flush=True)
+        print("    %-40s %9d octets %7.2f seconds" % (name, length, times[1]), flush=True)
 
 
 def deep(runs):

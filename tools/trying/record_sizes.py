@@ -1,6 +1,7 @@
 """Families of hostile.py of large evidence records (RFC 4998): lists of 100,000 hash values, 5,000 lists, chains of 1,000 time-stamps, and
-elements that are nested 100,000 deep. Each runs with a stack of 512 KiB, at a tenth of its size and at its size, and must print what the
-oracle works out; the time may be so many times as long as its row says, and a little, and memory a few times the octets that it reads."""
+elements that are nested 100,000 deep; and of signed files beside such records. Each runs with a stack of 512 KiB and with memory for a few
+times the octets that it reads, at a tenth of its size and at its size, and must print what the oracle works out; the time may be so many
+times as long as its row says, and a little."""
 from __future__ import annotations
 
 import hashlib
@@ -14,6 +15,8 @@ from oracle.rules import Terms
 from samples import building
 from samples.building import sha
 from samples.recorded import Growing, archive_stamp, record_of
+from samples.signed_files import TOKEN
+from trying import under_inputs
 from trying.hostile_runs import measured
 from trying.hostile_sizes import OTHER, SMALL, STACK, nested
 from trying.record_inputs import BEGUN, DATA, TERMS, TRUST, UNSAID, WHOLE
@@ -22,7 +25,7 @@ VALUES, LISTS, STAMPS, DEPTH = 100_000, 5_000, 1_000, 100_000
 IN_ORDER, SQUARED = 13, 130
 # how many octets a run may take for each that it reads, and beside
 FOR_EACH, BESIDE = 8, 8 << 20
-FIRST = datetime(2024, 1, 10)
+SECONDS = "%Y%m%d%H%M%SZ"
 
 
 class Asked:
@@ -58,6 +61,30 @@ class Asked:
         return len(self.octets) + len(self.trust) + sum(map(len, self.lines))
 
 
+class Under(Asked):
+    """What is asked of a signed file beside a record of it, which begins as `make` says and has so many time-stamps more."""
+
+    def __init__(self, file, count=0, make=None):
+        growing = Growing(file).begin(under_inputs.AT, make=make, names=under_inputs.LONGER)
+        for number in range(1, count + 1):
+            growing.renew(at(number, under_inputs.AT), names=under_inputs.LONGER)
+        lines = [*under_inputs.OF_FILE, *growing.asked(building.key(2))]
+        super().__init__(growing.whole(), lines, [file], trust=under_inputs.TRUST)
+
+    def put(self, runs):
+        """Writes the files, and gives the words."""
+        super().put(runs)
+        return ["check", "--trust", "in-trust", "--answers", "in-answers", "--evidence", "in", "data/0"]
+
+    def expected(self):
+        """What the oracle says."""
+        return evidence.under(self.octets, self.data[0], Terms(under_inputs.ENTRY, self.lines), UNSAID)
+
+    def read(self):
+        """How many octets the command reads."""
+        return super().read() + len(self.data[0])
+
+
 def of(growing, more=b"", **rest):
     """What is asked of a record that grew."""
     return Asked(growing.whole(more), growing.asked(building.key(2)), growing.data, **rest)
@@ -78,9 +105,9 @@ def one_list(put):
     return lambda count: in_lists(lambda covered: [put(covered[0], values(count))])
 
 
-def at(number):
+def at(number, first="20240110000000Z"):
     """The moment that is so many seconds after the first."""
-    return (FIRST + timedelta(seconds=number)).strftime("%Y%m%d%H%M%SZ")
+    return (datetime.strptime(first, SECONDS) + timedelta(seconds=number)).strftime(SECONDS)
 
 
 def renewed(count, **rest):
@@ -174,13 +201,16 @@ ROWS = [
     # (each is looked for among all)
     ("data of a group", group, 2 * STAMPS, SQUARED),
     ("data of a group, in order", group_in_order, 4 * STAMPS, IN_ORDER),
-    ("the whole group in order, --whole", lambda n: group(n, sorted), 10 * STAMPS, IN_ORDER),
+    ("the whole group in order, --whole", lambda n: group(n, sorted), 6 * STAMPS, IN_ORDER),
     ("certificates of a token", lambda n: small(certificates=b"\x30\0" * n), VALUES, IN_ORDER),
     ("extensions of a TSTInfo", lambda n: small(extensions=building.extension(OTHER, b"", False) * n), VALUES, IN_ORDER),
     ("attributes of a time-stamp", lambda n: small(attributes=SMALL * n), VALUES, IN_ORDER),
     ("cryptoInfos", lambda n: small(element(0xA0, SMALL * n)), VALUES, IN_ORDER),
     ("entries of the trust list", entries_that_are_tried, VALUES, IN_ORDER),
     ("lines of the answers list", answers_before, VALUES, IN_ORDER),
+    ("a signed file, values", lambda n: Under(under_inputs.FILE, make=lambda covered: [[*covered, *values(n)]]), VALUES, IN_ORDER),
+    ("a signed file, time-stamps of a chain", lambda n: Under(under_inputs.FILE, n), STAMPS, IN_ORDER),
+    ("a signed file with many tokens", lambda n: Under(building.stamped(*[TOKEN] * n)), STAMPS, IN_ORDER),
 ]
 NESTED = [
     ("a record", lambda n: Asked(nested(n)), DEPTH, IN_ORDER),
@@ -199,15 +229,13 @@ NESTED = [
 
 def differs(runs, answer, asked, before, times):
     """What is wrong with a run of the size; `before` are the seconds that a tenth took."""
-    status, _, seconds, memory = answer
+    status, _, seconds = answer
     line, wanted = asked.expected()
     printed = Path(runs.folder, "measured").read_text("latin-1")
     if (status, printed) != (wanted, line):
         return f"status {wanted} and {line[:200]!r} are expected"
     if before is not None and seconds > times * before + 0.5:
         return f"the time grows too much: {before:.2f} and {seconds:.2f} seconds"
-    if not runs.checked and memory << 10 > FOR_EACH * asked.read() + BESIDE:
-        return f"the memory is more than {FOR_EACH} times {asked.read()} octets: {memory} KiB"
     return None
 
 
@@ -219,13 +247,13 @@ def grown(runs, rows):
         for count in (size // 10, size):
             asked = make(count)
             words = [runs.program, *asked.put(runs)]
-            answer = measured(words, runs.folder, None if runs.checked else STACK)
+            limits = () if runs.checked else (STACK, FOR_EACH * asked.read() + BESIDE)
+            answer = measured(words, runs.folder, *limits)
             if before is not None and answer[2] > times * before + 0.5:
-                answer = min((measured(words, runs.folder) for _ in range(2)), key=lambda run: run[2])
-            what = differs(runs, answer, asked, before, times)
-            runs.note(what, words[1:9] + ["(%s, %d)" % (name, count)], (answer[0], answer[1][:200]))
+                answer = min((measured(words, runs.folder, *limits) for _ in range(2)), key=lambda run: run[2])
+            runs.note(differs(runs, answer, asked, before, times), words[1:9] + ["(%s, %d)" % (name, count)], (answer[0], answer[1][:200]))
             before = answer[2]
-        print("    %-40s %9d octets %7.2f seconds %9d KiB" % (name, len(asked.octets), answer[2], answer[3]), flush=True)
+        print("    %-40s %9d octets %7.2f seconds" % (name, len(asked.octets), answer[2]), flush=True)
 
 
 def records(runs):

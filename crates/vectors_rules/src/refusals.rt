@@ -4,75 +4,127 @@
 use check_fit::{DeviceFault, FileRule, Refused, SignerRule, TokenRule};
 use cms_types::CmsFault;
 use der_core::{Fault, Kind};
-use vectors::{Bad, Row};
+use vectors::{Bad, Row, Said};
 
-/// The refusal of this name.
-pub fn refused_of(name: &str) -> Result<Refused, Bad> {
-    match name {
-        "file/Malformed" => Ok(Refused::File(FileRule::Malformed(Fault::new(Kind::Order, 148)))),
-        "file/NotSignedData" => Ok(Refused::File(FileRule::NotSignedData)),
-        "file/NoSigner" => Ok(Refused::File(FileRule::NoSigner)),
-        "file/NoContent" => Ok(Refused::File(FileRule::NoContent)),
-        "file/ContentTwice" => Ok(Refused::File(FileRule::ContentTwice)),
-        "file/NoSuchSigner" => Ok(Refused::File(FileRule::NoSuchSigner)),
-        "device/ReadFailed" => Ok(Refused::Device(DeviceFault::ReadFailed)),
-        "device/AskFailed" => Ok(Refused::Device(DeviceFault::AskFailed)),
-        "device/TooLong" => Ok(Refused::Device(DeviceFault::TooLong)),
-        "device/OutOfMemory" => Ok(Refused::Device(DeviceFault::OutOfMemory)),
-        "device/ContentTooLong" => Ok(Refused::Device(DeviceFault::ContentTooLong)),
-        "signer/NoSignedAttrs" => Ok(of_signer(SignerRule::NoSignedAttrs)),
-        "signer/ContentTypeAttr" => Ok(of_signer(SignerRule::ContentTypeAttr)),
-        "signer/ContentTypeDiffers" => Ok(of_signer(SignerRule::ContentTypeDiffers)),
-        "signer/DigestAttr" => Ok(of_signer(SignerRule::DigestAttr)),
-        "signer/DigestAlgorithm" => Ok(of_signer(SignerRule::DigestAlgorithm)),
-        "signer/DigestDiffers" => Ok(of_signer(SignerRule::DigestDiffers)),
-        "signer/UnknownSigner" => Ok(of_signer(SignerRule::UnknownSigner)),
-        "signer/NotNamed" => Ok(of_signer(SignerRule::NotNamed)),
-        "signer/SignatureFails" => Ok(of_signer(SignerRule::SignatureFails)),
-        "signer/NoToken" => Ok(of_signer(SignerRule::NoToken)),
-        _ => of_token(name),
+static FILES: [(&str, FileRule); 6] = [
+    (
+        "Malformed",
+        FileRule::Malformed(Fault {
+            kind: Kind::Order,
+            at: 148,
+        }),
+    ),
+    ("NotSignedData", FileRule::NotSignedData),
+    ("NoSigner", FileRule::NoSigner),
+    ("NoContent", FileRule::NoContent),
+    ("ContentTwice", FileRule::ContentTwice),
+    ("NoSuchSigner", FileRule::NoSuchSigner),
+];
+
+static DEVICES: [(&str, DeviceFault); 5] = [
+    ("ReadFailed", DeviceFault::ReadFailed),
+    ("AskFailed", DeviceFault::AskFailed),
+    ("TooLong", DeviceFault::TooLong),
+    ("OutOfMemory", DeviceFault::OutOfMemory),
+    ("ContentTooLong", DeviceFault::ContentTooLong),
+];
+
+static SIGNERS: [(&str, SignerRule); 10] = [
+    ("NoSignedAttrs", SignerRule::NoSignedAttrs),
+    ("ContentTypeAttr", SignerRule::ContentTypeAttr),
+    ("ContentTypeDiffers", SignerRule::ContentTypeDiffers),
+    ("DigestAttr", SignerRule::DigestAttr),
+    ("DigestAlgorithm", SignerRule::DigestAlgorithm),
+    ("DigestDiffers", SignerRule::DigestDiffers),
+    ("UnknownSigner", SignerRule::UnknownSigner),
+    ("NotNamed", SignerRule::NotNamed),
+    ("SignatureFails", SignerRule::SignatureFails),
+    ("NoToken", SignerRule::NoToken),
+];
+
+static TOKENS: [(&str, TokenRule); 15] = [
+    (
+        "Malformed",
+        TokenRule::Malformed(CmsFault::Malformed(Fault {
+            kind: Kind::Tag,
+            at: 0,
+        })),
+    ),
+    (
+        "NotSignedData",
+        TokenRule::Malformed(CmsFault::NotSignedData),
+    ),
+    ("ContentType", TokenRule::ContentType),
+    ("NoContent", TokenRule::NoContent),
+    ("OneSigner", TokenRule::OneSigner),
+    (
+        "DigestDiffers",
+        TokenRule::Attributes(SignerRule::DigestDiffers),
+    ),
+    (
+        "TstMalformed",
+        TokenRule::TstMalformed(Fault {
+            kind: Kind::Time,
+            at: 66,
+        }),
+    ),
+    ("CriticalExtension", TokenRule::CriticalExtension),
+    ("ImprintAlgorithm", TokenRule::ImprintAlgorithm),
+    ("ImprintDiffers", TokenRule::ImprintDiffers),
+    ("UnknownTsa", TokenRule::UnknownTsa),
+    ("NotNamed", TokenRule::NotNamed),
+    ("Purpose", TokenRule::Purpose),
+    ("Period", TokenRule::Period),
+    ("SignatureFails", TokenRule::SignatureFails),
+];
+
+/// What has this name in a table.
+fn row_of<T: Copy>(table: &[(&str, T)], wanted: &str) -> Result<T, Bad> {
+    for (name, rule) in table {
+        if *name == wanted {
+            return Ok(*rule);
+        }
+    }
+    Err(UNKNOWN)
+}
+
+const UNKNOWN: Bad = Bad::Text("a refusal that is not known");
+
+/// The refusal that a value of a row names.
+pub fn refused_in(row: &Row<'_>, name: &str) -> Result<Refused, Bad> {
+    match row.text(name)?.split_once('/') {
+        Some((whose, name)) => refused_of(whose, name),
+        None => Err(UNKNOWN),
     }
 }
 
-fn of_signer(rule: SignerRule) -> Refused {
-    Refused::Signer { signer: 2, rule }
-}
-
-fn of_token(name: &str) -> Result<Refused, Bad> {
-    let rule = match name {
-        "token/Malformed" => TokenRule::Malformed(CmsFault::Malformed(Fault::new(Kind::Tag, 0))),
-        "token/NotSignedData" => TokenRule::Malformed(CmsFault::NotSignedData),
-        "token/ContentType" => TokenRule::ContentType,
-        "token/NoContent" => TokenRule::NoContent,
-        "token/OneSigner" => TokenRule::OneSigner,
-        "token/DigestDiffers" => TokenRule::Attributes(SignerRule::DigestDiffers),
-        "token/TstMalformed" => TokenRule::TstMalformed(Fault::new(Kind::Time, 66)),
-        "token/CriticalExtension" => TokenRule::CriticalExtension,
-        "token/ImprintAlgorithm" => TokenRule::ImprintAlgorithm,
-        "token/ImprintDiffers" => TokenRule::ImprintDiffers,
-        "token/UnknownTsa" => TokenRule::UnknownTsa,
-        "token/NotNamed" => TokenRule::NotNamed,
-        "token/Purpose" => TokenRule::Purpose,
-        "token/Period" => TokenRule::Period,
-        "token/SignatureFails" => TokenRule::SignatureFails,
-        _ => return Err(Bad::Text("a refusal that is not known")),
-    };
-    Ok(Refused::Token {
-        signer: 2,
-        token: 1,
-        rule,
-    })
+fn refused_of(whose: &str, name: &str) -> Result<Refused, Bad> {
+    match whose {
+        "file" => Ok(Refused::File(row_of(&FILES, name)?)),
+        "device" => Ok(Refused::Device(row_of(&DEVICES, name)?)),
+        "signer" => Ok(Refused::Signer {
+            signer: 2,
+            rule: row_of(&SIGNERS, name)?,
+        }),
+        "token" => Ok(Refused::Token {
+            signer: 2,
+            token: 1,
+            rule: row_of(&TOKENS, name)?,
+        }),
+        _ => Err(UNKNOWN),
+    }
 }
 
 /// The text of a rule or of a device's fault (`rule`), or the line of a refusal (`line`).
-pub fn text(row: &Row<'_>) -> Result<String, Bad> {
-    row.takes("of")?;
-    let refused = refused_of(row.text("of")?)?;
+pub fn text(said: &mut Said, row: &Row<'_>) {
+    let refused = given!(said, refused_in(row, "of"));
+    if row.kind == "line" {
+        return said.shown(&refused);
+    }
     match refused {
-        _ if row.kind == "line" => row.shown(&refused),
-        Refused::File(rule) => row.shown(&rule),
-        Refused::Signer { rule, .. } => row.shown(&rule),
-        Refused::Token { rule, .. } => row.shown(&rule),
-        Refused::Device(fault) => row.shown(&fault),
+        Refused::File(rule) => said.shown(&rule),
+        Refused::Signer { rule, .. } => said.shown(&rule),
+        Refused::Token { rule, .. } => said.shown(&rule),
+        Refused::Device(fault) => said.shown(&fault),
     }
 }

@@ -3,7 +3,7 @@ use cli_making::Puts;
 use std::alloc::Global;
 
 /// A file that was put.
-#[derive(Debug, Drop)]
+#[derive(Drop)]
 pub struct Kept {
     pub folder: String,
     pub name: String,
@@ -11,9 +11,9 @@ pub struct Kept {
 }
 
 /// Files in memory, in the order in which they were put. There is room for so many; a test doesn't say so.
-#[derive(Debug, Drop)]
+#[derive(Drop)]
 pub struct Memory {
-    alloc: Global,
+    pub alloc: Global,
     pub files: Vec<Kept>,
     room: usize,
 }

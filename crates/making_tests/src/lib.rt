@@ -3,11 +3,15 @@
 #![tactic(auto)]
 
 #[cfg(test)]
+mod asserts;
+#[cfg(test)]
 mod commands;
 #[cfg(test)]
 mod documents;
 #[cfg(test)]
 mod double;
+#[cfg(test)]
+mod ends;
 #[cfg(test)]
 mod making;
 #[cfg(test)]

@@ -11,7 +11,7 @@ pub const PATHS: [&str; 2] = ["first.ers", "second.ers"];
 const FIRST_NAME: &str = "first";
 
 /// The octets of both, which have a path each, and a name below a folder. So many more files can be put.
-#[derive(Debug, Drop)]
+#[derive(Drop)]
 pub struct Memory {
     pub alloc: Global,
     pub first: Vec<u8>,

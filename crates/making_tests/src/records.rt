@@ -4,7 +4,7 @@ use digests::Alg;
 
 /// By which algorithm; of how many documents; the number of the one whose record it is, which stands alone on some
 /// level of its tree if their number is odd; how many octets the token has; and the octets before it.
-pub(crate) const RECORDS: [(Alg, usize, usize, usize, &str); 11] = [
+pub(crate) static RECORDS: [(Alg, usize, usize, usize, &str); 11] = [
     (
         Alg::Sha256,
         1,

@@ -13,7 +13,6 @@ pub(crate) const SECOND: &str =
     "30820360020101300d300b06096086480165030402013082034a3082034630820342";
 
 /// What a renewal of both needs, and what becomes of them.
-#[derive(Clone, Copy, Debug)]
 pub(crate) struct Renewal {
     /// What `sha512sum` says of their documents, with other names: the digests for a new hash tree.
     pub(crate) sums: Option<&'static str>,
@@ -28,7 +27,7 @@ pub(crate) struct Renewal {
 }
 
 /// By a time-stamp.
-pub(crate) const BY_STAMP: Renewal = Renewal {
+pub(crate) static BY_STAMP: Renewal = Renewal {
     sums: None,
     request: "30360201013031300d06096086480165030402010500042054510b9a744281482719ba0c1c50cf77e84c\
      ebc0b19aba05bfddd5c4e512b9e1",
@@ -57,7 +56,7 @@ const SUMS: &str =
      8b331c798d7a2dcb25d38c2927c8b017ef0946f0cd17  inner/second\n";
 
 /// By a hash tree.
-pub(crate) const BY_TREE: Renewal = Renewal {
+pub(crate) static BY_TREE: Renewal = Renewal {
     sums: Some(SUMS),
     request: "30560201013051300d0609608648016503040203050004406d5766d87f049a035148b73e5ef4564b01a1\
      d765d91d4a9f66c08eb9df633be9f021b51f94a171260aadaec5aa3a385fe783cafe7f830b895cdb2ebd\

@@ -1,13 +1,13 @@
 //! Texts that sha256sum and its kin (GNU coreutils 9.1) wrote, and texts of theirs that were changed: what is said of
 //! them. The files a, x\y and the like hold `abc`, d/empty nothing, and the one named by the octet 255 that octet.
 
+use crate::asserts::must_say;
 use digests::Alg;
 use evidence_sums::{Sum, Sums};
 use std::alloc::{AllocError, Global};
-use std::test::Fail;
 
 /// Texts of sums, and each sum in them: its digest, and its name in hexadecimal with `=` where it stands as it is.
-const TEXTS: [(Alg, &[u8], &str); 7] = [
+static TEXTS: [(Alg, &[u8], &str); 7] = [
     (
         Alg::Sha256,
         b"ba7816bf8f01cfea414140de5dae2223b00361a396177a9cb410ff61f20015ad  a\n\
@@ -63,7 +63,7 @@ const TEXTS: [(Alg, &[u8], &str); 7] = [
 
 /// Texts that are refused, and how: the first ones were written by `md5sum a`, `sha256sum -z a`, `--tag a`, of ./a, of
 /// an absolute path, of one that leads above, and of a file that was given twice.
-const FAULTS: [(&[u8], &str); 12] = [
+static FAULTS: [(&[u8], &str); 12] = [
     (
         b"900150983cd24fb0d6963f7d28e17f72  a\n",
         "sums U1 Line at line 1",
@@ -109,52 +109,71 @@ const FAULTS: [(&[u8], &str); 12] = [
     ),
 ];
 
-/// The digest and the name of a sum.
-fn shown(alloc: Global, sum: &Sum<'_>) -> Result<String, AllocError> {
-    let digest = hex::encode(alloc, sum.digest(alloc)?.bytes())?;
-    let name = hex::encode(alloc, sum.name(alloc)?.as_slice())?;
-    match sum.plain_name() {
-        Some(plain) => {
-            let plain = hex::encode(alloc, plain)?;
-            format!(in alloc; "{digest}={plain} ")
-        }
-        None => format!(in alloc; "{digest}:{name} "),
+/// Puts octets behind a text, in hexadecimal.
+fn put_octets(alloc: Global, said: &mut String, octets: &[u8]) -> Result<(), AllocError> {
+    let digits = hex::encode(alloc, octets)?;
+    said.push_str(digits.as_str())
+}
+
+/// Puts a digest behind a text.
+fn put_digest(alloc: Global, said: &mut String, sum: &Sum<'_>) -> Result<(), AllocError> {
+    let digest = sum.digest(alloc)?;
+    put_octets(alloc, said, digest.bytes())
+}
+
+/// Puts a name behind a text, and before it how it stands in the line: as it is, or otherwise.
+fn put_name(alloc: Global, said: &mut String, sum: &Sum<'_>) -> Result<(), AllocError> {
+    let name = sum.name(alloc)?;
+    said.push_str(match sum.plain_name() {
+        Some(plain) if plain == name.as_slice() => "=",
+        Some(_) => "/",
+        None => ":",
+    })?;
+    put_octets(alloc, said, &name)
+}
+
+/// Puts the digest and the name of each sum behind a text.
+fn put_sums(alloc: Global, said: &mut String, sums: &Sums<'_>) -> Result<(), AllocError> {
+    let mut left = sums.again();
+    for _ in 0..64u8 {
+        let Some((sum, others)) = left.next() else {
+            break;
+        };
+        put_digest(alloc, said, &sum)?;
+        put_name(alloc, said, &sum)?;
+        said.push_str(" ")?;
+        left = others;
+    }
+    Ok(())
+}
+
+/// What these sums state.
+fn stated(alloc: Global, sums: &Sums<'_>) -> Option<String> {
+    let mut said = String::new(alloc);
+    match put_sums(alloc, &mut said, sums) {
+        Ok(()) => Some(said),
+        Err(_) => None,
     }
 }
 
 /// What a text states, or why it is refused.
-fn said(alloc: Global, alg: Alg, text: &[u8]) -> Result<String, AllocError> {
+fn said(alloc: Global, alg: Alg, text: &[u8]) -> Option<String> {
     match Sums::read(alloc, alg, text) {
-        Ok(sums) => {
-            let mut said = String::new(alloc);
-            let mut left = sums.again();
-            for _ in 0..64u8 {
-                let Some((sum, others)) = left.next() else {
-                    break;
-                };
-                said.push_str(shown(alloc, &sum)?.as_str())?;
-                left = others;
-            }
-            Ok(said)
-        }
-        Err(fault) => format!(in alloc; "{fault}"),
+        Ok(sums) => stated(alloc, &sums),
+        Err(fault) => format!(in alloc; "{fault}").ok(),
     }
 }
 
 #[test]
-fn texts_of_the_program_are_read(rt: HostRuntime) -> Result<(), Fail> {
-    for (alg, text, sums) in TEXTS {
-        let said = said(rt.alloc(), alg, text)?;
-        assert_eq!(rt; said.as_str(), sums);
+fn texts_of_the_program_are_read(rt: HostRuntime) {
+    for (alg, text, sums) in &TEXTS {
+        must_say(&rt, &said(rt.alloc(), *alg, text), sums);
     }
-    Ok(())
 }
 
 #[test]
-fn other_texts_are_refused(rt: HostRuntime) -> Result<(), Fail> {
-    for (text, fault) in FAULTS {
-        let said = said(rt.alloc(), Alg::Sha256, text)?;
-        assert_eq!(rt; said.as_str(), fault);
+fn other_texts_are_refused(rt: HostRuntime) {
+    for (text, fault) in &FAULTS {
+        must_say(&rt, &said(rt.alloc(), Alg::Sha256, text), fault);
     }
-    Ok(())
 }

@@ -1,10 +1,9 @@
 //! Tokens that a writer in Python made, in parts; `openssl ts` reads them. The two new ones are the first with another
 //! imprint and another moment: no signature is looked at here.
 use std::alloc::Global;
-use std::test::Fail;
 
 /// The parts of a token by one authority, but for the certificate, which is in all of them.
-#[derive(Clone, Copy, Debug)]
+#[derive(Clone, Copy)]
 pub(crate) struct Token {
     // The lengths of the whole.
     lengths: &'static str,
@@ -99,29 +98,49 @@ pub(crate) const CHAIN_TOKEN: Token = Token {
     signer: SIGNER,
 };
 
-/// Puts the octets of hexadecimal digits behind others.
-fn put(alloc: Global, octets: &mut Vec<u8>, digits: &str) -> Result<(), Fail> {
-    let more = hex::decode(alloc, digits)?;
-    octets.extend_from_slice(&more)?;
-    Ok(())
+/// Puts the octets of hexadecimal digits behind others; whether there was memory.
+pub(crate) fn put(alloc: Global, octets: &mut Vec<u8>, digits: &str) -> bool {
+    match hex::decode(alloc, digits) {
+        Ok(more) => octets.extend_from_slice(&more).is_ok(),
+        Err(_) => false,
+    }
+}
+
+/// Puts the octets of all these behind others.
+fn put_each(alloc: Global, octets: &mut Vec<u8>, parts: &[&str]) -> bool {
+    for digits in parts {
+        if !put(alloc, octets, digits) {
+            return false;
+        }
+    }
+    true
+}
+
+/// Puts a token behind others.
+fn put_token(alloc: Global, octets: &mut Vec<u8>, token: &Token) -> bool {
+    let parts = [
+        token.lengths,
+        token.content,
+        token.imprint,
+        token.moment,
+        CERTIFICATE,
+        token.signer,
+    ];
+    put_each(alloc, octets, &parts)
 }
 
 /// The octets of a record: what stands before each token, in hexadecimal digits, and the token.
-pub(crate) fn record_of(alloc: Global, pieces: &[(&str, Token)]) -> Result<Vec<u8>, Fail> {
+pub(crate) fn record_of(alloc: Global, pieces: &[(&str, &Token)]) -> Option<Vec<u8>> {
     let mut octets = Vec::new(alloc);
     for (before, token) in pieces {
-        put(alloc, &mut octets, before)?;
-        put(alloc, &mut octets, token.lengths)?;
-        put(alloc, &mut octets, token.content)?;
-        put(alloc, &mut octets, token.imprint)?;
-        put(alloc, &mut octets, token.moment)?;
-        put(alloc, &mut octets, CERTIFICATE)?;
-        put(alloc, &mut octets, token.signer)?;
+        if !put(alloc, &mut octets, before) || !put_token(alloc, &mut octets, token) {
+            return None;
+        }
     }
-    Ok(octets)
+    Some(octets)
 }
 
 /// The octets of a token.
-pub(crate) fn octets_of(alloc: Global, token: Token) -> Result<Vec<u8>, Fail> {
+pub(crate) fn octets_of(alloc: Global, token: &Token) -> Option<Vec<u8>> {
     record_of(alloc, &[("", token)])
 }

@@ -1,14 +1,14 @@
 //! Trees over documents (RFC 4998 4.2): the roots and lists that another program gave them. Bouncy Castle 1.72 gives
 //! the same roots, and accepts records with these lists.
 
+use crate::asserts::must_say;
 use crate::documents::documents;
 use digests::{Alg, Digest};
 use evidence_trees::{LeafLists, Tree};
 use std::alloc::{AllocError, Global};
-use std::test::Fail;
 
 /// How many documents, and the root over their digests.
-const ROOTS: [(Alg, usize, &str); 12] = [
+static ROOTS: [(Alg, usize, &str); 12] = [
     (
         Alg::Sha256,
         1,
@@ -79,7 +79,7 @@ const ROOTS: [(Alg, usize, &str); 12] = [
 
 /// The lists of each document's digest, in the order of the documents: `d` and a number is the digest of the document
 /// that has this number in its text, and a node is shown by its first octets.
-const LISTS: [(Alg, usize, &str); 10] = [
+static LISTS: [(Alg, usize, &str); 10] = [
     (Alg::Sha256, 1, "d0"),
     (Alg::Sha256, 2, "d0 d1; d1 d0"),
     (Alg::Sha256, 3, "d0 d2 d1; d1 1eaf68cc; d2 d0 d1"),
@@ -112,7 +112,7 @@ const LISTS: [(Alg, usize, &str); 10] = [
 ];
 
 /// The lists of some of a thousand documents, by the number of the document.
-const LISTS_OF_SOME: [(Alg, usize, &str); 8] = [
+static LISTS_OF_SOME: [(Alg, usize, &str); 8] = [
     (
         Alg::Sha256,
         695,
@@ -155,85 +155,129 @@ const LISTS_OF_SOME: [(Alg, usize, &str); 8] = [
     ),
 ];
 
-/// The name of a value.
-fn name(alloc: Global, documents: &[Digest], value: &[u8]) -> Result<String, AllocError> {
-    for (number, document) in documents.iter().enumerate() {
-        if document.is(value) {
-            return format!(in alloc; "d{number}");
-        }
-    }
-    hex::encode(alloc, value.get(..4).unwrap_or(value))
+/// A tree and the digests of the documents that it is over.
+#[derive(Drop)]
+struct Grown {
+    documents: Vec<Digest>,
+    tree: Tree,
 }
 
-/// The names of the values of a leaf's lists.
-fn names(alloc: Global, documents: &[Digest], lists: LeafLists<'_>) -> Result<String, AllocError> {
-    let mut text = String::new(alloc);
+/// The tree over so many documents.
+fn grow(alloc: Global, alg: Alg, count: usize) -> Option<Grown> {
+    let Ok(documents) = documents(alloc, alg, 0, count) else {
+        return None;
+    };
+    if documents.is_empty() {
+        return None;
+    }
+    match Tree::of(alloc, alg, &documents) {
+        Ok(tree) => Some(Grown { documents, tree }),
+        Err(_) => None,
+    }
+}
+
+/// Puts the name of a value behind a text.
+fn put_name(
+    alloc: Global,
+    text: &mut String,
+    documents: &[Digest],
+    value: &[u8],
+) -> Result<(), AllocError> {
+    for (number, document) in documents.iter().enumerate() {
+        if document.is(value) {
+            let name = format!(in alloc; "d{number}")?;
+            return text.push_str(name.as_str());
+        }
+    }
+    let digits = hex::encode(alloc, value.get(..4).unwrap_or(value))?;
+    text.push_str(digits.as_str())
+}
+
+/// Puts the names of the values of a leaf's lists behind a text.
+fn put_names(
+    alloc: Global,
+    text: &mut String,
+    documents: &[Digest],
+    lists: LeafLists<'_>,
+) -> Result<(), AllocError> {
     let mut left = lists;
-    for _ in 0..64u8 {
+    for number in 0..64u8 {
         let Some((value, others)) = left.next() else {
             break;
         };
-        if !text.as_str().is_empty() {
-            text.push_str(" ")?;
-        }
-        text.push_str(name(alloc, documents, value)?.as_str())?;
+        text.push_str(if number == 0 { "" } else { " " })?;
+        put_name(alloc, text, documents, value)?;
         left = others;
     }
-    Ok(text)
+    Ok(())
 }
 
-/// The lists of all documents.
-fn all_names(alloc: Global, tree: &Tree, documents: &[Digest]) -> Result<String, AllocError> {
+/// Puts the lists of a document behind a text, if it is a leaf.
+fn put_lists(
+    alloc: Global,
+    text: &mut String,
+    of: &Grown,
+    document: &Digest,
+) -> Result<(), AllocError> {
+    match of.tree.lists_of(document) {
+        Some(lists) => put_names(alloc, text, &of.documents, lists),
+        None => Ok(()),
+    }
+}
+
+/// Puts the lists of all documents behind a text.
+fn put_all(alloc: Global, text: &mut String, of: &Grown) -> Result<(), AllocError> {
+    for document in &of.documents {
+        text.push_str(if text.as_str().is_empty() { "" } else { "; " })?;
+        put_lists(alloc, text, of, document)?;
+    }
+    Ok(())
+}
+
+/// The root of the tree over so many documents, in hexadecimal.
+fn root(alloc: Global, alg: Alg, count: usize) -> Option<String> {
+    let grown = grow(alloc, alg, count)?;
+    hex::encode(alloc, grown.tree.root().bytes()).ok()
+}
+
+/// The lists in the tree over so many documents.
+fn lists(alloc: Global, alg: Alg, count: usize) -> Option<String> {
+    let grown = grow(alloc, alg, count)?;
     let mut text = String::new(alloc);
-    for document in documents {
-        if !text.as_str().is_empty() {
-            text.push_str("; ")?;
-        }
-        if let Some(lists) = tree.lists_of(document) {
-            text.push_str(names(alloc, documents, lists)?.as_str())?;
-        }
+    match put_all(alloc, &mut text, &grown) {
+        Ok(()) => Some(text),
+        Err(_) => None,
     }
-    Ok(text)
+}
+
+/// The lists of the document with this number in a tree of a thousand.
+fn lists_of(alloc: Global, alg: Alg, number: usize) -> Option<String> {
+    let grown = grow(alloc, alg, 1000)?;
+    let document = grown.documents.get(number)?;
+    let mut text = String::new(alloc);
+    match put_lists(alloc, &mut text, &grown, document) {
+        Ok(()) => Some(text),
+        Err(_) => None,
+    }
 }
 
 #[test]
-fn roots_are_those_of_another_program(rt: HostRuntime) -> Result<(), Fail> {
-    for (alg, count, root) in ROOTS {
-        let documents = documents(rt.alloc(), alg, 0, count)?;
-        assert!(rt; !documents.is_empty());
-        let tree = Tree::of(rt.alloc(), alg, &documents)?;
-        let digits = hex::encode(rt.alloc(), tree.root().bytes())?;
-        assert_eq!(rt; digits.as_str(), root, "{count} documents");
+fn roots_are_those_of_another_program(rt: HostRuntime) {
+    for (alg, count, expected) in &ROOTS {
+        must_say(&rt, &root(rt.alloc(), *alg, *count), expected);
     }
-    Ok(())
 }
 
 #[test]
-fn lists_are_those_of_another_program(rt: HostRuntime) -> Result<(), Fail> {
-    for (alg, count, lists) in LISTS {
-        let documents = documents(rt.alloc(), alg, 0, count)?;
-        assert!(rt; !documents.is_empty());
-        let tree = Tree::of(rt.alloc(), alg, &documents)?;
-        let text = all_names(rt.alloc(), &tree, &documents)?;
-        assert_eq!(rt; text.as_str(), lists, "{count} documents");
+fn lists_are_those_of_another_program(rt: HostRuntime) {
+    for (alg, count, expected) in &LISTS {
+        must_say(&rt, &lists(rt.alloc(), *alg, *count), expected);
     }
-    Ok(())
 }
 
 #[test]
-fn lists_in_a_tree_of_a_thousand_are_those_of_another_program(rt: HostRuntime) -> Result<(), Fail> {
-    for (alg, number, lists) in LISTS_OF_SOME {
-        let documents = documents(rt.alloc(), alg, 0, 1000)?;
-        assert!(rt; !documents.is_empty());
-        let tree = Tree::of(rt.alloc(), alg, &documents)?;
-        let Some(leaf) = documents.get(number) else {
-            return Err(Fail::new("no such document"));
-        };
-        let Some(of_leaf) = tree.lists_of(leaf) else {
-            return Err(Fail::new("no leaf"));
-        };
-        let text = names(rt.alloc(), &documents, of_leaf)?;
-        assert_eq!(rt; text.as_str(), lists, "document {number}");
+fn lists_in_a_tree_of_a_thousand_are_those_of_another_program(rt: HostRuntime) {
+    for (alg, number, expected) in &LISTS_OF_SOME {
+        must_say(&rt, &lists_of(rt.alloc(), *alg, *number), expected);
     }
-    Ok(())
 }

@@ -3,103 +3,60 @@
 //! gives all.
 mod files;
 
-use super::{Full, output};
+use super::asserts::must_hold;
+use super::disk::{put, put_digits, remove};
+use super::output::{FAILING, Output, must_be_given, must_be_given_one, with_room};
 use cli_evidence::run;
 use cli_tasks::{EvidenceQuestionsWords, EvidenceTask, EvidenceWords};
 use files::{ANSWERS, QUESTIONS, TREE, TRUST};
 use std::alloc::Global;
-use std::fs;
-use std::io::{self, Write};
-use std::test::Fail;
 
 /// The line of the record.
 const ACCEPTED: &str = "accepted 20240110100000Z\n";
 
-/// What a call gives, if memory may be refused once: the next call gives it.
-macro_rules! given {
-    ($call:expr) => {
-        match $call {
-            Err(_) => $call,
-            answer => answer,
-        }
-    };
-}
-
-/// A writer that takes no memory: what it must be given yet, and whether it was given something else.
-#[derive(Drop)]
-struct Due<'a> {
-    left: &'a [u8],
-    other: bool,
-}
-
-impl Write for Due<'_> {
-    fn write(&mut self, octets: &[u8]) -> io::Result<usize> {
-        if self.left.starts_with(octets) {
-            self.left = self.left.get(octets.len()..).unwrap_or(b"");
-        } else {
-            self.other = true;
-        }
-        Ok(octets.len())
-    }
-
-    fn flush(&mut self) -> io::Result<()> {
-        Ok(())
-    }
-}
-
-/// A writer that must be given this text.
-fn must_be_given(text: &str) -> Due<'_> {
-    Due {
-        left: text.as_bytes(),
-        other: false,
-    }
-}
-
-/// Whether a writer was given all that it must be.
-fn is_all(due: &Due<'_>) -> bool {
-    due.left.is_empty() && !due.other
-}
-
-/// Makes a file.
-fn put(rt: &HostRuntime, path: &str, octets: &[u8]) -> Result<(), Fail> {
-    given!(fs::write(rt, path, octets))?;
-    Ok(())
-}
-
 /// Makes the files of the record.
-fn put_all(rt: &HostRuntime) -> Result<(), Fail> {
-    put(rt, "of-record.txt", TRUST.as_bytes())?;
-    put(rt, "of-record.answers", ANSWERS.as_bytes())?;
-    put(rt, "of-record", b"abc")?;
-    put(rt, "record.ers", &given!(hex::decode(rt.alloc(), TREE))?)
+fn put_all(rt: &HostRuntime) -> bool {
+    put(rt, "of-record.txt", TRUST.as_bytes())
+        && put(rt, "of-record.answers", ANSWERS.as_bytes())
+        && put(rt, "of-record", b"abc")
+        && put_digits(rt, "record.ers", TREE)
 }
 
 /// Removes them.
-fn remove_all(rt: &HostRuntime) -> Result<(), Fail> {
-    for path in [
+fn remove_all(rt: &HostRuntime) -> bool {
+    let paths = [
         "of-record.txt",
         "of-record.answers",
         "of-record",
         "record.ers",
-    ] {
-        given!(fs::remove_file(rt, path))?;
+    ];
+    remove(rt, &paths)
+}
+
+/// These words, if memory may be refused once.
+fn words_of<'a>(alloc: Global, path: &'a str) -> Option<Vec<&'a str>> {
+    let mut words = Vec::new(alloc);
+    if words.push(path).is_ok() || words.push(path).is_ok() {
+        Some(words)
+    } else {
+        None
     }
-    Ok(())
 }
 
 /// A check of the record in this file, for data in this one.
-fn check_of<'a>(alloc: Global, record: &'a str, path: &'a str) -> Result<EvidenceTask<'a>, Fail> {
-    let mut data = Vec::new(alloc);
-    given!(data.push(path))?;
-    Ok(EvidenceTask::Check(EvidenceWords {
-        trust: "of-record.txt",
-        answers: "of-record.answers",
-        ends: Vec::new(alloc),
-        at: None,
-        whole: false,
-        record,
-        data,
-    }))
+fn check_of<'a>(alloc: Global, record: &'a str, path: &'a str) -> Option<EvidenceTask<'a>> {
+    match words_of(alloc, path) {
+        Some(data) => Some(EvidenceTask::Check(EvidenceWords {
+            trust: "of-record.txt",
+            answers: "of-record.answers",
+            ends: Vec::new(alloc),
+            at: None,
+            whole: false,
+            record,
+            data,
+        })),
+        None => None,
+    }
 }
 
 /// What is asked about the record in this file.
@@ -110,90 +67,100 @@ fn questions_of(record: &str) -> EvidenceTask<'_> {
     })
 }
 
-/// How a task ends if this is due on the standard output and that on the standard error; no status if something else
-/// was written. It is a function of its own, because the contract of `run` makes each step after its call slow to
+/// How a task ends. It is a function of its own, because the contract of `run` makes each step after its call slow to
 /// check.
-fn ended(rt: &HostRuntime, task: &EvidenceTask<'_>, out: &str, err: &str) -> Option<u8> {
-    let (mut out, mut err) = (must_be_given(out), must_be_given(err));
-    let code = run(rt, task, &mut out, &mut err).code();
-    (is_all(&out) && is_all(&err)).then_some(code)
+fn code_of(
+    rt: &HostRuntime,
+    task: &EvidenceTask<'_>,
+    out: &mut Output<'_>,
+    err: &mut Output<'_>,
+) -> u8 {
+    run(rt, task, out, err).code()
 }
 
-/// How it ends on this output, if it reports that an output failed.
-fn ended_on(rt: &HostRuntime, task: &EvidenceTask<'_>, mut out: Full) -> Option<u8> {
+/// Whether a task fails, and this is on the standard error and nothing on the standard output.
+fn fails_with(rt: &HostRuntime, task: &EvidenceTask<'_>, line: &str) -> bool {
+    let mut out = must_be_given("");
+    let mut err = must_be_given(line);
+    let code = code_of(rt, task, &mut out, &mut err);
+    code == 4 && out.is_all() && err.is_all()
+}
+
+/// Whether a task reports that the output with this room failed.
+fn fails_with_room(rt: &HostRuntime, task: &EvidenceTask<'_>, room: Option<usize>) -> bool {
+    let mut out = with_room(room);
     let mut err = must_be_given("failed write -\n");
-    let code = run(rt, task, &mut out, &mut err).code();
-    is_all(&err).then_some(code)
+    let code = code_of(rt, task, &mut out, &mut err);
+    code == 4 && err.is_all()
+}
+
+/// Whether a check for data in this file does so.
+fn check_fails(rt: &HostRuntime, path: &str, room: Option<usize>) -> bool {
+    match check_of(rt.alloc(), "record.ers", path) {
+        Some(task) => fails_with_room(rt, &task, room),
+        None => false,
+    }
+}
+
+/// Whether the questions do so.
+fn questions_fail(rt: &HostRuntime, room: Option<usize>) -> bool {
+    fails_with_room(rt, &questions_of("record.ers"), room)
 }
 
 #[test]
-fn reports_that_the_output_failed(rt: HostRuntime) -> Result<(), Fail> {
-    put_all(&rt)?;
-    for room in [Some(0), Some(1), Some(9), None] {
-        for path in ["of-record", "record.ers"] {
-            let ends = ended_on(
-                &rt,
-                &check_of(rt.alloc(), "record.ers", path)?,
-                output(room),
-            );
-            assert_eq!(rt; ends, Some(4), "{path} {room:?}");
-        }
-        let ends = ended_on(&rt, &questions_of("record.ers"), output(room));
-        assert_eq!(rt; ends, Some(4), "{room:?}");
+fn reports_that_the_output_failed(rt: HostRuntime) {
+    must_hold(&rt, put_all(&rt), "files");
+    for (room, what) in &FAILING {
+        must_hold(&rt, check_fails(&rt, "of-record", *room), what);
+        must_hold(&rt, check_fails(&rt, "record.ers", *room), what);
+        must_hold(&rt, questions_fail(&rt, *room), what);
     }
-    remove_all(&rt)
+    must_hold(&rt, remove_all(&rt), "removed");
 }
+
+/// Whether a check of the record in this file, for data in this one, fails with this line.
+fn check_says(rt: &HostRuntime, record: &str, path: &str, line: &str) -> bool {
+    match check_of(rt.alloc(), record, path) {
+        Some(task) => fails_with(rt, &task, line),
+        None => false,
+    }
+}
+
+/// Records and data of checks, and what is said of them.
+static CHECKS: [(&str, &str, &str); 3] = [
+    ("record.ers", ".", "failed X1 ReadFailed\n"),
+    (".", "nowhere", "failed read .\n"),
+    ("record.ers", "nowhere", "failed open nowhere\n"),
+];
+
+/// Records that are asked about, and what is said of them.
+static ASKED: [(&str, &str); 2] = [
+    (".", "failed read .\n"),
+    ("nowhere", "failed open nowhere\n"),
+];
 
 /// A folder can be opened, and not be read.
 #[test]
-fn reports_what_cannot_be_read(rt: HostRuntime) -> Result<(), Fail> {
-    put_all(&rt)?;
-    let of_data = check_of(rt.alloc(), "record.ers", ".")?;
-    let of_record = check_of(rt.alloc(), ".", "nowhere")?;
-    let no_data = check_of(rt.alloc(), "record.ers", "nowhere")?;
-    for (task, line) in [
-        (&of_data, "failed X1 ReadFailed\n"),
-        (&of_record, "failed read .\n"),
-        (&no_data, "failed open nowhere\n"),
-        (&questions_of("."), "failed read .\n"),
-        (&questions_of("nowhere"), "failed open nowhere\n"),
-    ] {
-        assert_eq!(rt; ended(&rt, task, "", line), Some(4), "{line}");
+fn reports_what_cannot_be_read(rt: HostRuntime) {
+    must_hold(&rt, put_all(&rt), "files");
+    for (record, path, line) in &CHECKS {
+        must_hold(&rt, check_says(&rt, record, path, line), line);
     }
-    remove_all(&rt)
-}
-
-/// A writer that takes no memory and must be given one of two texts, those of refused memory.
-#[derive(Drop)]
-struct Lack {
-    reading: Due<'static>,
-    judging: Due<'static>,
-}
-
-impl Write for Lack {
-    fn write(&mut self, octets: &[u8]) -> io::Result<usize> {
-        self.reading.write(octets)?;
-        self.judging.write(octets)
+    for (record, line) in &ASKED {
+        must_hold(&rt, fails_with(&rt, &questions_of(record), line), line);
     }
-
-    fn flush(&mut self) -> io::Result<()> {
-        Ok(())
-    }
+    must_hold(&rt, remove_all(&rt), "removed");
 }
 
 /// Whether a task prints this text; no answer if it reports that memory was refused, and nothing else.
 fn is_told(rt: &HostRuntime, task: &EvidenceTask<'_>, text: &str) -> Option<bool> {
     let mut out = must_be_given(text);
-    let mut err = Lack {
-        reading: must_be_given("failed memory\n"),
-        judging: must_be_given("failed X4 OutOfMemory\n"),
-    };
-    let code = run(rt, task, &mut out, &mut err).code();
-    let lacks = is_all(&err.reading) || is_all(&err.judging);
-    if code == 4 && lacks && !out.other && out.left.len() == text.len() {
+    let mut err = must_be_given_one("failed memory\n", "failed X4 OutOfMemory\n");
+    let code = code_of(rt, task, &mut out, &mut err);
+    if code == 4 && err.is_all() && out.is_untouched(text) {
         return None;
     }
-    Some(code == 0 && is_all(&out))
+    Some(code == 0 && out.is_all())
 }
 
 /// Whether a task prints this text, if memory may be refused once: then it reports that, and the next time it prints
@@ -205,14 +172,19 @@ fn is_done(rt: &HostRuntime, task: &EvidenceTask<'_>, text: &str) -> bool {
     }
 }
 
+/// Whether the check of the record says so.
+fn is_checked(rt: &HostRuntime) -> bool {
+    match check_of(rt.alloc(), "record.ers", "of-record") {
+        Some(task) => is_done(rt, &task, ACCEPTED),
+        None => false,
+    }
+}
+
 #[test]
-fn the_next_command_gives_all(rt: HostRuntime) -> Result<(), Fail> {
-    put_all(&rt)?;
-    let check = check_of(rt.alloc(), "record.ers", "of-record")?;
-    assert!(rt; is_done(&rt, &check, ACCEPTED), "check");
-    assert!(rt;
-        is_done(&rt, &questions_of("record.ers"), QUESTIONS),
-        "questions"
-    );
-    remove_all(&rt)
+fn the_next_command_gives_all(rt: HostRuntime) {
+    must_hold(&rt, put_all(&rt), "files");
+    must_hold(&rt, is_checked(&rt), "check");
+    let is_asked = is_done(&rt, &questions_of("record.ers"), QUESTIONS);
+    must_hold(&rt, is_asked, "questions");
+    must_hold(&rt, remove_all(&rt), "removed");
 }

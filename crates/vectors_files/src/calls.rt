@@ -1,22 +1,39 @@
 //! What calls say.
 use crate::found::pass;
+use crate::questioned::{tell_asked, tell_end, tell_questions};
+use crate::sources::{left_of, source};
 use crate::terms::Terms;
 use cms_stream::listed_algorithms;
 use cmsproof_api::{
-    Alg, Algs, Checker, FusedVerifier, Pass, Source, Verifier, check, check_signer, check_stream,
-    check_stream_by, fits, questions, questions_stream,
+    Accepted, Alg, Algs, Checker, Pass, Policy, Refused, Trust, Verifier, check, check_signer,
+    check_stream, check_stream_by, fits,
 };
 use der_time::generalized_text;
-use devices::{FromWrite, Fused, Pieces};
+use devices::{Fused, Pieces};
 use lines_shown::show_signed;
-use vectors::{Bad, number_of};
-use vectors_doubles::ExpectingVerifier;
+use vectors::{Bad, Said, number_of};
 
-/// The sources of a file, and of a content if one is handed in.
+/// A call, its octets, and the sources of them and of a content if one is handed in.
 #[derive(Drop)]
-struct Devices<'d> {
+struct Call<'d> {
+    name: &'d str,
+    rest: &'d str,
+    octets: &'d [u8],
     file: Fused<Pieces<'d>>,
     content: Option<Fused<Pieces<'d>>>,
+}
+
+/// The name of a call, and what stands behind it.
+fn parts_of(by: &str) -> (&str, &str) {
+    by.split_once('/').unwrap_or((by, "9"))
+}
+
+/// How many octets sources hand out at most at a call.
+fn most_of(said: &mut Said, name: &str, rest: &str) -> usize {
+    match name {
+        "signer" | "guess" => 9,
+        _ => said.taken(number_of(rest), 9),
+    }
 }
 
 impl<'r, 'a> Terms<'r, 'a> {
@@ -26,149 +43,238 @@ impl<'r, 'a> Terms<'r, 'a> {
     /// N is how many octets sources hand out at most at a call, 9 without it. The device that fails passes so many
     /// calls on. After the line comes whether other questions were asked, if that is to be said; with a device that
     /// fails how often it failed; or how much of a content is left.
-    pub fn said(
+    pub fn line_of(
         &self,
         by: &str,
         octets: &[u8],
         room: &mut [u8],
         calls: u64,
     ) -> Result<String, Bad> {
-        let call = by.split_once('/').unwrap_or((by, "9"));
-        let most = match call {
-            ("signer" | "guess", _) => 9,
-            (_, most) => number_of(most)?.max(1),
+        let mut said = Said::new(self.row)?;
+        let (name, rest) = parts_of(by);
+        let most = most_of(&mut said, name, rest);
+        let mut call = Call {
+            name,
+            rest,
+            octets,
+            file: source(octets, most, self.passed_on("source", calls)),
+            content: self.content(most, calls),
         };
-        let all = u64::MAX;
-        let (of_file, of_content, of_verifier) = match self.row.value("fails") {
-            None => (all, all, all),
-            Some("source") => (calls, all, all),
-            Some("content") => (all, calls, all),
-            Some("verifier") => (all, all, calls),
-            Some(_) => return Err(Bad::Text("a device that isn't known")),
-        };
-        let file = Fused::new(Pieces::new(octets, most), of_file);
-        let content = match &self.content {
-            Some(octets) => Some(Fused::new(Pieces::new(octets, most), of_content)),
-            None => None,
-        };
-        let mut devices = Devices { file, content };
-        if self.row.flag("expecting")? {
-            let mut asks = ExpectingVerifier::new(self.answers()?, self.answers()?);
-            let line = self.answer(call, octets, &mut devices, room, &mut asks)?;
-            let others = if asks.surprised { "others" } else { "no other" };
-            return Ok(format!(in self.row.alloc; "{line}, {others} asked")?);
-        }
-        let mut verifier = FusedVerifier::new(self.answers()?, of_verifier);
-        let line = self.answer(call, octets, &mut devices, room, &mut verifier)?;
-        self.with_counts(line, devices, verifier.failed)
-    }
-
-    /// A line, and how often devices failed, or how many octets of a content are left.
-    fn with_counts(&self, line: String, devices: Devices<'_>, failed: u64) -> Result<String, Bad> {
-        let (mut failed, mut left) = (failed.saturating_add(devices.file.failed), 0usize);
-        if let (Some(octets), Some(mut content)) = (&self.content, devices.content) {
-            failed = failed.saturating_add(content.failed);
-            for _ in 0..octets.len() {
-                left = left.saturating_add(content.fill(&mut [0u8; 9]).unwrap_or(0));
-            }
-        }
-        Ok(if self.row.value("fails").is_some() {
-            format!(in self.row.alloc; "{line} {failed}")?
-        } else if self.content.is_some() {
-            format!(in self.row.alloc; "{line}, {left} left")?
+        if self.expecting {
+            self.tell_expecting(&mut said, &mut call, room);
         } else {
-            line
-        })
+            self.tell_counting(&mut said, &mut call, room, calls);
+        }
+        said.end()
     }
 
-    /// The line of a call.
+    /// The source of the content, if one is handed in.
+    fn content(&self, most: usize, calls: u64) -> Option<Fused<Pieces<'_>>> {
+        match &self.content {
+            Some(octets) => {
+                let calls = self.passed_on("content", calls);
+                Some(source(octets.as_slice(), most, calls))
+            }
+            None => None,
+        }
+    }
+
+    /// How many calls a device passes on: so many, if it is the one that fails.
+    fn passed_on(&self, device: &str, calls: u64) -> u64 {
+        match self.row.value("fails") {
+            Some(name) if name == device => calls,
+            _ => u64::MAX,
+        }
+    }
+
+    /// Says a line, and whether other questions were asked than are expected.
+    fn tell_expecting(&self, said: &mut Said, call: &mut Call<'_>, room: &mut [u8]) {
+        match self.expecting_verifier() {
+            Ok(mut asks) => {
+                self.answer(said, call, room, &mut asks);
+                said.mark(",");
+                said.word(if asks.surprised { "others" } else { "no other" });
+                said.word("asked");
+            }
+            Err(bad) => said.refuse(bad),
+        }
+    }
+
+    /// Says a line, and how often devices failed, or how many octets of a content are left.
+    fn tell_counting(&self, said: &mut Said, call: &mut Call<'_>, room: &mut [u8], calls: u64) {
+        match self.fused_verifier(self.passed_on("verifier", calls)) {
+            Ok(mut verifier) => {
+                self.answer(said, call, room, &mut verifier);
+                self.tell_counts(said, call, verifier.failed);
+            }
+            Err(bad) => said.refuse(bad),
+        }
+    }
+
+    fn tell_counts(&self, said: &mut Said, call: &mut Call<'_>, failed: u64) {
+        if self.row.value("fails").is_some() {
+            said.shown(&call.failed().saturating_add(failed));
+        } else if let Some(content) = &self.content {
+            said.mark(",");
+            said.shown(&call.left(content.len()));
+            said.word("left");
+        }
+    }
+
+    /// Says the line of a call.
     fn answer<V: Verifier>(
         &self,
-        (call, rest): (&str, &str),
-        octets: &[u8],
-        devices: &mut Devices<'_>,
+        said: &mut Said,
+        call: &mut Call<'_>,
         room: &mut [u8],
         verifier: &mut V,
-    ) -> Result<String, Bad> {
-        let (trust, policy) = (&self.trust, &self.policy);
-        let (file, content) = (&mut devices.file, &mut devices.content);
-        let answer = match call {
-            "check" => Some(check(octets, content, trust, policy, verifier)),
+    ) {
+        match call.name {
+            "check" => tell_verdict(said, call.check(&self.trust, &self.policy, verifier)),
             "signer" => {
-                let number = number_of(rest)? as u64;
-                Some(check_signer(octets, content, trust, policy, verifier, number))
+                let number = said.taken(number_of(call.rest), 0) as u64;
+                let verdict = call.check_signer(&self.trust, &self.policy, verifier, number);
+                tell_verdict(said, verdict);
             }
-            "stream" => Some(check_stream(file, content, room, trust, policy, verifier)),
-            "guess" => {
-                let algs = algorithm(rest)?;
-                let (mut passing, mut checker) = (Pass::new(), Checker::of(trust, *policy));
-                check_stream_by(
-                    &mut passing,
-                    &mut checker,
-                    file,
-                    content,
-                    room,
-                    verifier,
-                    algs,
-                )
+            "stream" => {
+                let verdict = call.check_stream(room, &self.trust, &self.policy, verifier);
+                tell_verdict(said, verdict);
             }
-            "pass" => return pass(self.row, file, room),
-            _ => return self.alone(call, octets, devices, room),
-        };
-        match answer {
-            Some(Ok(accepted)) => {
-                let moment = generalized_text(accepted.moment);
-                Ok(format!(in self.row.alloc; "accepted {}", moment.as_str())?)
-            }
-            Some(Err(refused)) => self.row.shown(&refused),
-            None => self.row.word("nothing"),
+            "guess" => self.tell_guess(said, call, room, verifier),
+            _ => self.tell_alone(said, call, room),
         }
     }
 
-    /// The line of a call that asks no verifier. Questions that aren't the row's `lines` are said by how many octets
-    /// they have.
-    fn alone(
+    fn tell_guess<V: Verifier>(
         &self,
-        call: &str,
-        octets: &[u8],
-        devices: &mut Devices<'_>,
+        said: &mut Said,
+        call: &mut Call<'_>,
         room: &mut [u8],
-    ) -> Result<String, Bad> {
-        let (row, trust, file) = (self.row, &self.trust, &mut devices.file);
-        match call {
-            "fits" => match fits(octets, &mut devices.content, &self.policy) {
-                Ok(count) => Ok(format!(in row.alloc; "fits {count}")?),
-                Err(refused) => row.shown(&refused),
-            },
-            "questions" | "asked" => {
-                let mut sink = FromWrite::new(Vec::new(row.alloc));
-                let said = match call {
-                    "questions" => row.ended("written", questions(octets, trust, &mut sink))?,
-                    _ => {
-                        let mut passing = Pass::new();
-                        let asked = questions_stream(&mut passing, file, room, trust, &mut sink);
-                        row.ended("written", asked)?
-                    }
-                };
-                let text: Vec<u8> = sink.into_inner();
-                if text.as_slice() == row.octets_or("lines", "-")?.as_slice() {
-                    return Ok(said);
-                }
-                Ok(format!(in row.alloc; "{said} {} octets", text.len())?)
-            }
-            "show" => row.ended("shown", show_signed::text_of(row.alloc, octets).map(|_| ())),
-            "listed" => {
-                let found = listed_algorithms(file);
-                for name in ["none", "sha256"] {
-                    if found == algorithm(name)? {
-                        return row.word(name);
-                    }
-                }
-                row.word("others")
-            }
-            _ => Err(Bad::Text("a call that isn't known")),
+        verifier: &mut V,
+    ) {
+        let guess = said.taken(algorithm(call.rest), Algs::none());
+        let mut passing = Pass::new();
+        let mut checker = Checker::of(&self.trust, self.policy);
+        match call.check_by(&mut passing, &mut checker, room, verifier, guess) {
+            Some(verdict) => tell_verdict(said, verdict),
+            None => said.word("nothing"),
         }
     }
+
+    /// Says the line of a call that asks no verifier. Questions that aren't the row's `lines` are said by how many
+    /// octets they have.
+    fn tell_alone(&self, said: &mut Said, call: &mut Call<'_>, room: &mut [u8]) {
+        let (row, trust) = (self.row, &self.trust);
+        match call.name {
+            "fits" => tell_fits(said, call.fits(&self.policy)),
+            "questions" => tell_questions(said, row, call.octets, trust),
+            "asked" => tell_asked(said, row, &mut call.file, room, trust),
+            "pass" => pass(said, row, &mut call.file, room),
+            "show" => tell_shown(said, call.octets),
+            "listed" => tell_listed(said, listed_algorithms(&mut call.file)),
+            _ => said.refuse(Bad::Text("a call that isn't known")),
+        }
+    }
+}
+
+// Each call is a function of its own, because its contract makes each step after it slow to check.
+impl Call<'_> {
+    fn check<V: Verifier>(
+        &mut self,
+        trust: &Trust,
+        policy: &Policy,
+        verifier: &mut V,
+    ) -> Result<Accepted, Refused> {
+        check(self.octets, &mut self.content, trust, policy, verifier)
+    }
+
+    fn check_signer<V: Verifier>(
+        &mut self,
+        trust: &Trust,
+        policy: &Policy,
+        verifier: &mut V,
+        number: u64,
+    ) -> Result<Accepted, Refused> {
+        let content = &mut self.content;
+        check_signer(self.octets, content, trust, policy, verifier, number)
+    }
+
+    fn check_stream<V: Verifier>(
+        &mut self,
+        room: &mut [u8],
+        trust: &Trust,
+        policy: &Policy,
+        verifier: &mut V,
+    ) -> Result<Accepted, Refused> {
+        let (file, content) = (&mut self.file, &mut self.content);
+        check_stream(file, content, room, trust, policy, verifier)
+    }
+
+    fn check_by<V: Verifier>(
+        &mut self,
+        passing: &mut Pass,
+        checker: &mut Checker<'_>,
+        room: &mut [u8],
+        verifier: &mut V,
+        algorithms: Algs,
+    ) -> Option<Result<Accepted, Refused>> {
+        let (file, content) = (&mut self.file, &mut self.content);
+        check_stream_by(passing, checker, file, content, room, verifier, algorithms)
+    }
+
+    fn fits(&mut self, policy: &Policy) -> Result<usize, Refused> {
+        fits(self.octets, &mut self.content, policy)
+    }
+}
+
+impl Call<'_> {
+    /// How often the sources failed.
+    fn failed(&self) -> u64 {
+        match &self.content {
+            Some(content) => self.file.failed.saturating_add(content.failed),
+            None => self.file.failed,
+        }
+    }
+
+    /// How many octets are left of a content that had so many.
+    fn left(&mut self, length: usize) -> usize {
+        match &mut self.content {
+            Some(content) => left_of(content, length),
+            None => 0,
+        }
+    }
+}
+
+fn tell_verdict(said: &mut Said, verdict: Result<Accepted, Refused>) {
+    match verdict {
+        Ok(accepted) => {
+            said.word("accepted");
+            said.word(generalized_text(accepted.moment).as_str());
+        }
+        Err(refused) => said.shown(&refused),
+    }
+}
+
+fn tell_fits(said: &mut Said, fits: Result<usize, Refused>) {
+    match fits {
+        Ok(count) => said.value("fits", &count),
+        Err(refused) => said.shown(&refused),
+    }
+}
+
+fn tell_shown(said: &mut Said, octets: &[u8]) {
+    let shown = show_signed::text_of(said.alloc, octets).map(|_| ());
+    tell_end(said, "shown", shown);
+}
+
+fn tell_listed(said: &mut Said, found: Algs) {
+    said.word(if found == Algs::none() {
+        "none"
+    } else if found == Algs::none().with(Alg::Sha256) {
+        "sha256"
+    } else {
+        "others"
+    });
 }
 
 /// An algorithm alone, or none.

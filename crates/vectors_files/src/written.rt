@@ -1,69 +1,195 @@
 //! What calls write into sinks with too little room.
+use crate::questioned::{tell_end, write_asked, write_questions};
 use crate::runs::Runs;
-use crate::terms::Terms;
+use crate::sources::pieces;
+use crate::terms::trust_of;
 use cmsproof_api::{
-    Accepted, Pass, Request, Response, SignedData, Sink, attach, questions, questions_stream,
-    report,
+    Accepted, AttachFault, Moment, Pass, Request, Response, SignedData, Sink, SinkFault, Trust,
+    attach, report,
 };
 use der_time::read_generalized;
-use devices::{FromWrite, Limited, Pieces};
+use devices::{FromWrite, Limited};
 use ess_types::SigningCert;
 use tsp_types::TstInfo;
-use vectors::{Bad, Row, needed};
+use vectors::{Bad, Row, Said};
 
 /// `written what=WHAT octets=OCTETS rooms=N`, and for a trust list and questions the terms and `of=FILE`: what is
 /// written of the octets, at most five at each call, into a sink that has room for none, for one, and so on up to one
 /// less than `rooms`: `all`, or the fault, and how often the sink failed.
-pub fn written(row: &Row<'_>) -> Result<String, Bad> {
-    let octets = row.octets("octets")?;
-    row.takes("what octets rooms of trust vouched token moment")?;
+pub fn written(said: &mut Said, row: &Row<'_>) {
+    let octets = said.given(row, "octets");
     let mut runs = Runs::new(row.alloc);
-    for room in 0..row.number("rooms")? {
-        let mut held = Vec::new(row.alloc);
-        let mut sink = Limited::new(FromWrite::new(&mut held), 5, room);
-        let line = write(row, &octets, &mut sink)?;
-        let failed = sink.failed;
-        if held.as_slice() != octets.get(..room).unwrap_or(octets.as_slice()) {
-            return row.word("other octets");
+    for room in 0..said.taken(row.number("rooms"), 0) {
+        match line_in(said, row, octets.as_slice(), room) {
+            Some(line) => runs.add(said, line),
+            None => return said.word("other octets"),
         }
-        runs.add(format!(in row.alloc; "{line} {failed}")?)?;
     }
-    runs.counted()
+    runs.tell(said);
 }
 
-/// Writes what these octets encode, or what the terms tell, into a sink.
-fn write<S: Sink>(row: &Row<'_>, octets: &[u8], sink: &mut S) -> Result<String, Bad> {
-    let none = "octets that encode no such value";
-    let written = match row.text("what")? {
-        "signed" => needed(SignedData::read(octets), none)?.write(sink),
-        "request" => needed(Request::read(octets), none)?.write(sink),
-        "stamp" => needed(TstInfo::read(octets), none)?.write(sink),
-        "response" => needed(Response::read(octets), none)?.write(sink),
-        "names" => needed(SigningCert::read_v2(octets), none)?.write(sink),
-        "trust" => Terms::of(row)?.trust.write(sink),
-        "questions" => {
-            let (file, terms) = (row.octets("of")?, Terms::of(row)?);
-            return row.ended("all", questions(&file, &terms.trust, sink));
+/// What is said of a sink with so much room, unless other octets are written into it.
+fn line_in(said: &mut Said, row: &Row<'_>, octets: &[u8], room: usize) -> Option<String> {
+    let mut held = Vec::new(row.alloc);
+    let line = line_of(row, octets, &mut held, room);
+    if held.as_slice() == octets.get(..room).unwrap_or(octets) {
+        Some(said.taken(line, String::new(row.alloc)))
+    } else {
+        None
+    }
+}
+
+fn line_of(row: &Row<'_>, octets: &[u8], held: &mut Vec<u8>, room: usize) -> Result<String, Bad> {
+    let mut said = Said::new(row)?;
+    let mut sink = Limited::new(FromWrite::new(held), 5, room);
+    write(&mut said, row, octets, &mut sink);
+    said.shown(&sink.failed);
+    said.end()
+}
+
+/// What is written.
+enum What {
+    Signed,
+    Request,
+    Stamp,
+    Response,
+    Names,
+    Trust,
+    Questions,
+    Asked,
+    Attached,
+    Report,
+}
+
+static WHAT: [(&str, What); 10] = [
+    ("signed", What::Signed),
+    ("request", What::Request),
+    ("stamp", What::Stamp),
+    ("response", What::Response),
+    ("names", What::Names),
+    ("trust", What::Trust),
+    ("questions", What::Questions),
+    ("asked", What::Asked),
+    ("attach", What::Attached),
+    ("report", What::Report),
+];
+
+/// What has this name.
+fn named(name: &str) -> Option<&'static What> {
+    for (known, what) in &WHAT {
+        if *known == name {
+            return Some(what);
         }
-        "asked" => {
-            let (file, terms) = (row.octets("of")?, Terms::of(row)?);
-            let (trust, mut file) = (terms.trust, Pieces::new(&file, 7));
-            return row.ended(
-                "all",
-                questions_stream(&mut Pass::new(), &mut file, &mut [0; 1024], &trust, sink),
-            );
-        }
-        "attach" => {
-            let (file, token) = (row.octets("of")?, row.octets("token")?);
-            return row.ended("all", attach(&file, 1, &token, sink));
-        }
-        "report" => {
-            let Ok(moment) = read_generalized(row.text("moment")?.as_bytes(), 0) else {
-                return Err(Bad::Text(none));
-            };
-            report(&Ok(Accepted { moment }), sink)
-        }
-        _ => return Err(Bad::Text("a value that isn't known")),
+    }
+    None
+}
+
+/// Writes what these octets encode, or what the terms tell, into a sink, and says how it ended.
+fn write<S: Sink>(said: &mut Said, row: &Row<'_>, octets: &[u8], sink: &mut S) {
+    let name = match row.text("what") {
+        Ok(name) => name,
+        Err(bad) => return said.refuse(bad),
     };
-    row.ended("all", written)
+    match named(name) {
+        Some(What::Signed) => write_signed(said, octets, sink),
+        Some(What::Request) => write_request(said, octets, sink),
+        Some(What::Stamp) => write_stamp(said, octets, sink),
+        Some(What::Response) => write_response(said, octets, sink),
+        Some(What::Names) => write_names(said, octets, sink),
+        Some(What::Attached) => write_attached(said, row, sink),
+        Some(What::Report) => write_report(said, row, sink),
+        Some(what) => write_by_trust(said, row, what, sink),
+        None => said.refuse(Bad::Text("a value that isn't known")),
+    }
+}
+
+const NONE: Bad = Bad::Text("octets that encode no such value");
+
+/// Writes a value that was read, and says how it ended.
+macro_rules! write_read {
+    ($said:ident, $read:expr, $sink:ident) => {
+        match $read {
+            Ok(value) => tell_end($said, "all", value.write($sink)),
+            Err(_) => $said.refuse(NONE),
+        }
+    };
+}
+
+fn write_signed<S: Sink>(said: &mut Said, octets: &[u8], sink: &mut S) {
+    write_read!(said, SignedData::read(octets), sink)
+}
+
+fn write_request<S: Sink>(said: &mut Said, octets: &[u8], sink: &mut S) {
+    write_read!(said, Request::read(octets), sink)
+}
+
+fn write_stamp<S: Sink>(said: &mut Said, octets: &[u8], sink: &mut S) {
+    write_read!(said, TstInfo::read(octets), sink)
+}
+
+fn write_response<S: Sink>(said: &mut Said, octets: &[u8], sink: &mut S) {
+    write_read!(said, Response::read(octets), sink)
+}
+
+fn write_names<S: Sink>(said: &mut Said, octets: &[u8], sink: &mut S) {
+    write_read!(said, SigningCert::read_v2(octets), sink)
+}
+
+fn write_attached<S: Sink>(said: &mut Said, row: &Row<'_>, sink: &mut S) {
+    let file = said.given(row, "of");
+    let token = said.given(row, "token");
+    let end = attach_to(file.as_slice(), token.as_slice(), sink);
+    tell_end(said, "all", end);
+}
+
+// A function of its own, as are two more here, because steps after a call with its contract are slow to check.
+fn attach_to<S: Sink>(file: &[u8], token: &[u8], sink: &mut S) -> Result<(), AttachFault> {
+    attach(file, 1, token, sink)
+}
+
+fn write_report<S: Sink>(said: &mut Said, row: &Row<'_>, sink: &mut S) {
+    let moment = said.taken(row.text("moment"), "");
+    match read_generalized(moment.as_bytes(), 0) {
+        Ok(moment) => tell_end(said, "all", report_at(moment, sink)),
+        Err(_) => said.refuse(NONE),
+    }
+}
+
+fn report_at<S: Sink>(moment: Moment, sink: &mut S) -> Result<(), SinkFault> {
+    report(&Ok(Accepted { moment }), sink)
+}
+
+fn write_by_trust<S: Sink>(said: &mut Said, row: &Row<'_>, what: &What, sink: &mut S) {
+    match trust_of(row) {
+        Ok(trust) => write_trusting(said, row, what, &trust, sink),
+        Err(bad) => said.refuse(bad),
+    }
+}
+
+fn write_trusting<S: Sink>(
+    said: &mut Said,
+    row: &Row<'_>,
+    what: &What,
+    trust: &Trust,
+    sink: &mut S,
+) {
+    match what {
+        What::Questions => {
+            let file = said.given(row, "of");
+            let end = write_questions(file.as_slice(), trust, sink);
+            tell_end(said, "all", end);
+        }
+        What::Asked => {
+            let file = said.given(row, "of");
+            let mut passing = Pass::new();
+            let mut file = pieces(file.as_slice(), 7);
+            let end = write_asked(&mut passing, &mut file, &mut [0; 1024], trust, sink);
+            tell_end(said, "all", end);
+        }
+        _ => tell_end(said, "all", trust_written(trust, sink)),
+    }
+}
+
+fn trust_written<S: Sink>(trust: &Trust, sink: &mut S) -> Result<(), SinkFault> {
+    trust.write(sink)
 }

@@ -20,77 +20,32 @@ pub struct OfFiles;
 
 impl Judge for OfFiles {
     fn said(&self, row: &Row<'_>) -> Result<String, Bad> {
-        let Some(kind) = kind_of(row.kind) else {
+        let Some(names) = names_of(row.kind) else {
             return Err(Bad::Text("a kind of row that isn't known"));
         };
-        row.takes(kind.takes)?;
+        row.takes(names)?;
         let mut said = Said::new(row)?;
-        answer(&mut said, row, &kind.asks);
+        answer(&mut said, row);
         said.end()
     }
 }
 
-/// A kind of row.
-struct Kind {
-    name: &'static str,
-    /// The values that it takes.
-    takes: &'static str,
-    asks: Asks,
-}
-
-/// What a row asks.
-enum Asks {
-    Check,
-    Cuts,
-    Changes,
-    Found,
-    Written,
-}
-
-static KINDS: [Kind; 5] = [
-    Kind {
-        name: "check",
-        takes: families::NAMES,
-        asks: Asks::Check,
-    },
-    Kind {
-        name: "cuts",
-        takes: families::NAMES,
-        asks: Asks::Cuts,
-    },
-    Kind {
-        name: "changes",
-        takes: families::NAMES,
-        asks: Asks::Changes,
-    },
-    Kind {
-        name: "found",
-        takes: "of type content signatures",
-        asks: Asks::Found,
-    },
-    Kind {
-        name: "written",
-        takes: "what octets rooms of trust vouched token moment",
-        asks: Asks::Written,
-    },
-];
-
-/// The kind of this name.
-fn kind_of(name: &str) -> Option<&'static Kind> {
-    for kind in &KINDS {
-        if kind.name == name {
-            return Some(kind);
-        }
+/// The values that a kind of row takes.
+fn names_of(kind: &str) -> Option<&'static str> {
+    match kind {
+        "check" | "cuts" | "changes" => Some(families::NAMES),
+        "found" => Some("of type content signatures"),
+        "written" => Some("what octets rooms of trust vouched token moment"),
+        _ => None,
     }
-    None
 }
 
-fn answer(said: &mut Said, row: &Row<'_>, asks: &Asks) {
-    match asks {
-        Asks::Check => families::check(said, row),
-        Asks::Cuts => families::cuts(said, row),
-        Asks::Changes => families::changes(said, row),
-        Asks::Found => found::found(said, row),
-        Asks::Written => written::written(said, row),
+fn answer(said: &mut Said, row: &Row<'_>) {
+    match row.kind {
+        "check" => families::check(said, row),
+        "cuts" => families::cuts(said, row),
+        "changes" => families::changes(said, row),
+        "found" => found::found(said, row),
+        _ => written::written(said, row),
     }
 }

@@ -47,59 +47,22 @@ fn line_of(row: &Row<'_>, octets: &[u8], held: &mut Vec<u8>, room: usize) -> Res
     said.end()
 }
 
-/// What is written.
-enum What {
-    Signed,
-    Request,
-    Stamp,
-    Response,
-    Names,
-    Trust,
-    Questions,
-    Asked,
-    Attached,
-    Report,
-}
-
-static WHAT: [(&str, What); 10] = [
-    ("signed", What::Signed),
-    ("request", What::Request),
-    ("stamp", What::Stamp),
-    ("response", What::Response),
-    ("names", What::Names),
-    ("trust", What::Trust),
-    ("questions", What::Questions),
-    ("asked", What::Asked),
-    ("attach", What::Attached),
-    ("report", What::Report),
-];
-
-/// What has this name.
-fn named(name: &str) -> Option<&'static What> {
-    for (known, what) in &WHAT {
-        if *known == name {
-            return Some(what);
-        }
-    }
-    None
-}
-
 /// Writes what these octets encode, or what the terms tell, into a sink, and says how it ended.
 fn write<S: Sink>(said: &mut Said, row: &Row<'_>, octets: &[u8], sink: &mut S) {
     let name = match row.text("what") {
         Ok(name) => name,
         Err(bad) => return said.refuse(bad),
     };
-    match named(name) {
-        Some(What::Signed) => write_signed(said, octets, sink),
-        Some(What::Request) => write_request(said, octets, sink),
-        Some(What::Stamp) => write_stamp(said, octets, sink),
-        Some(What::Response) => write_response(said, octets, sink),
-        Some(What::Names) => write_names(said, octets, sink),
-        Some(What::Attached) => write_attached(said, row, sink),
-        Some(What::Report) => write_report(said, row, sink),
-        Some(what) => write_by_trust(said, row, what, sink),
-        None => said.refuse(Bad::Text("a value that isn't known")),
+    match name {
+        "signed" => write_signed(said, octets, sink),
+        "request" => write_request(said, octets, sink),
+        "stamp" => write_stamp(said, octets, sink),
+        "response" => write_response(said, octets, sink),
+        "names" => write_names(said, octets, sink),
+        "attach" => write_attached(said, row, sink),
+        "report" => write_report(said, row, sink),
+        "trust" | "questions" | "asked" => write_by_trust(said, row, name, sink),
+        _ => said.refuse(Bad::Text("a value that isn't known")),
     }
 }
 
@@ -159,9 +122,9 @@ fn report_at<S: Sink>(moment: Moment, sink: &mut S) -> Result<(), SinkFault> {
     report(&Ok(Accepted { moment }), sink)
 }
 
-fn write_by_trust<S: Sink>(said: &mut Said, row: &Row<'_>, what: &What, sink: &mut S) {
+fn write_by_trust<S: Sink>(said: &mut Said, row: &Row<'_>, name: &str, sink: &mut S) {
     match trust_of(row) {
-        Ok(trust) => write_trusting(said, row, what, &trust, sink),
+        Ok(trust) => write_trusting(said, row, name, &trust, sink),
         Err(bad) => said.refuse(bad),
     }
 }
@@ -169,17 +132,17 @@ fn write_by_trust<S: Sink>(said: &mut Said, row: &Row<'_>, what: &What, sink: &m
 fn write_trusting<S: Sink>(
     said: &mut Said,
     row: &Row<'_>,
-    what: &What,
+    name: &str,
     trust: &Trust,
     sink: &mut S,
 ) {
-    match what {
-        What::Questions => {
+    match name {
+        "questions" => {
             let file = said.given(row, "of");
             let end = write_questions(file.as_slice(), trust, sink);
             tell_end(said, "all", end);
         }
-        What::Asked => {
+        "asked" => {
             let file = said.given(row, "of");
             let mut passing = Pass::new();
             let mut file = pieces(file.as_slice(), 7);

@@ -124,10 +124,9 @@ fn is_at_its_end(keeps: &mut Memory, by: &Renewal) -> bool {
 
 /// Whether the work goes on.
 fn goes_on(alloc: Global, by: &Renewal) -> bool {
-    let mut memories = (records(alloc, 1), records(alloc, 0), renewed(alloc, by));
-    match &mut memories {
-        (Some(keeps), Some(old), Some(new)) => {
-            is_done_in_two(keeps, by, old, new) && is_at_its_end(keeps, by)
+    match (records(alloc, 1), records(alloc, 0), renewed(alloc, by)) {
+        (Some(mut keeps), Some(old), Some(new)) => {
+            is_done_in_two(&mut keeps, by, &old, &new) && is_at_its_end(&mut keeps, by)
         }
         _ => false,
     }

@@ -9,23 +9,24 @@ use cli_failures::Failure;
 use cli_making::make_all;
 use digests::Alg;
 
-/// Sums of two files, the texts `document 0` and `document 1`, each with a line feed.
+/// Sums of two files. The text of each is the word `document`, a space, its place, counted from 0, and a line feed.
 const BOTH: &str = "\
-b30bb20e74f7a295aeaba71bedea2d4c63ebad7ded8d1d6368f9e70fa063d0ad  document 0\n\
+b30bb20e74f7a295aeaba71bedea2d4c63ebad7ded8d1d6368f9e70fa063d0ad  first document\n\
 f6065ce8be732658ce43398ea1da159c98d57c15c9ff3832e91979db9cbe8bfd *documents/1\n";
 
 /// The same under other names.
 const BOTH_PLAIN: &str = "\
-b30bb20e74f7a295aeaba71bedea2d4c63ebad7ded8d1d6368f9e70fa063d0ad  document 0\n\
-f6065ce8be732658ce43398ea1da159c98d57c15c9ff3832e91979db9cbe8bfd  document 1\n";
+b30bb20e74f7a295aeaba71bedea2d4c63ebad7ded8d1d6368f9e70fa063d0ad  first document\n\
+f6065ce8be732658ce43398ea1da159c98d57c15c9ff3832e91979db9cbe8bfd  second document\n";
 
 /// The same under one name.
 const TWICE: &str = "\
-b30bb20e74f7a295aeaba71bedea2d4c63ebad7ded8d1d6368f9e70fa063d0ad  document 0\n\
-f6065ce8be732658ce43398ea1da159c98d57c15c9ff3832e91979db9cbe8bfd  document 0\n";
+b30bb20e74f7a295aeaba71bedea2d4c63ebad7ded8d1d6368f9e70fa063d0ad  first document\n\
+f6065ce8be732658ce43398ea1da159c98d57c15c9ff3832e91979db9cbe8bfd  first document\n";
 
 /// The sum of the first alone.
-const ONE: &str = "b30bb20e74f7a295aeaba71bedea2d4c63ebad7ded8d1d6368f9e70fa063d0ad  document 0\n";
+const ONE: &str =
+    "b30bb20e74f7a295aeaba71bedea2d4c63ebad7ded8d1d6368f9e70fa063d0ad  first document\n";
 
 /// What is written of the first file, up to the token, which is over the root of the tree over both. `FIRST` is what is
 /// written of the other.
@@ -77,7 +78,7 @@ fn each_record_is_put_by_its_name(rt: HostRuntime) {
     let mut memory = Memory::new(rt.alloc(), 2);
     let is_made = matches!(made(&mut memory, BOTH), End::Done);
     let are_put = memory.files.len() == 2
-        && is_file(&memory, 0, "document 0", RECORD)
+        && is_file(&memory, 0, "first document", RECORD)
         && is_file(&memory, 1, "documents/1", FIRST);
     must_hold(&rt, is_made && are_put, "both");
 }

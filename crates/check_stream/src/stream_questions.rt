@@ -17,7 +17,7 @@ use devices::{Sink, Source};
 use trust_lists::Trust;
 
 // Takes the octets of a content, and keeps none of them.
-#[derive(Clone, Copy, Debug)]
+#[derive(Clone, Copy)]
 struct Unkept;
 
 impl Taker for Unkept {

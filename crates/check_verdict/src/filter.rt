@@ -7,7 +7,7 @@ ghost use Rattle.check_verdict.specs.TokenRules.{token_filter};
 use check_fit::{SignerRule, TokenRule};
 
 /// The rules that are tried with each trusted entry for a signer, in their order.
-#[derive(Clone, Copy, Debug, PartialEq, Eq, PartialOrd, Ord)]
+#[derive(Clone, Copy, PartialEq, Eq, PartialOrd, Ord)]
 pub(crate) enum SignerFilter {
     /// S7: the entry is a signer's, matches, and holds at the moment if one is given.
     UnknownSigner,
@@ -51,7 +51,7 @@ pub(crate) fn further_for_signer(
 }
 
 /// The rules that are tried with each trusted entry for a token, in their order.
-#[derive(Clone, Copy, Debug, PartialEq, Eq, PartialOrd, Ord)]
+#[derive(Clone, Copy, PartialEq, Eq, PartialOrd, Ord)]
 pub(crate) enum TokenFilter {
     /// K10: the entry is an authority's, and matches.
     UnknownTsa,

@@ -21,7 +21,7 @@ use digests::WantedDigests;
 use list_answers::Verifier;
 
 /// Why a signer isn't good.
-#[derive(Debug, Drop)]
+#[derive(Drop)]
 pub(crate) enum SignerRefused {
     /// The first of S1 to S10 that it fails.
     Rule(SignerRule),

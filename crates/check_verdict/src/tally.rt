@@ -22,7 +22,7 @@ use der_time::Moment;
 use list_answers::{AskFault, Verifier};
 
 /// What is known of a signer by the tokens of it that were judged.
-#[derive(Debug, Drop)]
+#[derive(Drop)]
 pub(crate) struct Tally {
     /// Whether one of them passes.
     pub is_stamped: bool,

@@ -34,7 +34,7 @@ fn holds_beside(entry: &Entry, certificate: &Certificate, shown: Moment, moment:
 /// A trusted entry as it counts: as ever, or beside a record that shows the file by a moment.
 ///
 /// Contracts see an `EntryValue`, that of `specs/Beside.antt` if there is a record.
-#[derive(Debug, Drop)]
+#[derive(Drop)]
 pub(crate) struct Counted<'l> {
     entry: &'l Entry,
     shown: Option<Moment>,

@@ -1,7 +1,5 @@
-pub mod Held
 pub mod Malformed
 pub mod Undone
-pub mod Nonces
 pub mod Shown
 pub mod Fitting
 pub mod JudgedFiles

@@ -15,7 +15,8 @@ use Rattle.tsp_types.specs.RequestValue.{EncodesRequest, request_parts}
 use Rattle.cli_failures.specs.Causes.{Names}
 use Rattle.cli_failures.specs.Files.{IsFailureToRead, IsHeld}
 use Rattle.cli_failures.specs.Signatures.{HasNoSigner, IsSignatureDigest}
-use Rattle.cli_commands.specs.Requests.{AreValues, IsDigest, IsRequestFor, IsRequestOf, IsStamped}
+use Rattle.cli_values.specs.Values.{IsDigest}
+use Rattle.cli_commands.specs.Requests.{AreValues, IsRequestFor, IsRequestOf, IsStamped}
 use Rattle.cli_commands.specs.Refusals.{Refuses, RefusesGiven, RefusesLength, RefusesSignature, RefusesStamped}
 
 pub of_digest :

@@ -1,8 +1,7 @@
 -- Which value of a request is refused: the first that isn't as it must be, of digest, policy and nonce; then the file
 -- of a signature. `holds` is what an open file holds, if that is known.
-use Rattle.std.specs.Prelude.{◌≡◌, ◌≤◌, ◌^◌, ◌⊎◌, ℕ, List, Option, true, IfSome, codes, length, option_copied}
+use Rattle.std.specs.Prelude.{◌≡◌, ◌≤◌, ◌^◌, ◌⊎◌, ℕ, List, Option, codes, length, option_copied}
 use Rattle.std.specs.Borrow.{Bor}
-use Rattle.der_core.specs.Contents.{is_integer}
 use Rattle.digests.specs.declared.algorithm.Alg.{Alg}
 use Rattle.digests.specs.declared.value.Digest.{Digest}
 use Rattle.digests.specs.Algorithms.{name_of}
@@ -16,25 +15,9 @@ use Rattle.cli_tasks.specs.declared.task.Stamped.TheVariants as stamped
 use Rattle.cli_failures.specs.Causes.{Names}
 use Rattle.cli_failures.specs.Files.{IsFailureToRead, IsHeld}
 use Rattle.cli_failures.specs.Signatures.{HasNoSigner, IsSignatureDigest}
-use Rattle.cli_commands.specs.Requests.{AreValues, IsDigest, IsPolicy, IsInHex}
-
--- no algorithm has this name
-abbrev pub RefusesAlg : (name : List ℕ) → Failure → Type 0
-RefusesAlg name f = Names (codes "alg") f × ((alg : Alg) → name ≡ name_of alg → ⊥)
-
--- there is no such digest, or no algorithm has this name
-abbrev pub RefusesDigest : (name digits : List ℕ) → Failure → Type 0
-RefusesDigest name digits f = (Names (codes "digest") f × ((d : Digest) → IsDigest name digits d → ⊥))
-    ⊎ RefusesAlg name f
-
--- the text isn't an object identifier
-abbrev pub RefusesPolicy : (text : Option (List ℕ)) → Failure → Type 0
-RefusesPolicy text f = Names (codes "policy") f × ((b : Option (List ℕ)) → IsPolicy text b → ⊥)
-
--- the digits aren't the contents of an INTEGER
-abbrev pub RefusesNonce : (digits : Option (List ℕ)) → Failure → Type 0
-RefusesNonce digits f = Names (codes "nonce") f
-    × ((b : Option (List ℕ)) → IsInHex digits b → IfSome b (λ o. is_integer o ≡ true) → ⊥)
+use Rattle.cli_values.specs.Values.{IsDigest, IsPolicy}
+use Rattle.cli_values.specs.Refusals.{RefusesAlg, RefusesDigest, RefusesNonce, RefusesPolicy}
+use Rattle.cli_commands.specs.Requests.{AreValues}
 
 -- policy or nonce isn't as it must be; the policy is judged first
 abbrev pub RefusesValues : RequestWords → Failure → Type 0

@@ -1,12 +1,9 @@
 -- The request that the words of the command line ask for. `holds` is what an open file holds, if that is known.
-use Rattle.std.specs.Prelude.{◌≡◌, ◌≢◌, ℕ, length, List, Option, Some, None, Ok, option_copied}
+use Rattle.std.specs.Prelude.{◌≡◌, ◌≢◌, ℕ, List, Option, option_copied}
 use Rattle.std.specs.Io.KnownBytes.{Appends}
-use Rattle.hex.specs.Hex.{decode_of}
-use Rattle.der_oid_text.specs.OidText.{Spells}
 use Rattle.digests.specs.declared.algorithm.Alg.{Alg}
 use Rattle.digests.specs.declared.value.Digest.{Digest}
-use Rattle.digests.specs.Algorithms.{name_of, length_of}
-use Rattle.digests.specs.Digests.{alg_of, octets_of}
+use Rattle.digests.specs.Algorithms.{name_of}
 use Rattle.tsp_types.specs.RequestValue.{EncodesRequest}
 use Rattle.tsp_types.specs.Asked.{asked}
 use Rattle.cli_tasks.specs.declared.task.RequestWords.{RequestWords}
@@ -14,33 +11,13 @@ use Rattle.cli_tasks.specs.declared.task.Stamped.{Stamped}
 use Rattle.cli_tasks.specs.declared.task.Stamped.TheVariants as stamped
 use Rattle.cli_failures.specs.Files.{IsHeld}
 use Rattle.cli_failures.specs.Signatures.{IsSignatureDigest}
-
--- the digest by the algorithm of this name that these hexadecimal digits state, with as many octets as the algorithm
--- gives
-pub record IsDigest (name digits : List ℕ) (digest : Digest) : Type 0 where
-  pub named : name ≡ name_of (alg_of digest)
-  pub spelled : decode_of digits ≡ Ok (octets_of digest)
-  pub sized : length (octets_of digest) ≡ length_of (alg_of digest)
+use Rattle.cli_values.specs.Values.{IsDigest, IsInHex, IsPolicy}
 
 -- what is to be stamped: a digest that is given, or that of a signature in a file
 abbrev pub IsStamped : {F : Type 0} → (holds : F → Option (List ℕ)) → (name : List ℕ) → Stamped → Digest → Type 0
 IsStamped holds name (stamped.Digest digits) digest = IsDigest name digits.now digest
 IsStamped holds name (stamped.Signature path number) digest = (alg : Alg) × (name ≡ name_of alg)
     × ((octets : List ℕ) × IsHeld holds octets × IsSignatureDigest alg octets number digest)
-
--- the object identifier that a text states, if there is one
-abbrev pub IsPolicy : (text : Option (List ℕ)) → Option (List ℕ) → Type 0
-IsPolicy None None = Unit {0}
-IsPolicy (Some t) (Some b) = Spells t b
-IsPolicy None (Some b) = ⊥
-IsPolicy (Some t) None = ⊥
-
--- the octets that hexadecimal digits state, if there are any
-abbrev pub IsInHex : (digits : Option (List ℕ)) → Option (List ℕ) → Type 0
-IsInHex None None = Unit {0}
-IsInHex (Some d) (Some b) = decode_of d ≡ Ok b
-IsInHex None (Some b) = ⊥
-IsInHex (Some d) None = ⊥
 
 -- the words ask for a stamp under this policy and with this nonce
 pub record AreValues (words : RequestWords) (policy nonce : Option (List ℕ)) : Type 0 where

@@ -21,7 +21,6 @@ mod telling;
 pub use asking::ask_by;
 pub use checking::{check_by, line_of};
 pub use lists::{answers_in, trust_in};
-pub use request::{alg_of, nonce_contents, nonce_in, policy_contents};
 pub use rereading::Describes;
 pub use room::limit_of;
 pub use stamping::stamp_questions_by;

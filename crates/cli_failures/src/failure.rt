@@ -30,7 +30,7 @@ pub const STANDARD_OUTPUT: &str = "-";
 const ROOM: usize = 256;
 
 /// Which message of the time-stamp protocol a file holds, if a command reads both.
-#[derive(Clone, Copy, Debug, PartialEq, Eq)]
+#[derive(Clone, Copy, Debug)]
 pub enum Message {
     /// The request to the authority.
     Request,
@@ -54,7 +54,7 @@ impl fmt::Display for Message {
 
 /// Why the evidence record is refused that is handed in beside another file. `Display` prints the line that says so,
 /// which names the record, without its end.
-#[derive(Clone, Copy, Debug, PartialEq, Eq)]
+#[derive(Clone, Copy, Debug)]
 pub struct OfRecord {
     /// The rule of the record, or the device that failed.
     pub refused: EvidenceRefused,

@@ -13,7 +13,7 @@ use std::io::{self, ErrorKind, Read};
 use std::rt::Files;
 
 /// What is found where octets would be put.
-#[derive(Clone, Copy, Debug, PartialEq, Eq)]
+#[derive(Clone, Copy)]
 pub enum Found {
     /// Nothing.
     Nothing,
@@ -24,7 +24,7 @@ pub enum Found {
 }
 
 /// What stands at a path, links not followed.
-#[derive(Clone, Copy, Debug, PartialEq, Eq)]
+#[derive(Clone, Copy)]
 enum Standing {
     /// Nothing.
     Nothing,

@@ -18,7 +18,7 @@ const PRIVATE: u32 = 0o600;
 const ACCESS: u32 = 0o777;
 
 /// How a file is written.
-#[derive(Debug, Drop)]
+#[derive(Drop)]
 enum Place {
     /// Straight into what the path names: a device, a pipe or a descriptor.
     Straight,

@@ -14,7 +14,7 @@ use Rattle.cli_failures.specs.declared.failure.Failure.TheVariants as failure
 use Rattle.cli_failures.specs.Causes.{Names}
 use Rattle.cli_failures.specs.Files.{IsFailureToRead, IsHeld}
 use Rattle.cli_failures.specs.Requests.{longer}
-use Rattle.cli_commands.specs.Requests.{IsInHex, IsPolicy}
+use Rattle.cli_values.specs.Values.{IsInHex, IsPolicy}
 use Rattle.cli_making.specs.Requesting.{AreRootValues, IsRootRequest, MakesNoRootRequest, RefusesRootRequest}
 use Rattle.cli_making.specs.Sums.{AreStated, RefusesSums}
 

@@ -6,7 +6,7 @@ use Rattle.digests.specs.declared.algorithm.Alg.{Alg}
 use Rattle.digests.specs.Algorithms.{name_of}
 use Rattle.cli_failures.specs.declared.failure.Failure.{Failure}
 use Rattle.cli_failures.specs.Files.{IsFailureToRead, IsHeld}
-use Rattle.cli_commands.specs.Refusals.{RefusesAlg}
+use Rattle.cli_values.specs.Refusals.{RefusesAlg}
 
 pub record AreGiven {F : Type 0} (holds : F → Option (List ℕ)) (name : List ℕ) (alg : Alg) (text token : List ℕ)
     : Type 0 where

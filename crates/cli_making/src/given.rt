@@ -2,13 +2,13 @@
 ghost use Rattle.std.specs.Prelude.{IfErr, IfOk};
 ghost use Rattle.cli_making.specs.Given.{AreGiven, GivesNot};
 
-use cli_commands::alg_of;
+use cli_values::alg_of;
 use cli_failures::{Failure, files};
 use digests::Alg;
 use std::rt::Files;
 
 /// The algorithm, and what the files hold.
-#[derive(Debug, Drop)]
+#[derive(Drop)]
 pub struct Given {
     /// The algorithm.
     pub alg: Alg,

@@ -34,7 +34,7 @@ fn record_of(alloc: Global, by: &Stamp, sum: &Sum) -> Result<Vec<u8>, MakeRecord
 }
 
 /// A file to be put below a folder.
-#[derive(Debug, Drop)]
+#[derive(Drop)]
 struct File {
     name: Vec<u8>,
     octets: Vec<u8>,

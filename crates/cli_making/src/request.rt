@@ -4,7 +4,7 @@ ghost use Rattle.cli_making.specs.Requesting.{IsRootRequest, IsRootRequestWritte
 ghost use Rattle.cli_making.specs.Requesting.{RefusesRootRequest};
 
 use crate::sums::root_in;
-use cli_commands::{alg_of, nonce_contents, nonce_in, policy_contents};
+use cli_values::{alg_of, nonce_contents, nonce_in, policy_contents};
 use cli_failures::request::{policy_in, request_of};
 use cli_failures::{Failure, files};
 use cli_tasks::RootRequestWords;

@@ -8,7 +8,7 @@ use evidence_making::stamp_of_root;
 use evidence_trees::Tree;
 
 /// A token over the root of a hash tree, and its moment.
-#[derive(Clone, Copy, Debug)]
+#[derive(Clone, Copy)]
 pub struct Stamp<'t> {
     /// The tree.
     pub tree: &'t Tree,

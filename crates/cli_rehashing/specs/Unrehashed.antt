@@ -14,7 +14,7 @@ use Rattle.cli_failures.specs.declared.failure.Failure.{Failure}
 use Rattle.cli_failures.specs.declared.failure.Failure.TheVariants as failure
 use Rattle.cli_failures.specs.Causes.{Names}
 use Rattle.cli_failures.specs.Files.{IsFailureToRead, IsHeld, path_below}
-use Rattle.cli_commands.specs.Refusals.{RefusesAlg}
+use Rattle.cli_values.specs.Refusals.{RefusesAlg}
 use Rattle.cli_making.specs.Adding.{Adds}
 use Rattle.cli_making.specs.Given.{GivesNot}
 use Rattle.cli_making.specs.Sums.{RefusesSums}

@@ -18,7 +18,7 @@ use evidence_sums::Sum;
 use std::alloc::{AllocError, Global};
 
 /// What a renewal by a hash tree stands on, and whether the record is renewed by the token already.
-#[derive(Clone, Copy, Debug, PartialEq, Eq)]
+#[derive(Clone, Copy)]
 pub struct Standing {
     /// What it stands on.
     pub footing: Footing,

@@ -15,7 +15,7 @@ use evidence_making::{LastStamp, last_stamp, renewed_by};
 use std::alloc::{AllocError, Global};
 
 /// What the renewal of a record stands on (RFC 4998 5.2).
-#[derive(Clone, Copy, Debug, PartialEq, Eq)]
+#[derive(Clone, Copy)]
 pub struct Footing {
     /// What the new time-stamp must cover, a leaf of the tree.
     pub leaf: Digest,
@@ -24,7 +24,7 @@ pub struct Footing {
 }
 
 /// What a renewal by a time-stamp stands on, and whether the record is renewed by the token already.
-#[derive(Clone, Copy, Debug, PartialEq, Eq)]
+#[derive(Clone, Copy)]
 pub struct Standing {
     /// What it stands on.
     pub last: LastStamp,

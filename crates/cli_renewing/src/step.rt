@@ -15,7 +15,7 @@ use evidence_trees::LeafLists;
 use std::alloc::Global;
 
 /// Why one record isn't renewed, of which there was a footing.
-#[derive(Clone, Copy, Debug, PartialEq, Eq)]
+#[derive(Clone, Copy)]
 pub enum Unrenewed {
     /// It isn't what it was when the tree was made.
     Changed,

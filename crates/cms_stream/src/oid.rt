@@ -6,7 +6,7 @@ use crate::taker::Taker;
 
 /// Whether octets that pass, piece by piece, are the contents of an OBJECT IDENTIFIER: one or more subidentifiers, none
 /// of which begins with 80 (hexadecimal), and the last of which is complete (X.690 8.19).
-#[derive(Debug, Drop)]
+#[derive(Drop)]
 pub(crate) struct OidTest {
     started: bool,
     begins: bool,

@@ -11,7 +11,7 @@ use devices::Source;
 
 /// Where a pass over a source is: a position, counted from 0 at the source's front, with the octets from there on that
 /// the source has already handed out. It keeps no other octets, and takes its source at each call.
-#[derive(Debug, Drop)]
+#[derive(Drop)]
 pub(crate) struct Reader {
     pub(crate) window: Window,
     pub(crate) at: u64,

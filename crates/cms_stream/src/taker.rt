@@ -12,7 +12,7 @@ pub trait Taker {
 }
 
 /// Takes octets and discards them.
-#[derive(Clone, Copy, Debug)]
+#[derive(Clone, Copy)]
 pub(crate) struct Skip;
 
 impl Taker for Skip {

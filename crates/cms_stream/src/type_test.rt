@@ -8,7 +8,7 @@ use crate::oid::OidTest;
 use crate::taker::Taker;
 
 /// Whether octets that pass, piece by piece, are the contents of id-signedData (RFC 5652 5.1).
-#[derive(Debug, Drop)]
+#[derive(Drop)]
 pub(crate) struct SignedDataTest<'a> {
     left: &'a [u8],
     same: bool,
@@ -59,7 +59,7 @@ impl<'a> Taker for SignedDataTest<'a> {
 
 /// Both tests of a contentType (RFC 5652 3) as it passes: that it is an OBJECT IDENTIFIER, and that it is
 /// id-signedData.
-#[derive(Debug, Drop)]
+#[derive(Drop)]
 pub(crate) struct TypeTest<'a> {
     pub(crate) oid: OidTest,
     pub(crate) signed_data: SignedDataTest<'a>,

@@ -111,7 +111,7 @@ fn fits_over(
 }
 
 // Of the last chain the first archive time-stamp, the one before the last, and the last.
-#[derive(Debug, Drop)]
+#[derive(Drop)]
 struct LastTwo<'a> {
     first: ArchiveTimeStamp<'a>,
     before: ArchiveTimeStamp<'a>,

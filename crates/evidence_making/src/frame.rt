@@ -1,7 +1,7 @@
 use digests::Alg;
 
 // What stands round a token that is the last of a record.
-#[derive(Debug, Drop)]
+#[derive(Drop)]
 pub(crate) struct Frame<'a> {
     // The algorithm of its archive time-stamp.
     pub(crate) alg: Alg,

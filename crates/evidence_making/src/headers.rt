@@ -10,7 +10,7 @@ use der_core::{Header, TooLong};
 use evidence_trees::LeafLists;
 
 // How the elements around a token begin, from the outside, and how many octets the outermost has.
-#[derive(Debug, Drop)]
+#[derive(Drop)]
 pub(crate) struct Headers {
     pub(crate) whole: Header,
     pub(crate) algorithms: Header,

@@ -12,14 +12,14 @@ use evidence_types::Chains;
 
 // What is kept of a record that is renewed, but for its chains: the contents of `digestAlgorithms`, and the elements
 // between these and the chains.
-#[derive(Debug, Drop)]
+#[derive(Drop)]
 pub(crate) struct Kept<'a> {
     pub(crate) algorithms: &'a [u8],
     pub(crate) others: &'a [u8],
 }
 
 // The octets of the chains before the last one, and of the archive time-stamps of that one.
-#[derive(Debug, Drop)]
+#[derive(Drop)]
 pub(crate) struct LastChain<'a> {
     pub(crate) before: &'a [u8],
     pub(crate) stamps: &'a [u8],

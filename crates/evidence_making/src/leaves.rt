@@ -49,7 +49,7 @@ pub(crate) fn opened<'a>(octets: &'a [u8]) -> Result<EvidenceRecord<'a>, LeafFau
 }
 
 // The first and the last archive time-stamp of a chain.
-#[derive(Debug, Drop)]
+#[derive(Drop)]
 struct ChainEnds<'a> {
     first: ArchiveTimeStamp<'a>,
     last: ArchiveTimeStamp<'a>,

@@ -13,7 +13,7 @@ use evidence_trees::LeafLists;
 const LISTS: u8 = 0xa2;
 
 // How the element of the lists begins, unless it is absent, and how many octets it has.
-#[derive(Debug, Drop)]
+#[derive(Drop)]
 pub(crate) struct ListsOpening {
     pub(crate) header: Option<Header>,
     pub(crate) size: u64,

@@ -4,7 +4,7 @@ ghost use Rattle.der_core.specs.Element.{len as length_octets};
 use der_core::{Header, TooLong, header};
 
 // How an element begins, and how many octets the whole element has.
-#[derive(Debug, Drop)]
+#[derive(Drop)]
 pub(crate) struct Opening {
     pub(crate) header: Header,
     pub(crate) size: u64,

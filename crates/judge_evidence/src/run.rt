@@ -4,7 +4,7 @@ use der_time::Moment;
 use digests::Alg;
 
 // The first archive time-stamp that fails to last, by its numbers from 1.
-#[derive(Clone, Copy, Debug)]
+#[derive(Clone, Copy)]
 pub(crate) struct Lapse {
     pub chain: usize,
     pub stamp: usize,
@@ -12,7 +12,7 @@ pub(crate) struct Lapse {
 }
 
 // What the first archive time-stamp of all shows.
-#[derive(Clone, Copy, Debug)]
+#[derive(Clone, Copy)]
 pub(crate) struct Begun {
     pub moment: Moment,
     // Whether it has hash values that aren't of the data, where none may be.
@@ -20,7 +20,7 @@ pub(crate) struct Begun {
 }
 
 // What is known.
-#[derive(Clone, Copy, Debug)]
+#[derive(Clone, Copy)]
 pub(crate) struct Run {
     // The algorithm of the chain, once its first stamp was judged.
     pub alg: Option<Alg>,

@@ -123,7 +123,7 @@ fn refused_at(place: &StampPlace, unfit: Unfit) -> EvidenceRefused
 }
 
 // What the tokens of an archive time-stamp and of the one that follows state, and whether none follows.
-#[derive(Debug, Drop)]
+#[derive(Drop)]
 struct States<'a> {
     its: Option<TokenState<'a>>,
     ahead: Option<TokenState<'a>>,

@@ -12,7 +12,7 @@ use der_time::Moment;
 
 /// What a call says, in numbers; 0 in a field that does not apply. The header names the verdicts.
 #[repr(C)]
-#[derive(Clone, Copy, Debug, PartialEq, Eq)]
+#[derive(Clone, Copy)]
 pub struct Answer {
     /// What was found; 0 is no verdict.
     pub verdict: u32,

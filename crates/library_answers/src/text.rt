@@ -36,7 +36,7 @@ pub const NO_MEMORY: u32 = 7;
 pub const NO_LIST: u32 = 8;
 
 /// How a call ends, beside the text in its room.
-#[derive(Clone, Copy, Debug)]
+#[derive(Clone, Copy)]
 pub struct Told {
     /// The status.
     pub status: u32,

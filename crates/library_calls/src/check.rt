@@ -12,7 +12,7 @@ use list_answers::Answers;
 use std::alloc::Global;
 
 /// A file, and the content beside it, if it is given.
-#[derive(Clone, Copy, Debug)]
+#[derive(Clone, Copy)]
 pub struct Input<'i> {
     /// The file.
     pub file: &'i [u8],

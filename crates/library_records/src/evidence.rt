@@ -31,7 +31,7 @@ use trust_lists::Trust;
 /// An evidence record, what it should cover, and how long it must hold, as a caller states it.
 ///
 /// Contracts see an `EvidenceCheck` (`specs/Stated.antt`).
-#[derive(Debug, Drop)]
+#[derive(Drop)]
 pub struct EvidenceInput<'i> {
     /// The evidence record.
     pub evidence: &'i [u8],

@@ -20,7 +20,7 @@ use library_calls::given;
 use std::alloc::{AllocError, Global};
 
 /// What a renewal by a hash tree stands on, and whether the record is renewed by the token already.
-#[derive(Clone, Copy, Debug, PartialEq, Eq)]
+#[derive(Clone, Copy)]
 struct NewStanding {
     /// What the new time-stamp must cover.
     leaf: Digest,

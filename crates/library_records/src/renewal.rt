@@ -25,7 +25,7 @@ use library_calls::alg_of;
 use std::alloc::{AllocError, Global};
 
 /// What a renewal by a time-stamp stands on, and whether the record is renewed by the token already.
-#[derive(Clone, Copy, Debug, PartialEq, Eq)]
+#[derive(Clone, Copy)]
 struct Standing {
     /// What it stands on.
     last: LastStamp,

@@ -36,7 +36,7 @@ use trust_lists::Trust;
 /// A signed file, the evidence record under which it is judged, and how long that must hold, as a caller states it.
 ///
 /// Contracts see an `UnderCheck` (`specs/Under.antt`).
-#[derive(Debug, Drop)]
+#[derive(Drop)]
 pub struct UnderInput<'i> {
     /// The evidence record.
     pub evidence: &'i [u8],

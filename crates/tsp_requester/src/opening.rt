@@ -23,7 +23,7 @@ const TIME_STAMP_TOKEN: [u8; 13] = [
 ];
 
 // The beginning of an element: its header, and the first of its contents. Its size is that of the whole element.
-#[derive(Debug, Drop)]
+#[derive(Drop)]
 pub(crate) struct Opening<'a> {
     pub(crate) header: Header,
     pub(crate) front: &'a [u8],

@@ -12,7 +12,7 @@ use der_core::{Cursor, header};
 // The parts of a file that are kept, in its order: the parts of the SignedData before its signers, the signers before
 // the one that is stamped, the parts of that one before its unsigned attributes, those attributes, and the signers
 // after it.
-#[derive(Debug, Drop)]
+#[derive(Drop)]
 pub(crate) struct Pieces<'a> {
     pub(crate) data_front: &'a [u8],
     pub(crate) before: &'a [u8],

@@ -1,6 +1,6 @@
 use Rattle.std.proofs.lemmas.Result.{err_from_is_err_and}
 use Rattle.cli_commands.proofs.Attached.{attached_when, not_attached}
-use Rattle.cli_commands.proofs.Held.{held_as}
+use Rattle.cli_values.proofs.Held.{held_as}
 use Rattle.cli_commands.proofs.attaching.attach.Goals as goal
 
 pub returns-clause-attached : goal.returns-clause-attached

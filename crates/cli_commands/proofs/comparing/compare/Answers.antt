@@ -1,5 +1,5 @@
 use Rattle.cli_commands.proofs.Compared.{shows_same, shows_unlike}
-use Rattle.cli_commands.proofs.Held.{held_as}
+use Rattle.cli_values.proofs.Held.{held_as}
 use Rattle.cli_commands.proofs.comparing.compare.Goals as goal
 
 pub returns-clause-same : goal.returns-clause-same

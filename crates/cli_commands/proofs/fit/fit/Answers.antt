@@ -1,5 +1,5 @@
 use Rattle.cli_commands.proofs.fit.fit.Goals as goal
-use Rattle.cli_commands.proofs.Held.{held_as}
+use Rattle.cli_values.proofs.Held.{held_as}
 use Rattle.cli_commands.proofs.JudgedFiles.{given_by}
 use Rattle.cli_commands.proofs.Fitting.{shows_fit, shows_unfit}
 

@@ -1,6 +1,6 @@
 use Rattle.std.proofs.Common.{inl, inr}
 use Rattle.std.proofs.lemmas.Result.{err_from_is_err_and}
-use Rattle.cli_commands.proofs.Held.{held_as}
+use Rattle.cli_values.proofs.Held.{held_as}
 use Rattle.cli_commands.proofs.matching.matched.Goals as goal
 
 pub returns-in_err-token-clause-refused : goal.returns-in_err-token-clause-refused

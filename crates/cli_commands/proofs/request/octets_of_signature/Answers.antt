@@ -1,5 +1,5 @@
 use Rattle.std.proofs.lemmas.Result.{err_from_is_err_and}
-use Rattle.cli_commands.proofs.Held.{held_as}
+use Rattle.cli_values.proofs.Held.{held_as}
 use Rattle.cli_commands.proofs.Stampings.{file_refused, signer_refused, signature_too_long, signature_asked}
 use Rattle.cli_commands.proofs.request.octets_of_signature.Goals as goal
 

@@ -1,5 +1,5 @@
 use Rattle.std.proofs.Common.{inr, rules}
-use Rattle.cli_commands.proofs.Held.{held_as}
+use Rattle.cli_values.proofs.Held.{held_as}
 use Rattle.cli_commands.proofs.Shown.{no_signed_data}
 use Rattle.cli_commands.proofs.show.signed.Goals as goal
 

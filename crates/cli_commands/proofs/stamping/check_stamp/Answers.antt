@@ -5,7 +5,7 @@ use Rattle.check_verdict.specs.TokenVerdicts.{terms_of}
 use Rattle.cli_commands.specs.Checking.{IsTerms}
 use Rattle.cli_commands.specs.Stamping.{IsTokenHeld}
 use Rattle.cli_commands.proofs.Checked.{terms}
-use Rattle.cli_commands.proofs.Held.{held_as}
+use Rattle.cli_values.proofs.Held.{held_as}
 use Rattle.cli_commands.proofs.StampsChecked.{accepts, fails, refuses, states_nothing, under}
 use Rattle.cli_commands.proofs.stamping.check_stamp.Given.{Over}
 use Rattle.cli_commands.proofs.stamping.check_stamp.Goals.{After-read}

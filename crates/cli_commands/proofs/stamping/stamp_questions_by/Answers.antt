@@ -1,6 +1,6 @@
 use Rattle.std.proofs.Common.{ap, ◌++◌, ◌∙◌, List, ℕ, refl, inl, inr}
 use Rattle.check_questions.specs.QuestionsText.{questions_text}
-use Rattle.cli_commands.proofs.Held.{held_as}
+use Rattle.cli_values.proofs.Held.{held_as}
 use Rattle.cli_commands.proofs.StampsChecked.{another_of, malformed_of}
 use Rattle.cli_commands.specs.Stamping.{IsTokenHeld}
 use Rattle.cli_commands.proofs.stamping.stamp_questions_by.Given.{Over}

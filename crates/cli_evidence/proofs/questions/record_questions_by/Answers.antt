@@ -1,6 +1,6 @@
 use Rattle.std.proofs.Common.{ap, ◌++◌, ◌∙◌, List, ℕ, refl, inr}
 use Rattle.check_questions.specs.QuestionsText.{questions_text}
-use Rattle.cli_commands.proofs.Held.{held_as}
+use Rattle.cli_values.proofs.Held.{held_as}
 use Rattle.cli_evidence.proofs.Unopened.{unasked, unasked_by}
 use Rattle.cli_evidence.proofs.questions.record_questions_by.Goals as goal
 

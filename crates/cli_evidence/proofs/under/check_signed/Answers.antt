@@ -3,7 +3,7 @@ use Rattle.std.specs.List.{AllByRecursion}
 use Rattle.std.proofs.lemmas.Result.{err_from_is_err_and}
 use Rattle.digests.specs.Selection.{set_given}
 use Rattle.digests.specs.declared.selection.WantedDigests.{WantedDigests}
-use Rattle.cli_commands.proofs.Held.{held_as}
+use Rattle.cli_values.proofs.Held.{held_as}
 use Rattle.cli_evidence.specs.Under.{IsHandedIn, RefusesRecordUnder}
 use Rattle.cli_evidence.proofs.CheckedUnder.{accepts, content_refused, file_refused, record_refused, refuses}
 use Rattle.cli_evidence.proofs.CheckedUnder.{wanted_refused}

@@ -1,5 +1,5 @@
 use Rattle.std.proofs.lemmas.Result.{err_from_is_err_and}
-use Rattle.cli_commands.proofs.Held.{held_as}
+use Rattle.cli_values.proofs.Held.{held_as}
 use Rattle.cli_making.proofs.Requested.{asks_if, file_refused, length_refused_if, sums_refused}
 use Rattle.cli_making.proofs.request.octets_of.Goals as goal
 

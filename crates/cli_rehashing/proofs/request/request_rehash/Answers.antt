@@ -1,5 +1,5 @@
 use Rattle.std.proofs.lemmas.Result.{err_from_is_err_and}
-use Rattle.cli_commands.proofs.Held.{held_as}
+use Rattle.cli_values.proofs.Held.{held_as}
 use Rattle.cli_rehashing.proofs.Runs.{octets_refused}
 use Rattle.cli_rehashing.proofs.request.request_rehash.Goals as goal
 

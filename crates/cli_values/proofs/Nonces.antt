@@ -4,8 +4,8 @@ use Rattle.hex.specs.Hex.{decode_of}
 use Rattle.der_core.specs.Contents.{is_integer}
 use Rattle.cli_failures.specs.declared.failure.Failure.{Failure}
 use Rattle.cli_failures.specs.Causes.{Names}
-use Rattle.cli_commands.specs.Requests.{IsInHex}
-use Rattle.cli_commands.specs.Refusals.{RefusesNonce}
+use Rattle.cli_values.specs.Values.{IsInHex}
+use Rattle.cli_values.specs.Refusals.{RefusesNonce}
 
 no_nonce : (digits contents : List ℕ) → decode_of digits ≡ Ok contents → is_integer contents ≡ false
     → (other : Option (List ℕ)) → IsInHex (Some digits) other → IfSome other (λ b. is_integer b ≡ true) → ⊥

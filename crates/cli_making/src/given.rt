@@ -2,8 +2,8 @@
 ghost use Rattle.std.specs.Prelude.{IfErr, IfOk};
 ghost use Rattle.cli_making.specs.Given.{AreGiven, GivesNot};
 
-use cli_values::alg_of;
 use cli_failures::{Failure, files};
+use cli_values::alg_of;
 use digests::Alg;
 use std::rt::Files;
 

@@ -4,10 +4,10 @@ ghost use Rattle.cli_making.specs.Requesting.{IsRootRequest, IsRootRequestWritte
 ghost use Rattle.cli_making.specs.Requesting.{RefusesRootRequest};
 
 use crate::sums::root_in;
-use cli_values::{alg_of, nonce_contents, nonce_in, policy_contents};
 use cli_failures::request::{policy_in, request_of};
 use cli_failures::{Failure, files};
 use cli_tasks::RootRequestWords;
+use cli_values::{alg_of, nonce_contents, nonce_in, policy_contents};
 use std::rt::Files;
 
 /// Makes the request for a stamp of the root of the tree over the digests that a file states, and then the file that it

@@ -12,11 +12,11 @@ ghost use Rattle.cli_rehashing.specs.Unrehashed.{HaveNoTree, MakesNoRehashReques
 
 use crate::footings::{footings_of, tree_of};
 use crate::keeping::KeepsBelow;
-use cli_values::alg_of;
 use cli_failures::request::request_of;
 use cli_failures::{Failure, files};
 use cli_making::{System, sums_in, text_of};
 use cli_tasks::RehashRequestWords;
+use cli_values::alg_of;
 use digests::Alg;
 use evidence_sums::Sums;
 use std::alloc::Global;

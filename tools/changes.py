@@ -5,8 +5,9 @@
 
 Comments, white space and proofs don't count, nor whether a line goes on in the next one, further in by four, or a list of
 names in a second `use`: of code (.rt) and definitions (.antt) what is left without comments is compared, of an edit the lines
-that are read. Nor does it count that a module, or a definition that its file names no more, went as a whole, or a library that no file
-of the crate names, from its line of crates.txt: what is left is as it was, and no proof can cite what is gone. What can't be told apart
+that are read. Nor does it count that a module, or a definition that its file names no more, went as a whole, that a type no longer derives
+what prints or compares it, or that the line of crates.txt lost a library that no file of the crate names: what is left is as it was, and
+no proof can cite what is gone. What can't be told apart
 for sure counts as a change. `soak.py` uses this.
 """
 
@@ -38,6 +39,9 @@ BLOCK_MARK = re.compile(r"/\*|\*/")
 USE = re.compile(r"^((?:pub |unfoldable |ghost )*use [\w.]+\{)([^{}]*)(\};?)$", re.M)
 ROOTS = ("lib.rt", "main.rt", "Lib.antt")
 MODULE = re.compile(r"(?:pub )?mod \w+ ?;|pub use [\w:]+ ?;")  # what a root of code says of a module
+# what a type derives, up to its name, and the traits that only print or compare it
+DERIVED = re.compile(r"#\[derive\(([\w, ]*)\)\]((?: #\[[^\]]*\])* (?:pub(?:\([a-z]+\))? )?(?:struct|enum) \w+)")
+PLAIN_TRAITS = ("Debug", "PartialEq", "Eq", "PartialOrd", "Ord")
 DEFINED = re.compile(r"(?:pub use .*\{|pub mod |(?:abbrev )?(?:pub )?)(\w+)")  # the name that a line of definitions is of
 FURTHER = 4  # how much further in rt fmt sets a line that goes on; what stands in a block is further in by two
 DEFINITION = re.compile(r'"(?:[^"\\]|\\.)*"|(?P<comment>(?<!\S)--(?!\S).*)|(?P<space>\s+)|.')
@@ -259,6 +263,18 @@ def less_code(before, after):
     return bool(gone) and left(before) == left(after)
 
 
+def less_derived(before, after):
+    """Whether code differs in nothing but that types derive less of what prints or compares them."""
+    left = {item: traits.split(", ") for traits, item in DERIVED.findall(after)}
+
+    def fewer(found):
+        kept = left.get(found[2], PLAIN_TRAITS)
+        traits = [it for it in found[1].split(", ") if it in kept or it not in PLAIN_TRAITS]
+        return f"#[derive({', '.join(traits)})]{found[2]}"
+
+    return DERIVED.sub(fewer, before) == after
+
+
 def less_definitions(before, after):
     """Whether definitions differ in nothing but that some are gone, whose names are nowhere in what is left."""
     lines, left, names = before.split("\n"), after.split("\n"), set(re.findall(r"\w+", after))
@@ -268,8 +284,8 @@ def less_definitions(before, after):
 
 
 def is_only_less(history, commit, top, path):
-    """Whether all that changed in a file is that it went as a whole and is no root, or that what it said of modules did, or
-    definitions that it names no more."""
+    """Whether all that changed in a file is that it went as a whole and is no root, or that what it said of modules did,
+    definitions that it names no more, or what a type derived."""
     place, name = top / path, pathlib.PurePath(path).name
     if place.is_symlink() or path not in history.listed(commit):
         return False
@@ -278,7 +294,7 @@ def is_only_less(history, commit, top, path):
     before, after = meaning(path, history.octets(commit, path)), meaning(path, place.read_bytes())
     if path.endswith(".antt"):
         return "{-" not in before and less_definitions(before, after)
-    return name in ROOTS and less_code(before, after)
+    return less_derived(before, after) or name in ROOTS and less_code(before, after)
 
 
 def uses_less(top, crate, before, after):

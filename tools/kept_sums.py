@@ -1,9 +1,10 @@
 #!/usr/bin/env python3
-"""kept_sums.py WORDS..: does what `rt WORDS..` does, but takes the sum of each crate once in a call.
+"""kept_sums.py WORDS..: does what `rt WORDS..` does, but takes the sum of each crate, and lists the crates below it, once in a call.
 
 Some builds of `rt` take a crate's sum, by which they see whether a library is built, once for each path through the graph of crates,
 and read each time all files of the crate: for one at the top 100,000 times and more, minutes of a call. The sum is the same. `rt ci`,
-which builds all anew, takes two sums of each library and looks at none.
+which builds all anew, takes two sums of each library and looks at none; but for each constant that a crate imports it goes all these
+paths to list what is below the crate, which took it minutes before the first proof. The list is the same.
 """
 import importlib.machinery
 import importlib.util
@@ -34,13 +35,26 @@ def keep_sums(kind):
     kind.stamp = stamp
 
 
+def keep_lists(kind):
+    """Has a crate list the crates below it once, given the type of crates of the library of `rt`."""
+    compute = kind.below
+
+    def below(crate):
+        if not hasattr(crate, "listed"):
+            crate.listed = compute(crate)
+        return list(crate.listed)
+
+    kind.below = below
+
+
 def load(command):
-    """What the command `rt` of this path is made of, with sums that are kept."""
+    """What the command `rt` of this path is made of, with sums and lists that are kept."""
     sys.dont_write_bytecode = True
     loader = importlib.machinery.SourceFileLoader("rt", str(Path(command).resolve()))
     loaded = importlib.util.module_from_spec(importlib.util.spec_from_loader("rt", loader))
     loader.exec_module(loaded)
     keep_sums(loaded.rtlib.Crate)
+    keep_lists(loaded.rtlib.Crate)
     return loaded
 
 

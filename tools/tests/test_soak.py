@@ -11,7 +11,7 @@ from pathlib import Path
 
 TOOLS = Path(__file__).resolve().parent.parent
 sys.path.insert(0, str(TOOLS))
-from changes import less_code, less_definitions, meaning  # noqa: E402
+from changes import less_code, less_definitions, less_derived, meaning  # noqa: E402
 
 # It refuses each edit, but for those that say otherwise, and notes what it was asked.
 STAND_IN = f"""#!{sys.executable}
@@ -180,7 +180,7 @@ class Meanings(unittest.TestCase):
         (".bin", "// a", "// b"),
     ]
 
-    # whether the second says what the first does, but for modules or definitions that are gone
+    # whether the second says what the first does, but for modules, what types derived, or definitions that are gone
     LESS_CODE = [
         ("#![a] mod b; mod c; pub use b::d; pub use c::e;", "#![a] mod c; pub use c::e;", True),
         ("mod b; mod c;", "mod c; mod b;", False),
@@ -189,6 +189,17 @@ class Meanings(unittest.TestCase):
         ("mod b; mod c; const A: u8 = 1;", "mod c; const A: u8 = 2;", False),
         ("pub use a::{b, c};", "pub use a::{b};", False),
         ("mod b;", "mod b;", False),
+    ]
+    LESS_DERIVED = [
+        ("#[derive(Clone, Copy, Debug)] pub enum A { B }", "#[derive(Clone, Copy)] pub enum A { B }", True),
+        ("#[derive(Clone, Debug, PartialEq, Eq)] #[b] pub(crate) struct A;", "#[derive(Clone)] #[b] pub(crate) struct A;", True),
+        ("#[derive(Debug, Drop)] struct A;", "#[derive(Drop)] struct A;", True),
+        ("#[derive(Debug, Drop)] struct A;", "#[derive(Debug)] struct A;", False),
+        ("#[derive(Clone, Copy)] struct A;", "#[derive(Clone)] struct A;", False),
+        ("#[derive(Drop)] struct A;", "#[derive(Debug, Drop)] struct A;", False),
+        ("#[derive(Debug, Drop)] struct A { b: u8 }", "#[derive(Drop)] struct A { b: u16 }", False),
+        ("#[derive(Eq, Drop)] struct A; fn b() {}", "#[derive(Drop)] struct A; fn b() { c() }", False),
+        ("#[derive(Debug, Drop)] struct A; #[derive(Debug, Drop)] struct B;", "#[derive(Drop)] struct A;", False),
     ]
     LESS_DEFINITIONS = [
         ("abbrev pub a : T\na x = y\nb = c", "b = c", True),
@@ -201,7 +212,8 @@ class Meanings(unittest.TestCase):
     ]
 
     def test_what_went_as_a_whole(self):
-        for is_less, rows in ((less_code, self.LESS_CODE), (less_definitions, self.LESS_DEFINITIONS)):
+        tables = ((less_code, self.LESS_CODE), (less_derived, self.LESS_DERIVED), (less_definitions, self.LESS_DEFINITIONS))
+        for is_less, rows in tables:
             for before, after, wanted in rows:
                 with self.subTest(before=before, after=after):
                     self.assertEqual(is_less(before, after), wanted)

@@ -1,26 +1,12 @@
-use std::alloc::{AllocError, AllocFailed};
-use thiserror::Error;
+use std::alloc::AllocError;
 
-/// Why a job wasn't done. `Display` prints the reason.
-#[derive(Clone, Copy, Debug, Drop, Error)]
-pub(crate) enum Bad {
-    /// Something isn't as it must be.
-    #[error("{0}")]
-    Text(&'static str),
-    /// Memory was refused.
-    #[error("no memory")]
-    Memory,
-}
+/// Why a job wasn't done, in words.
+#[derive(Clone, Copy)]
+pub(crate) struct Bad(pub(crate) &'static str);
 
 impl From<AllocError> for Bad {
     fn from(_error: AllocError) -> Bad {
-        Bad::Memory
-    }
-}
-
-impl<T: Drop> From<AllocFailed<T>> for Bad {
-    fn from(_error: AllocFailed<T>) -> Bad {
-        Bad::Memory
+        Bad("no memory")
     }
 }
 
@@ -28,6 +14,6 @@ impl<T: Drop> From<AllocFailed<T>> for Bad {
 pub(crate) fn needed<T: Drop, E: Drop>(found: Result<T, E>, why: &'static str) -> Result<T, Bad> {
     match found {
         Ok(found) => Ok(found),
-        Err(_) => Err(Bad::Text(why)),
+        Err(_) => Err(Bad(why)),
     }
 }

@@ -1,10 +1,12 @@
 //! Small files of several kinds, one after another.
 
-use crate::bad::Bad;
+use crate::bad::{Bad, needed};
 use crate::job::Job;
-use crate::making::{Content, make};
+use crate::making::make;
 use crate::numbers::Numbers;
+use crate::octets::Octets;
 use crate::parts::Template;
+use crate::results::Results;
 use digests::{Digest, digest};
 
 /// How many octets a small file's content has.
@@ -13,20 +15,18 @@ const SIZE: usize = 3_000;
 /// How many contents there are, of which each file has one.
 const CONTENTS: usize = 64;
 
-/// A kind of files: a template, how many signers they have, and the digests of all contents.
-#[derive(Drop)]
-struct Kind<'a> {
-    template: &'a Template,
-    signers: usize,
-    digests: Vec<Digest>,
-}
+/// The templates of the files, one after another: with an RSA signer, an ECDSA signer, one of each, and with a signer
+/// that names another digest than the file lists.
+const KINDS: &str = "rsa ecdsa rsa two ecdsa rsa two other";
 
-/// Small files, of which no two are the same.
+/// Small files, of which no two are the same: their contents, their templates, and the digests of all contents by the
+/// algorithm of each template.
 #[derive(Drop)]
 pub(crate) struct Files<'a> {
     numbers: Numbers,
     contents: Vec<u8>,
-    kinds: Vec<Kind<'a>>,
+    templates: Vec<&'a Template>,
+    digests: Vec<Digest>,
 }
 
 // The content with this number.
@@ -40,8 +40,7 @@ fn content_at(contents: &[u8], number: usize) -> &[u8] {
 }
 
 impl<'a> Files<'a> {
-    /// The files of a job: with an RSA signer, an ECDSA signer, one of each, and with a signer that names another
-    /// digest than the file lists.
+    /// The files of a job.
     pub(crate) fn new(job: &Job<'a>) -> Result<Files<'a>, Bad> {
         let mut numbers = Numbers::new(job.seed);
         let mut contents = vec![in job.alloc; 0; SIZE * CONTENTS]?;
@@ -49,55 +48,43 @@ impl<'a> Files<'a> {
         let mut files = Files {
             numbers,
             contents,
-            kinds: Vec::new(job.alloc),
+            templates: Vec::new(job.alloc),
+            digests: Vec::new(job.alloc),
         };
-        files.add_kind(job, "rsa", 1)?;
-        files.add_kind(job, "ecdsa", 1)?;
-        files.add_kind(job, "rsa", 1)?;
-        files.add_kind(job, "two", 2)?;
-        files.add_kind(job, "ecdsa", 1)?;
-        files.add_kind(job, "rsa", 1)?;
-        files.add_kind(job, "two", 2)?;
-        files.add_kind(job, "other", 1)?;
+        files.add_kinds(job)?;
         Ok(files)
     }
 
-    // One more kind.
-    fn add_kind(&mut self, job: &Job<'a>, name: &str, signers: usize) -> Result<(), Bad> {
-        let template = job.parts.template(name)?;
-        let mut digests = Vec::new(job.alloc);
-        for number in 0..CONTENTS {
-            digests.push(digest(template.alg, content_at(self.contents.as_slice(), number)))?;
+    // All kinds.
+    fn add_kinds(&mut self, job: &Job<'a>) -> Result<(), Bad> {
+        for name in KINDS.split(' ') {
+            self.add_kind(job.parts.template(name)?)?;
         }
-        self.kinds.push(Kind {
-            template,
-            signers,
-            digests,
-        })?;
         Ok(())
     }
 
+    // One more kind.
+    fn add_kind(&mut self, template: &'a Template) -> Result<(), Bad> {
+        for number in 0..CONTENTS {
+            let digest = digest(template.alg, content_at(self.contents.as_slice(), number));
+            needed(self.digests.push(digest), "no memory")?;
+        }
+        needed(self.templates.push(template), "no memory")
+    }
+
     /// Makes the file with this number in place of what `file` holds.
-    pub(crate) fn make(&mut self, number: usize, file: &mut Vec<u8>) -> Result<(), Bad> {
-        if self.kinds.is_empty() {
-            return Err(Bad::Text("no kinds of files"));
-        }
-        let which = number % self.kinds.len();
-        let kind = &self.kinds[which];
+    pub(crate) fn make(&mut self, number: usize, file: &mut Octets, results: &mut Results) {
+        let kind = number % 8;
         let chosen = (number / 8) % CONTENTS;
-        if chosen >= kind.digests.len() {
-            return Err(Bad::Text("a content without a digest"));
+        let place = kind * CONTENTS + chosen;
+        if kind >= self.templates.len() || place >= self.digests.len() {
+            return results.note(false, "a kind of files is missing");
         }
-        let content = Content {
-            octets: content_at(self.contents.as_slice(), chosen),
-            digest: kind.digests[chosen],
-        };
-        make(
-            kind.template,
-            &content,
-            kind.signers,
-            &mut self.numbers,
-            file,
-        )
+        let template = self.templates[kind];
+        let octets = content_at(self.contents.as_slice(), chosen);
+        let digest = self.digests[place];
+        let signers = template.pieces.len().saturating_sub(2);
+        make(template, octets, &digest, signers, &mut self.numbers, file);
+        results.note(file.whole, "a file can't be made");
     }
 }

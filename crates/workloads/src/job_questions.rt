@@ -5,9 +5,10 @@ use crate::files::Files;
 use crate::job::Job;
 use crate::lists::trust_of;
 use crate::numbers::Numbers;
+use crate::octets::Octets;
 use crate::results::Results;
-use crate::trusting::{policy, take_verdict};
-use cmsproof_api::{Answers, FromWrite, Pass, Slice, Trust, check, questions_stream};
+use crate::trusting::{take_verdict, verdict};
+use cmsproof_api::{Answers, FromWrite, Pass, Slice, Trust, questions_stream};
 use std::alloc::Global;
 
 /// How many files are asked about at a time.
@@ -23,43 +24,41 @@ pub(crate) fn run(job: &Job<'_>, results: &mut Results) -> Result<(), Bad> {
     let trust = trust_of(job, 46, &mut Numbers::new(job.seed ^ 2))?;
     let mut files = Files::new(job)?;
     for batch in 0..job.count / BATCH {
-        run_batch(job.alloc, &trust, &mut files, batch, results)?;
+        run_batch(&trust, &mut files, batch, results);
     }
     Ok(())
 }
 
 // Asks about the files of a batch, and checks each by the answers.
-fn run_batch(
-    alloc: Global,
-    trust: &Trust,
-    files: &mut Files<'_>,
-    batch: usize,
-    results: &mut Results,
-) -> Result<(), Bad> {
-    let mut made: Vec<Vec<u8>> = Vec::new(alloc);
-    let mut text = Vec::new(alloc);
-    text.extend_from_slice(HEADING)?;
+fn run_batch(trust: &Trust, files: &mut Files<'_>, batch: usize, results: &mut Results) {
+    let alloc = results.alloc;
+    let first = batch.wrapping_mul(BATCH);
+    let mut made = Vec::new(alloc);
+    let mut text = Octets::new(alloc);
+    text.add(HEADING);
     for number in 0..BATCH {
-        let mut file = Vec::new(alloc);
-        files.make(batch.wrapping_mul(BATCH).wrapping_add(number), &mut file)?;
-        add_questions(alloc, trust, file.as_slice(), &mut text)?;
-        made.push(file)?;
+        let mut file = Octets::new(alloc);
+        files.make(first.wrapping_add(number), &mut file, results);
+        let asked = add_questions(alloc, trust, file.as_slice(), &mut text);
+        results.note(asked.is_ok(), "a file without questions");
+        results.note(made.push(file).is_ok(), "no memory");
     }
     results.take(text.as_slice());
-    let mut answers = needed(
-        Answers::read(alloc, text.as_slice()),
-        "answers with a fault",
-    )?;
-    for file in made.as_slice() {
-        let mut none: Option<Slice> = None;
-        let verdict = check(file.as_slice(), &mut none, trust, &policy(), &mut answers);
-        take_verdict(alloc, &verdict, results)?;
+    check_batch(trust, made.as_slice(), text.as_slice(), results);
+}
+
+// Checks files by the answers of a text.
+fn check_batch(trust: &Trust, files: &[Octets], text: &[u8], results: &mut Results) {
+    let Ok(mut answers) = Answers::read(results.alloc, text) else {
+        return results.note(false, "answers with a fault");
+    };
+    for file in files {
+        take_verdict(&verdict(file.as_slice(), trust, &mut answers), results);
     }
-    Ok(())
 }
 
 // Adds the questions of a file, without their first line.
-fn add_questions(alloc: Global, trust: &Trust, file: &[u8], text: &mut Vec<u8>) -> Result<(), Bad> {
+fn add_questions(alloc: Global, trust: &Trust, file: &[u8], text: &mut Octets) -> Result<(), Bad> {
     let mut buffer = vec![in alloc; 0; ROOM]?;
     let mut sink = FromWrite::new(Vec::new(alloc));
     let asked = questions_stream(
@@ -69,15 +68,13 @@ fn add_questions(alloc: Global, trust: &Trust, file: &[u8], text: &mut Vec<u8>) 
         trust,
         &mut sink,
     );
-    needed(asked, "a file without questions")?;
     let questions = sink.into_inner();
-    let lines = questions.as_slice();
-    let mut first = true;
-    for line in lines.split_inclusive(|octet| *octet == b'\n') {
-        if !first {
-            text.extend_from_slice(line)?;
-        }
-        first = false;
+    let mut lines = questions
+        .as_slice()
+        .split_inclusive(|octet| *octet == b'\n');
+    let _ = lines.next();
+    for line in lines {
+        text.add(line);
     }
-    Ok(())
+    needed(asked, "a file without questions")
 }

@@ -18,6 +18,7 @@ mod job_signers;
 mod lists;
 mod making;
 mod numbers;
+mod octets;
 mod parts;
 mod results;
 mod trusting;
@@ -29,26 +30,14 @@ use results::Results;
 use std::rt::Files;
 use std::{env, fs, io};
 
-/// What is asked for: a job, how much of it, the octets that it begins with, and the parts of files.
-#[derive(Debug, Drop)]
-struct Asked<'a> {
-    job: &'a str,
-    count: usize,
-    parts: &'a str,
-    seed: u64,
-}
-
-/// What the words ask for.
-fn words_read(words: &[String]) -> Option<Asked<'_>> {
+/// The words: a job, how much of it, the file of the parts, and the number from which the octets follow.
+fn words_read(words: &[String]) -> Option<(&str, usize, &str, u64)> {
     let [_, job, count, parts, seed] = words else {
         return None;
     };
-    Some(Asked {
-        job: job.as_str(),
-        count: count.as_str().parse::<usize>().ok()?,
-        parts: parts.as_str(),
-        seed: seed.as_str().parse::<u64>().ok()?,
-    })
+    let count = count.as_str().parse::<usize>().ok()?;
+    let seed = seed.as_str().parse::<u64>().ok()?;
+    Some((job.as_str(), count, parts.as_str(), seed))
 }
 
 /// Does the job of this name.
@@ -61,7 +50,7 @@ fn done(name: &str, job: &Job<'_>, results: &mut Results) -> Result<(), Bad> {
         "contents" => job_contents::run(job, results),
         "looks" => job_looks::run(job, results),
         "all" => all_done(job, results),
-        _ => Err(Bad::Text("a job that isn't known")),
+        _ => Err(Bad("a job that isn't known")),
     }
 }
 
@@ -77,29 +66,30 @@ fn all_done(job: &Job<'_>, results: &mut Results) -> Result<(), Bad> {
 
 /// Reads the parts, and does the job.
 fn worked<R: Files + AllocGlobal>(rt: &R, words: &[String]) -> Result<Results, Bad> {
-    let asked = words_read(words).ok_or(Bad::Text("not the words JOB COUNT PARTS SEED"))?;
-    let text = needed(fs::read_to_string(rt, asked.parts), "no file of parts")?;
+    let asked = words_read(words).ok_or(Bad("not the words JOB COUNT PARTS SEED"));
+    let (name, count, path, seed) = asked?;
+    let text = needed(fs::read_to_string(rt, path), "no file of parts")?;
     let parts = Parts::read(rt.alloc(), text.as_str())?;
     let job = Job {
         alloc: rt.alloc(),
         parts: &parts,
-        count: asked.count,
-        seed: asked.seed,
+        count,
+        seed,
     };
-    let mut results = Results::new();
-    done(asked.job, &job, &mut results)?;
-    Ok(results)
+    let mut results = Results::new(rt.alloc());
+    let done = done(name, &job, &mut results);
+    results.end(done)
 }
 
 fn main(rt: HostRuntime) -> io::Result<()> {
     let words: Vec<String> = env::args(&rt)?.collect(rt.alloc())?;
     match worked(&rt, words.as_slice()) {
         Ok(results) => {
-            let count = results.count();
-            let accepted = results.accepted();
-            let digest = results.digest();
-            println!(rt; "{count} answers, {accepted} files accepted, {digest:016x}")
+            let count = results.count;
+            let accepted = results.accepted;
+            let mixed = results.mixed;
+            println!(rt; "{count} answers, {accepted} files accepted, {mixed:016x}")
         }
-        Err(bad) => println!(rt; "{bad}"),
+        Err(Bad(why)) => println!(rt; "{why}"),
     }
 }

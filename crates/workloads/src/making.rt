@@ -3,128 +3,70 @@
 use crate::bad::Bad;
 use crate::job::Job;
 use crate::numbers::Numbers;
-use crate::parts::{Piece, Step, Template};
-use digests::{Alg, Digest, digest};
+use crate::octets::Octets;
+use crate::parts::{Piece, Step, Template, What};
+use digests::{Digest, digest};
 
-/// A content, and its digest by the template's algorithm.
-#[derive(Debug, Drop)]
-pub(crate) struct Content<'a> {
-    pub(crate) octets: &'a [u8],
-    pub(crate) digest: Digest,
+/// What is filled in of a content: its digest, and where it ends.
+#[derive(Clone, Copy)]
+struct Content<'a> {
+    digest: &'a Digest,
+    end: usize,
 }
 
-// Puts octets at a place.
-fn put(room: &mut [u8], at: usize, octets: &[u8]) -> Result<(), Bad> {
-    if at > room.len() || octets.len() > room.len() - at {
-        return Err(Bad::Text("a part is too short"));
+// Fills in one thing of a piece that stands at `base`.
+fn fill_step(step: Step, base: usize, content: &Content, numbers: &mut Numbers, file: &mut Octets) {
+    let at = base.saturating_add(step.at);
+    match step.what {
+        What::Ends => file.put_length(at, step.size, file.as_slice().len()),
+        What::Holds => file.put_length(at, step.size, content.end),
+        What::Kept => file.put(at, content.digest.bytes()),
+        What::Random => numbers.fill(file.part(at, step.size)),
+        What::Digest => file.put_digest(at, base.saturating_add(step.from), step.size),
     }
-    room[at..at + octets.len()].copy_from_slice(octets);
-    Ok(())
 }
 
-// Puts, at a place, the length of an element whose contents begin behind it and end there.
-fn put_length(room: &mut [u8], at: usize, size: usize, end: usize) -> Result<(), Bad> {
-    if size > 8 || at > end || size > end - at {
-        return Err(Bad::Text("a length has no place"));
-    }
-    let octets = ((end - at - size) as u64).to_be_bytes();
-    put(room, at, &octets[8 - size..])
-}
-
-// Puts the SHA-256 of a part at a place.
-fn put_digest(room: &mut [u8], at: usize, from: usize, size: usize) -> Result<(), Bad> {
-    if from > room.len() || size > room.len() - from {
-        return Err(Bad::Text("what is hashed is too short"));
-    }
-    let found = digest(Alg::Sha256, &room[from..from + size]);
-    put(room, at, found.bytes())
-}
-
-// Fills this part with any octets.
-fn put_any(room: &mut [u8], at: usize, size: usize, numbers: &mut Numbers) -> Result<(), Bad> {
-    if at > room.len() || size > room.len() - at {
-        return Err(Bad::Text("there is no place for any octets"));
-    }
-    numbers.fill(&mut room[at..at + size]);
-    Ok(())
-}
-
-// Fills in the lengths of a front or back that stands at `base`.
-fn fill_lengths(
-    file: &mut [u8],
-    piece: &Piece,
-    base: usize,
-    content_end: usize,
-) -> Result<(), Bad> {
-    let end = file.len();
+// Fills in what a piece that stands at `base` has of its own.
+fn fill(piece: &Piece, base: usize, content: &Content, numbers: &mut Numbers, file: &mut Octets) {
     for step in piece.steps.as_slice() {
-        match *step {
-            Step::Ends { at, size } => put_length(file, base.saturating_add(at), size, end)?,
-            Step::Holds { at, size } => {
-                put_length(file, base.saturating_add(at), size, content_end)?
-            }
-            _ => return Err(Bad::Text("only lengths are filled in there")),
-        }
+        fill_step(*step, base, content, numbers, file);
     }
-    Ok(())
 }
 
-// Fills in what a signer has of its own.
-fn fill_item(
-    item: &mut [u8],
-    steps: &[Step],
-    kept: &Digest,
-    numbers: &mut Numbers,
-) -> Result<(), Bad> {
-    for step in steps {
-        match *step {
-            Step::Random { at, size } => put_any(item, at, size, numbers)?,
-            Step::Kept { at } => put(item, at, kept.bytes())?,
-            Step::Digest { at, from, size } => put_digest(item, at, from, size)?,
-            _ => return Err(Bad::Text("no length is filled in there")),
-        }
-    }
-    Ok(())
+// Adds a signer.
+fn add_item(item: &Piece, content: &Content, numbers: &mut Numbers, file: &mut Octets) {
+    let base = file.as_slice().len();
+    file.add(item.octets.as_slice());
+    fill(item, base, content, numbers, file);
 }
 
-/// Makes a file of so many signers in place of what `file` holds.
+/// Makes a file of so many signers over octets with this digest, in place of what `file` holds.
 pub(crate) fn make(
     template: &Template,
-    content: &Content<'_>,
+    octets: &[u8],
+    digest: &Digest,
     signers: usize,
     numbers: &mut Numbers,
-    file: &mut Vec<u8>,
-) -> Result<(), Bad> {
-    if template.items.is_empty() {
-        return Err(Bad::Text("a template without signers"));
-    }
+    file: &mut Octets,
+) {
     file.clear();
-    file.extend_from_slice(template.front.octets.as_slice())?;
-    file.extend_from_slice(content.octets)?;
-    let content_end = file.len();
-    file.extend_from_slice(template.back.octets.as_slice())?;
+    let [front, back, items @ ..] = template.pieces.as_slice() else {
+        file.whole = false;
+        return;
+    };
+    file.add(front.octets.as_slice());
+    file.add(octets);
+    let end = file.as_slice().len();
+    let content = Content { digest, end };
+    file.add(back.octets.as_slice());
     for number in 0..signers {
-        let item = &template.items[number % template.items.len()];
-        let from = file.len();
-        file.extend_from_slice(item.octets.as_slice())?;
-        let room = file.as_mut_slice();
-        if from > room.len() {
-            return Err(Bad::Text("a file that shrank"));
+        match items.get(number % items.len().max(1)) {
+            Some(item) => add_item(item, &content, numbers, file),
+            None => file.whole = false,
         }
-        fill_item(
-            &mut room[from..],
-            item.steps.as_slice(),
-            &content.digest,
-            numbers,
-        )?;
     }
-    fill_lengths(file.as_mut_slice(), &template.front, 0, content_end)?;
-    fill_lengths(
-        file.as_mut_slice(),
-        &template.back,
-        content_end,
-        content_end,
-    )
+    fill(front, 0, &content, numbers, file);
+    fill(back, end, &content, numbers, file);
 }
 
 /// A file by the template of this name, of so many signers, over a content of `size` octets, and the content's digest.
@@ -134,15 +76,23 @@ pub(crate) fn made(
     size: usize,
     signers: usize,
     numbers: &mut Numbers,
-) -> Result<(Vec<u8>, Digest), Bad> {
+) -> Result<(Octets, Digest), Bad> {
     let template = job.parts.template(name)?;
     let mut octets = vec![in job.alloc; 0; size]?;
     numbers.fill(octets.as_mut_slice());
-    let content = Content {
-        octets: octets.as_slice(),
-        digest: digest(template.alg, octets.as_slice()),
-    };
-    let mut file = Vec::new(job.alloc);
-    make(template, &content, signers, numbers, &mut file)?;
-    Ok((file, content.digest))
+    let digest = digest(template.alg, octets.as_slice());
+    let mut file = Octets::new(job.alloc);
+    make(
+        template,
+        octets.as_slice(),
+        &digest,
+        signers,
+        numbers,
+        &mut file,
+    );
+    if file.whole {
+        Ok((file, digest))
+    } else {
+        Err(Bad("a file can't be made"))
+    }
 }

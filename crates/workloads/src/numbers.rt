@@ -1,7 +1,7 @@
 //! Octets that follow from a number: the generator splitmix64 (Steele, Lea and Flood, 2014).
 
 /// A generator of numbers of 64 bits.
-#[derive(Debug, Drop)]
+#[derive(Drop)]
 pub(crate) struct Numbers {
     state: u64,
 }

@@ -1,203 +1,226 @@
 //! The parts of which files and lists are made, as they stand in a text.
 
-use crate::bad::{Bad, needed};
+use crate::bad::Bad;
 use digests::Alg;
 use std::alloc::Global;
 
-/// What is filled in at a place.
-#[derive(Clone, Copy, Debug, PartialEq, Eq)]
-pub(crate) enum Step {
+/// What is filled in.
+#[derive(Clone, Copy)]
+pub(crate) enum What {
     /// The length, of `size` octets, of an element that ends with the file.
-    Ends { at: usize, size: usize },
+    Ends,
     /// The length of an element that ends with the content.
-    Holds { at: usize, size: usize },
+    Holds,
     /// The digest of the content.
-    Kept { at: usize },
+    Kept,
     /// Any octets.
-    Random { at: usize, size: usize },
+    Random,
     /// The SHA-256 of `size` octets from another place on.
-    Digest { at: usize, from: usize, size: usize },
+    Digest,
+}
+
+/// What is filled in at a place.
+#[derive(Clone, Copy)]
+pub(crate) struct Step {
+    pub(crate) what: What,
+    pub(crate) at: usize,
+    pub(crate) from: usize,
+    pub(crate) size: usize,
 }
 
 /// Octets in which something is filled in.
-#[derive(Debug, Drop)]
+#[derive(Drop)]
 pub(crate) struct Piece {
     pub(crate) octets: Vec<u8>,
     pub(crate) steps: Vec<Step>,
 }
 
-/// Of what a signed file consists beside its content.
-#[derive(Debug, Drop)]
+/// Of what a signed file consists beside its content: a front, a back, and signers.
+#[derive(Drop)]
 pub(crate) struct Template {
-    pub(crate) name: String,
+    name: String,
     pub(crate) alg: Alg,
-    pub(crate) front: Piece,
-    pub(crate) back: Piece,
-    pub(crate) items: Vec<Piece>,
+    pub(crate) pieces: Vec<Piece>,
 }
 
-/// An entry of trust lists: its line, and the place of the digits that can be exchanged.
-#[derive(Debug, Drop)]
-pub(crate) struct EntryLine {
+/// An entry of trust lists: its line, the place of the digits that can be exchanged, and its line in the other role.
+#[derive(Drop)]
+pub(crate) struct Entry {
     pub(crate) line: Vec<u8>,
     pub(crate) at: usize,
     pub(crate) size: usize,
+    pub(crate) twisted: Vec<u8>,
 }
 
 /// All parts.
-#[derive(Debug, Drop)]
+#[derive(Drop)]
 pub(crate) struct Parts {
     templates: Vec<Template>,
-    pub(crate) entries: Vec<EntryLine>,
+    pub(crate) entries: Vec<Entry>,
     pub(crate) unstamped: Vec<u8>,
     pub(crate) token: Vec<u8>,
 }
 
-/// A line without its first word.
-#[derive(Debug, Drop)]
+/// What is left of a line. No call fails: what can't be read is noted, and told at the end of the text.
+#[derive(Drop)]
 struct Values<'a> {
+    alloc: Global,
     left: &'a str,
+    good: bool,
 }
 
 impl<'a> Values<'a> {
     // The next word.
     fn word(&mut self) -> &'a str {
-        match self.left.split_once(' ') {
-            Some((word, left)) => {
-                self.left = left;
-                word
-            }
-            None => {
-                let word = self.left;
-                self.left = "";
-                word
+        let (word, left) = self.left.split_once(' ').unwrap_or((self.left, ""));
+        self.left = left;
+        word
+    }
+
+    // What was found, or something in its place, which is noted.
+    fn taken<T: Drop, E: Drop>(&mut self, found: Result<T, E>, otherwise: T) -> T {
+        match found {
+            Ok(found) => found,
+            Err(_) => {
+                self.good = false;
+                otherwise
             }
         }
     }
 
     // The next word, as a number.
-    fn number(&mut self) -> Result<usize, Bad> {
-        needed(self.word().parse::<usize>(), "no number in a line of parts")
+    fn number(&mut self) -> usize {
+        let word = self.word();
+        self.taken(word.parse::<usize>(), 0)
     }
 
     // The next word, as octets.
-    fn octets(&mut self, alloc: Global) -> Result<Vec<u8>, Bad> {
-        needed(
-            hex::decode(alloc, self.word()),
-            "no octets in a line of parts",
-        )
+    fn octets(&mut self) -> Vec<u8> {
+        let word = self.word();
+        self.taken(hex::decode(self.alloc, word), Vec::new(self.alloc))
     }
-}
 
-impl Piece {
-    // A piece in which nothing is filled in.
-    fn new(alloc: Global, octets: Vec<u8>) -> Piece {
-        Piece {
-            octets,
-            steps: Vec::new(alloc),
+    // The line of an entry in this role.
+    fn line(&mut self, role: &str, digits: &str) -> Vec<u8> {
+        let line = format!(in self.alloc; "{role} {digits}\n");
+        self.taken(line, String::new(self.alloc)).into_bytes()
+    }
+
+    // What the line with this word fills in.
+    fn step(&mut self, word: &str) -> Step {
+        let what = what_of(word);
+        self.good &= what.is_some();
+        Step {
+            what: what.unwrap_or(What::Kept),
+            at: self.number(),
+            from: if word == "digest" { self.number() } else { 0 },
+            size: if word == "kept" { 0 } else { self.number() },
         }
     }
 }
 
-impl Template {
-    // A template with nothing in it.
-    fn new(alloc: Global, name: &str, alg: Alg) -> Result<Template, Bad> {
-        Ok(Template {
-            name: String::from_str(alloc, name)?,
-            alg,
-            front: Piece::new(alloc, Vec::new(alloc)),
-            back: Piece::new(alloc, Vec::new(alloc)),
-            items: Vec::new(alloc),
-        })
-    }
-
-    // The piece that was begun last: an item, or the back, or the front.
-    fn newest(&mut self) -> &mut Piece {
-        if !self.items.is_empty() {
-            let last = self.items.len() - 1;
-            return &mut self.items[last];
-        }
-        if self.back.octets.is_empty() {
-            &mut self.front
-        } else {
-            &mut self.back
-        }
+// What lines with this word fill in.
+fn what_of(word: &str) -> Option<What> {
+    match word {
+        "ends" => Some(What::Ends),
+        "holds" => Some(What::Holds),
+        "kept" => Some(What::Kept),
+        "random" => Some(What::Random),
+        "digest" => Some(What::Digest),
+        _ => None,
     }
 }
 
 impl Parts {
-    // No parts.
-    fn none(alloc: Global) -> Parts {
-        Parts {
+    /// The parts of a text.
+    pub(crate) fn read(alloc: Global, text: &str) -> Result<Parts, Bad> {
+        let mut parts = Parts {
             templates: Vec::new(alloc),
             entries: Vec::new(alloc),
             unstamped: Vec::new(alloc),
             token: Vec::new(alloc),
+        };
+        let mut values = Values {
+            alloc,
+            left: "",
+            good: true,
+        };
+        for line in text.lines() {
+            values.left = line;
+            parts.add_line(&mut values);
+        }
+        if values.good {
+            Ok(parts)
+        } else {
+            Err(Bad("a line of parts can't be read"))
         }
     }
 
-    /// The parts of a text.
-    pub(crate) fn read(alloc: Global, text: &str) -> Result<Parts, Bad> {
-        let mut parts = Parts::none(alloc);
-        for line in text.lines() {
-            let mut values = Values { left: line };
-            match values.word() {
-                "entry" => parts.add_entry(alloc, values.left)?,
-                "template" => parts.add_template(alloc, values.left)?,
-                "unstamped" => parts.unstamped = values.octets(alloc)?,
-                "token" => parts.token = values.octets(alloc)?,
-                word => parts.add_to_template(alloc, word, values.left)?,
-            }
+    // What a line states.
+    fn add_line(&mut self, values: &mut Values<'_>) {
+        match values.word() {
+            "entry" => self.add_entry(values),
+            "template" => self.add_template(values),
+            "unstamped" => self.unstamped = values.octets(),
+            "token" => self.token = values.octets(),
+            "front" | "back" | "item" => self.add_piece(values),
+            word => self.add_step(word, values),
         }
-        Ok(parts)
     }
 
     // An entry: its role, its certificate, and the place and number of the octets that can be exchanged.
-    fn add_entry(&mut self, alloc: Global, left: &str) -> Result<(), Bad> {
-        let mut values = Values { left };
+    fn add_entry(&mut self, values: &mut Values<'_>) {
         let role = values.word();
         let digits = values.word();
-        let at = values.number()?.saturating_mul(2);
-        let size = values.number()?.saturating_mul(2);
-        let line = format!(in alloc; "{role} {digits}\n")?.into_bytes();
-        let begin = at.saturating_add(role.len()).saturating_add(1);
-        if begin > line.len() || size > line.len() - begin {
-            return Err(Bad::Text("an entry is too short"));
-        }
-        self.entries.push(EntryLine {
-            line,
-            at: begin,
-            size,
-        })?;
-        Ok(())
+        let entry = Entry {
+            line: values.line(role, digits),
+            twisted: values.line(if role == "tsa" { "signer" } else { "tsa" }, digits),
+            at: values
+                .number()
+                .saturating_mul(2)
+                .saturating_add(role.len())
+                .saturating_add(1),
+            size: values.number().saturating_mul(2),
+        };
+        values.good &= self.entries.push(entry).is_ok();
     }
 
     // The beginning of a template.
-    fn add_template(&mut self, alloc: Global, left: &str) -> Result<(), Bad> {
-        let mut values = Values { left };
-        let name = values.word();
-        let alg = Alg::named(values.word()).ok_or(Bad::Text("an algorithm that isn't known"))?;
-        self.templates.push(Template::new(alloc, name, alg)?)?;
-        Ok(())
+    fn add_template(&mut self, values: &mut Values<'_>) {
+        let name = String::from_str(values.alloc, values.word());
+        let alg = Alg::named(values.word());
+        values.good &= alg.is_some();
+        let template = Template {
+            name: values.taken(name, String::new(values.alloc)),
+            alg: alg.unwrap_or(Alg::Sha256),
+            pieces: Vec::new(values.alloc),
+        };
+        values.good &= self.templates.push(template).is_ok();
     }
 
-    // A line of the last template.
-    fn add_to_template(&mut self, alloc: Global, word: &str, left: &str) -> Result<(), Bad> {
-        if self.templates.is_empty() {
-            return Err(Bad::Text("a part without a template"));
+    // A piece of the last template.
+    fn add_piece(&mut self, values: &mut Values<'_>) {
+        let piece = Piece {
+            octets: values.octets(),
+            steps: Vec::new(values.alloc),
+        };
+        match self.templates.as_mut_slice() {
+            [.., template] => values.good &= template.pieces.push(piece).is_ok(),
+            _ => values.good = false,
         }
-        let last = self.templates.len() - 1;
-        let template = &mut self.templates[last];
-        let mut values = Values { left };
-        match word {
-            "front" => template.front.octets = values.octets(alloc)?,
-            "back" => template.back.octets = values.octets(alloc)?,
-            "item" => template
-                .items
-                .push(Piece::new(alloc, values.octets(alloc)?))?,
-            _ => template.newest().steps.push(step_of(word, &mut values)?)?,
+    }
+
+    // What is filled in in its last piece.
+    fn add_step(&mut self, word: &str, values: &mut Values<'_>) {
+        let step = values.step(word);
+        let [.., template] = self.templates.as_mut_slice() else {
+            values.good = false;
+            return;
+        };
+        match template.pieces.as_mut_slice() {
+            [.., piece] => values.good &= piece.steps.push(step).is_ok(),
+            _ => values.good = false,
         }
-        Ok(())
     }
 
     /// The template with this name.
@@ -207,32 +230,6 @@ impl Parts {
                 return Ok(template);
             }
         }
-        Err(Bad::Text("a template is missing"))
-    }
-}
-
-// What a line of a piece fills in.
-fn step_of(word: &str, values: &mut Values<'_>) -> Result<Step, Bad> {
-    let at = values.number()?;
-    match word {
-        "ends" => Ok(Step::Ends {
-            at,
-            size: values.number()?,
-        }),
-        "holds" => Ok(Step::Holds {
-            at,
-            size: values.number()?,
-        }),
-        "kept" => Ok(Step::Kept { at }),
-        "random" => Ok(Step::Random {
-            at,
-            size: values.number()?,
-        }),
-        "digest" => Ok(Step::Digest {
-            at,
-            from: values.number()?,
-            size: values.number()?,
-        }),
-        _ => Err(Bad::Text("a line of parts that isn't known")),
+        Err(Bad("a template is missing"))
     }
 }

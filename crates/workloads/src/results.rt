@@ -1,11 +1,17 @@
 //! What the jobs answer, as one number.
 
-/// How many answers there were, how many of them were yes, and a digest of all.
-#[derive(Debug, Drop)]
+use crate::bad::Bad;
+use std::alloc::Global;
+
+/// How many answers there were, how many of them were yes, and a digest of all; and whether there is none, and why. No
+/// call fails: a step after a call that may fail is dear to prove.
+#[derive(Clone, Copy)]
 pub(crate) struct Results {
-    count: u64,
-    accepted: u64,
-    mixed: u64,
+    pub(crate) alloc: Global,
+    pub(crate) count: u64,
+    pub(crate) accepted: u64,
+    pub(crate) mixed: u64,
+    why: &'static str,
 }
 
 /// An odd number by which what was mixed is multiplied.
@@ -13,32 +19,35 @@ const FACTOR: u64 = 0x9e37_79b9_7f4a_7c15;
 
 impl Results {
     /// Before any answer.
-    pub(crate) fn new() -> Results {
+    pub(crate) fn new(alloc: Global) -> Results {
         Results {
+            alloc,
             count: 0,
             accepted: 0,
             mixed: 0,
+            why: "",
         }
     }
 
-    /// How many answers there were.
-    pub(crate) fn count(&self) -> u64 {
-        self.count
+    /// Notes why there is none, if something isn't good.
+    pub(crate) fn note(&mut self, good: bool, why: &'static str) {
+        if !good {
+            self.why = why;
+        }
     }
 
-    /// How many files were accepted.
-    pub(crate) fn accepted(&self) -> u64 {
-        self.accepted
+    /// All of them, if the job was done; or why there is none.
+    pub(crate) fn end(self, done: Result<(), Bad>) -> Result<Results, Bad> {
+        match done {
+            Err(bad) => Err(bad),
+            Ok(()) if self.why.is_empty() => Ok(self),
+            Ok(()) => Err(Bad(self.why)),
+        }
     }
 
-    /// A file was accepted.
-    pub(crate) fn accept(&mut self) {
-        self.accepted = self.accepted.saturating_add(1);
-    }
-
-    /// Their digest.
-    pub(crate) fn digest(&self) -> u64 {
-        self.mixed
+    /// A file was accepted, or not.
+    pub(crate) fn accept_if(&mut self, accepted: bool) {
+        self.accepted = self.accepted.saturating_add(u64::from(accepted));
     }
 
     // Mixes in a number.

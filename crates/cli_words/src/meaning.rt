@@ -13,7 +13,7 @@ ghost use Rattle.cli_words.specs.Records.{IsEvidenceTaskIn, evidence_command_of}
 ghost use Rattle.cli_words.specs.Meanings.{AsksFor, IsMeaningIn};
 ghost use Rattle.cli_words.specs.Inputs.{evidence_paths, inputs_among, task_paths, IsReadAgain};
 
-use crate::grammar::{Group, command_line, evidence_line, group_named, place_of, stamp_line};
+use crate::grammar::{Group, group_named, line_of, place_of};
 use crate::inputs::{STANDARD_INPUT, is_evidence_read_twice, is_read_again, is_read_twice};
 use crate::several::{each_of, several_in};
 use crate::words::{
@@ -32,7 +32,7 @@ use std::alloc::Global;
 use std::convert::AsStr;
 
 /// What the words of the command line ask for.
-#[derive(Debug, Drop)]
+#[derive(Drop)]
 pub enum Meaning<'a> {
     /// A task.
     Task(Task<'a>),
@@ -291,12 +291,7 @@ pub fn meaning_of<'a, S: AsStr>(alloc: Global, words: &'a [S]) -> Result<Meaning
         _ => "",
     };
     let group = group_named(word);
-    let line = match group {
-        Group::Program => command_line(alloc, word)?,
-        Group::Stamps => stamp_line(alloc)?,
-        Group::Evidence => evidence_line(alloc)?,
-    };
-    meaning_by(alloc, group, line, words)
+    meaning_by(alloc, group, line_of(alloc, group, word)?, words)
 }
 
 /// The same by this grammar, which is that of this group: for the words behind the program's name, or behind the word

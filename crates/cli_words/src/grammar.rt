@@ -3,8 +3,8 @@
 ghost use Rattle.std.specs.Prelude.{◌≡◌};
 ghost use Rattle.cli_words.specs.Groups.{IsNamed, place_of};
 
-use crate::commands::{ALL, EVIDENCE, Named, STAMPS, command};
-use crate::help::{EVIDENCE_LINES, STAMP_LINES, STATUSES};
+use crate::arguments::command;
+use crate::commands::{ALL, EVIDENCE, Named, STAMPS};
 use clap::Command;
 use std::alloc::{AllocError, Global};
 
@@ -14,24 +14,6 @@ const VERSION: &str = "1.0.0 (rattle-kit-13f, logic dac8208d650f15bf)";
 
 /// It asks for the version, whatever stands behind it.
 const VERSION_WORD: &str = "--version";
-
-/// What the program does, at the top of its help.
-const ABOUT: &str =
-    "Makes requests for time-stamps (RFC 3161); shows what is in requests, responses, time-stamps,\n\
-     certificates, CMS SignedData and evidence records (RFC 4998); says whether a content and its signed\n\
-     attributes belong together, whether a response answers a request, by when the signatures of a file\n\
-     existed, and whether two signatures sign the same; prints what a verifier must be asked about a\n\
-     file; judges a time-stamp, or an evidence record, that stands beside files; makes and renews\n\
-     evidence records; attaches time-stamp tokens; and brings trust lists to their newest version.";
-
-/// What the commands about stamps do.
-pub const ABOUT_STAMPS: &str =
-    "Says by when a file existed, by a time-stamp token or response that stands beside it (RFC 3161).";
-
-/// What the commands about evidence records do.
-pub const ABOUT_EVIDENCE: &str =
-    "Says by when files existed, by an evidence record that stands beside them (RFC 4998); and makes and renews such \
-     records.";
 
 /// A group of commands.
 #[derive(Clone, Copy)]
@@ -66,16 +48,14 @@ pub fn place_of(group: Group) -> &'static str
     }
 }
 
-/// What the program takes on its command line, where this word stands behind its name. If that is a command, no other
-/// one is made, and none if it asks for the version: each takes thousands of instructions.
+/// What the program takes on its command line in this group, where this word stands behind its name. If that is a
+/// command, no other one is made, and none if it asks for the version: each takes thousands of instructions.
 #[inline(never)]
-pub fn command_line<'a>(alloc: Global, word: &str) -> Result<Command<'a>, AllocError> {
-    let mut line = program(alloc);
-    if word == VERSION_WORD {
-        return Ok(line);
-    }
-    let is_named = ALL.as_slice().iter().any(|named| named.name() == word);
-    for named in ALL.as_slice() {
+pub fn line_of<'a>(alloc: Global, group: Group, word: &str) -> Result<Command<'a>, AllocError> {
+    let mut line = line_alone(alloc, group)?;
+    let commands = commands_of(group);
+    let is_named = word == VERSION_WORD || commands.iter().any(|named| named.name() == word);
+    for named in commands {
         if !is_named || named.name() == word {
             line = line.subcommand(command(alloc, named)?)?;
         }
@@ -83,61 +63,28 @@ pub fn command_line<'a>(alloc: Global, word: &str) -> Result<Command<'a>, AllocE
     Ok(line)
 }
 
-/// What the program takes behind `stamp`.
-#[inline(never)]
-pub fn stamp_line<'a>(alloc: Global) -> Result<Command<'a>, AllocError> {
-    with_commands(alloc, stamps(alloc)?, STAMPS.as_slice())
-}
-
-/// What the program takes behind `evidence`.
-#[inline(never)]
-pub fn evidence_line<'a>(alloc: Global) -> Result<Command<'a>, AllocError> {
-    with_commands(alloc, records(alloc)?, EVIDENCE.as_slice())
-}
-
-/// The line with these commands.
-fn with_commands<'a>(
-    alloc: Global,
-    mut line: Command<'a>,
-    commands: &'static [Named],
-) -> Result<Command<'a>, AllocError> {
-    for named in commands {
-        line = line.subcommand(command(alloc, named)?)?;
+/// The commands of a group, in the order of the help.
+fn commands_of(group: Group) -> &'static [Named] {
+    match group {
+        Group::Program => ALL.as_slice(),
+        Group::Stamps => STAMPS.as_slice(),
+        Group::Evidence => EVIDENCE.as_slice(),
     }
-    Ok(line)
 }
 
-/// The commands about stamps, with none yet.
+/// The same line, with no command yet.
 #[inline(never)]
-fn stamps<'a>(alloc: Global) -> Result<Command<'a>, AllocError> {
-    let line = Command::new(alloc, "stamp").bin_name("cmsproof stamp")?;
-    Ok(
-        line.about(ABOUT_STAMPS)
-            .after_help(STAMP_LINES)
-            .subcommand_required(true)
-            .arg_required_else_help(true),
-    )
-}
-
-/// The commands about evidence records, with none yet.
-#[inline(never)]
-fn records<'a>(alloc: Global) -> Result<Command<'a>, AllocError> {
-    let line = Command::new(alloc, "evidence").bin_name("cmsproof evidence")?;
-    Ok(
-        line.about(ABOUT_EVIDENCE)
-            .after_help(EVIDENCE_LINES)
-            .subcommand_required(true)
-            .arg_required_else_help(true),
-    )
-}
-
-/// The program, with no command yet.
-#[inline(never)]
-fn program<'a>(alloc: Global) -> Command<'a> {
-    Command::new(alloc, "cmsproof")
-        .version(VERSION)
-        .about(ABOUT)
-        .after_help(STATUSES)
+fn line_alone<'a>(alloc: Global, group: Group) -> Result<Command<'a>, AllocError> {
+    let (named, behind) = match group {
+        Group::Program => (&Named::Program, None),
+        Group::Stamps => (&Named::Stamp, Some("cmsproof stamp")),
+        Group::Evidence => (&Named::Evidence, Some("cmsproof evidence")),
+    };
+    let line = command(alloc, named)?
         .subcommand_required(true)
-        .arg_required_else_help(true)
+        .arg_required_else_help(true);
+    match behind {
+        Some(name) => line.bin_name(name),
+        None => Ok(line.version(VERSION)),
+    }
 }

@@ -5,15 +5,14 @@ ghost use Rattle.clap.specs.Walk.{rows_of};
 ghost use Rattle.clap.specs.declared.parser.matches.Found.{Found};
 ghost use Rattle.clap.specs.Values.{kind_of};
 ghost use Rattle.cli_failures.specs.Causes.{Names};
-ghost use Rattle.cli_words.specs.Words.{asks_for_help, command_of, text_command_of, IsHelp, IsTaskIn, IsTextTaskIn};
-ghost use Rattle.cli_words.specs.Words.{IsWords};
-ghost use Rattle.cli_words.specs.Groups.{evidence_group_of, group_of, text_group_of};
+ghost use Rattle.cli_words.specs.Words.{asks_for_help, text_command_of, IsHelp, IsTextTaskIn, IsWords};
+ghost use Rattle.cli_words.specs.Groups.{evidence_group_of, text_group_of};
 ghost use Rattle.cli_words.specs.Several.{IsManyIn, each_command_of};
 ghost use Rattle.cli_words.specs.Records.{IsEvidenceTaskIn, evidence_command_of};
 ghost use Rattle.cli_words.specs.Meanings.{AsksFor, IsMeaningIn};
 ghost use Rattle.cli_words.specs.Inputs.{evidence_paths, inputs_among, task_paths, IsReadAgain};
 
-use crate::grammar::{Group, command_line, evidence_line, group_named, place_of, stamp_line};
+use crate::grammar::{Group, group_named, line_of, place_of};
 use crate::inputs::{STANDARD_INPUT, is_evidence_read_twice, is_read_again, is_read_twice};
 use crate::several::{each_of, several_in};
 use crate::words::{
@@ -32,7 +31,7 @@ use std::alloc::Global;
 use std::convert::AsStr;
 
 /// What the words of the command line ask for.
-#[derive(Debug, Drop)]
+#[derive(Drop)]
 pub enum Meaning<'a> {
     /// A task.
     Task(Task<'a>),
@@ -58,39 +57,51 @@ fn meaning_in<'a>(
         × (option_map (λ p. p.1) (subcommand_rows_of matches.now) ≡ Some (rows_of given))
         × IsMeaningIn group given meaning) }
 {
-    if let Some(many) = many_in(alloc, group, matches)? {
+    match matches.subcommand() {
+        Some((command, given)) => meaning_of_command(alloc, group, command, given),
+        // The parser demands a command.
+        None => Err(Failure::Usage("command")),
+    }
+}
+
+/// What the words of this command, in this group, ask for.
+fn meaning_of_command<'a>(
+    alloc: Global,
+    group: Group,
+    command: &str,
+    given: &ArgMatches<'a>,
+) -> Result<Meaning<'a>, Failure<'a>>
+    ensures command { IfOk result (AsksFor (Some command.now)) }
+    ensures words { IfOk result (IsMeaningIn group (found_of given.now)) }
+{
+    if let Some(many) = many_in(alloc, group, command, given)? {
         return unambiguous_many(many);
     }
-    match group {
-        Group::Program => match matches.subcommand() {
-            Some(("check", given)) if given.get_str("evidence").is_some() => {
-                unambiguous_evidence(under_in(alloc, given)?)
-            }
-            _ => unambiguous(task_in(matches)?),
-        },
-        Group::Stamps => unambiguous(stamp_task_in(matches)?),
-        Group::Evidence => unambiguous_evidence(evidence_task_in(alloc, matches)?),
+    match (group, command) {
+        (Group::Program, "check") if given.get_str("evidence").is_some() => {
+            unambiguous_evidence(EvidenceTask::CheckUnder(under_words(alloc, given)?))
+        }
+        (Group::Program, "questions") => unambiguous(Task::Questions(questions_words(given)?)),
+        (Group::Program, _) => unambiguous(Task::Text(text_task_in(command, given)?)),
+        (Group::Stamps, _) => unambiguous(Task::Text(stamp_task_in(command, given)?)),
+        (Group::Evidence, _) => unambiguous_evidence(evidence_task_in(alloc, command, given)?),
     }
 }
 
 /// The command that takes several records together.
 const RENEW: &str = "renew";
 
-/// What the words ask of several files, or stamps, or records, each by itself, if they name several, or a list of them.
+/// What the command asks of several files, or stamps, or records, each by itself, if the words name several, or a list
+/// of them.
 fn many_in<'a>(
     alloc: Global,
     group: Group,
-    matches: &ArgMatches<'a>,
+    command: &str,
+    given: &ArgMatches<'a>,
 ) -> Result<Option<Many<'a>>, Failure<'a>>
-    ensures command { IfOk result (λ many. IfSome many (λ m.
-        subcommand_name_of matches.now ≡ Some (each_command_of m.each))) }
-    // The values are those of the arguments that the parser found for this command.
-    ensures words { IfOk result (λ many. IfSome many (λ m. (given : Found)
-        × (option_map (λ p. p.1) (subcommand_rows_of matches.now) ≡ Some (rows_of given)) × IsManyIn group given m)) }
+    ensures command { IfOk result (λ many. IfSome many (λ m. command.now ≡ each_command_of m.each)) }
+    ensures words { IfOk result (λ many. IfSome many (IsManyIn group (found_of given.now))) }
 {
-    let Some((command, given)) = matches.subcommand() else {
-        return Ok(None);
-    };
     if command == RENEW {
         return Ok(None);
     }
@@ -99,31 +110,6 @@ fn many_in<'a>(
     };
     let each = each_of(group, command, given)?;
     Ok(Some(Many { each, files }))
-}
-
-/// The task that the words name.
-fn task_in<'a>(matches: &ArgMatches<'a>) -> Result<Task<'a>, Failure<'a>>
-    ensures command { IfOk result (λ task. subcommand_name_of matches.now ≡ Some (command_of task)) }
-    // The values of the task are those of the arguments that the parser found for this command.
-    ensures words { IfOk result (λ task. (given : Found)
-        × (option_map (λ p. p.1) (subcommand_rows_of matches.now) ≡ Some (rows_of given)) × IsTaskIn given task) }
-    ensures group { IfOk result (λ task. group_of task ≡ Group.Program) }
-{
-    match matches.subcommand() {
-        Some(("questions", given)) => Ok(Task::Questions(questions_words(given)?)),
-        Some((command, given)) => Ok(Task::Text(text_task_in(command, given)?)),
-        // The parser demands a command.
-        None => Err(Failure::Usage("command")),
-    }
-}
-
-/// The task of `check` beside an evidence record.
-fn under_in<'a>(alloc: Global, given: &ArgMatches<'a>) -> Result<EvidenceTask<'a>, Failure<'a>>
-    ensures command { IfOk result (λ task. evidence_command_of task ≡ codes "check") }
-    ensures words { IfOk result (IsEvidenceTaskIn (found_of given.now)) }
-    ensures group { IfOk result (λ task. evidence_group_of task ≡ Group.Program) }
-{
-    Ok(EvidenceTask::CheckUnder(under_words(alloc, given)?))
 }
 
 /// The task of this command, if it is one whose text is made before it is printed.
@@ -147,25 +133,8 @@ fn text_task_in<'a>(command: &str, given: &ArgMatches<'a>) -> Result<TextTask<'a
     }
 }
 
-/// The task that the words name behind `stamp`.
-fn stamp_task_in<'a>(matches: &ArgMatches<'a>) -> Result<Task<'a>, Failure<'a>>
-    ensures command { IfOk result (λ task. subcommand_name_of matches.now ≡ Some (command_of task)) }
-    ensures words { IfOk result (λ task. (given : Found)
-        × (option_map (λ p. p.1) (subcommand_rows_of matches.now) ≡ Some (rows_of given)) × IsTaskIn given task) }
-    ensures group { IfOk result (λ task. group_of task ≡ Group.Stamps) }
-{
-    match matches.subcommand() {
-        Some((command, given)) => Ok(Task::Text(stamp_text_task_in(command, given)?)),
-        // The parser demands a command.
-        None => Err(Failure::Usage("command")),
-    }
-}
-
 /// The task of this command about stamps.
-fn stamp_text_task_in<'a>(
-    command: &str,
-    given: &ArgMatches<'a>,
-) -> Result<TextTask<'a>, Failure<'a>>
+fn stamp_task_in<'a>(command: &str, given: &ArgMatches<'a>) -> Result<TextTask<'a>, Failure<'a>>
     ensures command { IfOk result (λ task. command.now ≡ text_command_of task) }
     ensures words { IfOk result (IsTextTaskIn (found_of given.now)) }
     ensures group { IfOk result (λ task. text_group_of task ≡ Group.Stamps) }
@@ -178,27 +147,8 @@ fn stamp_text_task_in<'a>(
     }
 }
 
-/// The task that the words name behind `evidence`.
-fn evidence_task_in<'a>(
-    alloc: Global,
-    matches: &ArgMatches<'a>,
-) -> Result<EvidenceTask<'a>, Failure<'a>>
-    ensures command { IfOk result (λ task.
-        subcommand_name_of matches.now ≡ Some (evidence_command_of task)) }
-    ensures words { IfOk result (λ task. (given : Found)
-        × (option_map (λ p. p.1) (subcommand_rows_of matches.now) ≡ Some (rows_of given))
-        × IsEvidenceTaskIn given task) }
-    ensures group { IfOk result (λ task. evidence_group_of task ≡ Group.Evidence) }
-{
-    match matches.subcommand() {
-        Some((command, given)) => evidence_command_in(alloc, command, given),
-        // The parser demands a command.
-        None => Err(Failure::Usage("command")),
-    }
-}
-
 /// The task of this command about evidence records.
-fn evidence_command_in<'a>(
+fn evidence_task_in<'a>(
     alloc: Global,
     command: &str,
     given: &ArgMatches<'a>,
@@ -291,12 +241,7 @@ pub fn meaning_of<'a, S: AsStr>(alloc: Global, words: &'a [S]) -> Result<Meaning
         _ => "",
     };
     let group = group_named(word);
-    let line = match group {
-        Group::Program => command_line(alloc, word)?,
-        Group::Stamps => stamp_line(alloc)?,
-        Group::Evidence => evidence_line(alloc)?,
-    };
-    meaning_by(alloc, group, line, words)
+    meaning_by(alloc, group, line_of(alloc, group, word)?, words)
 }
 
 /// The same by this grammar, which is that of this group: for the words behind the program's name, or behind the word

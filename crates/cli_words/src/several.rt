@@ -5,7 +5,7 @@ ghost use Rattle.cli_words.specs.Several.{IsCheckEachIn, IsEachIn, IsFitEachIn, 
 ghost use Rattle.cli_words.specs.Several.{each_command_of};
 ghost use Rattle.cli_words.specs.Groups.{about_group_of, each_group_of};
 
-use crate::grammar::Group;
+use crate::grammar::{Group, place_of};
 use crate::words::{buffer_octets, value};
 use clap::ArgMatches;
 use cli_failures::Failure;
@@ -46,76 +46,13 @@ pub fn each_of<'a>(
     ensures words { IfOk result (IsEachIn (found_of given.now)) }
     ensures group { IfOk result (λ each. each_group_of each ≡ group) }
 {
-    match group {
-        Group::Program => each_in(command, given),
-        Group::Stamps => stamp_each_in(command, given),
-        Group::Evidence => evidence_each_in(command, given),
-    }
-}
-
-/// The same behind the program's name.
-fn each_in<'a>(command: &str, given: &ArgMatches<'a>) -> Result<Each<'a>, Failure<'a>>
-    ensures command { IfOk result (λ each. command.now ≡ each_command_of each) }
-    ensures words { IfOk result (IsEachIn (found_of given.now)) }
-    ensures group { IfOk result (λ each. each_group_of each ≡ Group.Program) }
-{
-    match command {
-        "check" => Ok(Each::Check(check_each(given)?)),
-        "fit" => Ok(Each::Fit(fit_each(given))),
-        "questions" => Ok(Each::Questions(questions_each(given)?)),
+    match (group, command) {
+        (Group::Program, "check") => Ok(Each::Check(check_each(given)?)),
+        (Group::Program, "fit") => Ok(Each::Fit(fit_each(given))),
+        (_, "questions") => Ok(Each::Questions(questions_each(group, given)?)),
         // The parser takes several files for no other command.
-        _ => Err(Failure::Usage("FILE")),
+        _ => Err(Failure::Usage(place_of(group))),
     }
-}
-
-/// The same behind `stamp`.
-fn stamp_each_in<'a>(command: &str, given: &ArgMatches<'a>) -> Result<Each<'a>, Failure<'a>>
-    ensures command { IfOk result (λ each. command.now ≡ each_command_of each) }
-    ensures words { IfOk result (IsEachIn (found_of given.now)) }
-    ensures group { IfOk result (λ each. each_group_of each ≡ Group.Stamps) }
-{
-    match command {
-        "questions" => Ok(Each::Questions(stamps_each(given)?)),
-        // The parser takes several stamps for no other command.
-        _ => Err(Failure::Usage("STAMP")),
-    }
-}
-
-/// The same behind `evidence`.
-fn evidence_each_in<'a>(command: &str, given: &ArgMatches<'a>) -> Result<Each<'a>, Failure<'a>>
-    ensures command { IfOk result (λ each. command.now ≡ each_command_of each) }
-    ensures words { IfOk result (IsEachIn (found_of given.now)) }
-    ensures group { IfOk result (λ each. each_group_of each ≡ Group.Evidence) }
-{
-    match command {
-        "questions" => Ok(Each::Questions(records_each(given)?)),
-        // The parser takes several records for no other command.
-        _ => Err(Failure::Usage("RECORD")),
-    }
-}
-
-/// Who is trusted, whatever the record is whose questions are printed.
-fn records_each<'a>(given: &ArgMatches<'a>) -> Result<QuestionsEach<'a>, Failure<'a>>
-    ensures words { IfOk result (IsQuestionsEachIn (found_of given.now)) }
-    ensures group { IfOk result (λ words. about_group_of words.about ≡ Group.Evidence) }
-{
-    let listed = value(given, "trust")?;
-    Ok(QuestionsEach {
-        trust: listed,
-        about: About::Records,
-    })
-}
-
-/// Who is trusted, whatever the stamp is whose questions are printed.
-fn stamps_each<'a>(given: &ArgMatches<'a>) -> Result<QuestionsEach<'a>, Failure<'a>>
-    ensures words { IfOk result (IsQuestionsEachIn (found_of given.now)) }
-    ensures group { IfOk result (λ words. about_group_of words.about ≡ Group.Stamps) }
-{
-    let listed = value(given, "trust")?;
-    Ok(QuestionsEach {
-        trust: listed,
-        about: About::Stamps,
-    })
 }
 
 /// The lists that each file is checked with, and what is allowed.
@@ -152,12 +89,19 @@ fn fit_each<'a>(given: &ArgMatches<'a>) -> FitEach<'a>
     }
 }
 
-/// Who is trusted, whatever the file is whose questions are printed.
-fn questions_each<'a>(given: &ArgMatches<'a>) -> Result<QuestionsEach<'a>, Failure<'a>>
+/// Who is trusted, whatever the file is whose questions are printed, and what the files of this group hold.
+fn questions_each<'a>(
+    group: Group,
+    given: &ArgMatches<'a>,
+) -> Result<QuestionsEach<'a>, Failure<'a>>
     ensures words { IfOk result (IsQuestionsEachIn (found_of given.now)) }
-    ensures group { IfOk result (λ words. about_group_of words.about ≡ Group.Program) }
+    ensures group { IfOk result (λ words. about_group_of words.about ≡ group) }
 {
     let trust = value(given, "trust")?;
-    let about = About::Signed(buffer_octets(given)?);
+    let about = match group {
+        Group::Program => About::Signed(buffer_octets(given)?),
+        Group::Stamps => About::Stamps,
+        Group::Evidence => About::Records,
+    };
     Ok(QuestionsEach { trust, about })
 }

@@ -16,10 +16,8 @@ pub enum Takes {
     Text(&'static str),
     /// The same, any number of times.
     Texts(&'static str),
-    /// `--name` and a number.
-    Number,
-    /// `--name` and how many octets may be kept.
-    Octets,
+    /// `--name` and a number, at least the first and at most the second.
+    Number(u64, u64),
     /// `--name` and one of the names of `ALGORITHMS`, by default that of SHA-256.
     Algorithm,
     /// The same, without a default.
@@ -41,6 +39,9 @@ pub enum Takes {
     /// `--name` and a value, beside neither of the words of the first names; the last is the value's name in the help.
     TextApart(&'static str, &'static str, &'static str),
 }
+
+/// The most octets that the words may allow to be kept of a file, 2^30. Decision 132 of `docs/DECISIONS.md`.
+pub const MOST_BUFFER: u64 = 1_073_741_824;
 
 /// The names of the algorithms that a request may be for.
 pub static ALGORITHMS: [&str; 7] = [
@@ -84,7 +85,7 @@ const CONTENT: Word = Word {
 /// How many octets may be kept, of `check` and `questions`.
 const BUFFER: Word = Word {
     name: "buffer",
-    takes: Takes::Octets,
+    takes: Takes::Number(1, MOST_BUFFER),
     required: false,
     help: "How many octets of FILE may be kept while it is read, 1 to 1073741824, as --buffer 65536 (by default \
            67108864 of a regular file, and 1048576 of what can be read only once)",
@@ -182,7 +183,7 @@ pub static REQUEST: [Word; 8] = [
     },
     Word {
         name: "signer",
-        takes: Takes::Number,
+        takes: Takes::Number(0, u64::MAX),
         required: false,
         help: "The number of the signer in the FILE of --of, as --signer 2 (by default 1)",
     },
@@ -305,7 +306,7 @@ pub static QUESTIONS: [Word; 5] = [TRUST, BUFFER, FILES_FROM, NULL, FILES];
 pub static ATTACH: [Word; 4] = [
     Word {
         name: "signer",
-        takes: Takes::Number,
+        takes: Takes::Number(0, u64::MAX),
         required: true,
         help: "The number of the signer, as --signer 1 (no default)",
     },
@@ -333,13 +334,13 @@ pub static ATTACH: [Word; 4] = [
 pub static COMPARE: [Word; 4] = [
     Word {
         name: "first",
-        takes: Takes::Number,
+        takes: Takes::Number(0, u64::MAX),
         required: false,
         help: "The number of the signer in A, as --first 2 (by default 1)",
     },
     Word {
         name: "second",
-        takes: Takes::Number,
+        takes: Takes::Number(0, u64::MAX),
         required: false,
         help: "The number of the signer in B, as --second 2 (by default 1)",
     },

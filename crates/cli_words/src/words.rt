@@ -8,6 +8,7 @@ ghost use Rattle.cli_words.specs.Words.{IsShownIn, IsStampIn, IsStampQuestionsIn
 ghost use Rattle.cli_words.specs.Records.{IsEvidenceIn, IsEvidenceQuestionsIn, IsMakeIn, IsRootRequestIn, IsUnderIn};
 ghost use Rattle.cli_words.specs.Records.{all_values};
 
+use crate::vocabulary::MOST_BUFFER;
 use clap::ArgMatches;
 use cli_failures::Failure;
 use cli_tasks::{
@@ -16,9 +17,6 @@ use cli_tasks::{
     StampQuestionsWords, StampWords, Stamped, TextTask, UnderWords,
 };
 use std::alloc::Global;
-
-/// The most octets that the words may allow to be kept of a file, 2^30. Decision 132 of `docs/DECISIONS.md`.
-const MOST_BUFFER: u64 = 1_073_741_824;
 
 /// The value of an argument that the parser demands.
 pub fn value<'a>(given: &ArgMatches<'a>, name: &'static str) -> Result<&'a str, Failure<'a>>

@@ -91,8 +91,8 @@ impl Named {
             Named::Certificate =>
                 "Shows what a checker looks at in the certificate that FILE holds in DER (RFC 5280).",
             Named::Fit =>
-                "Says whether the content and the signed attributes of each signer of the CMS SignedData in FILE belong \
-                together (RFC 5652 5.4, 11).",
+                "Says whether the content and the signed attributes of each signer of the CMS SignedData in FILE \
+                belong together (RFC 5652 5.4, 11).",
             Named::Matching =>
                 "Says whether the response in RESPONSE answers the time-stamp request in REQUEST (RFC 3161 2.4.2), \
                 and writes its token into TOKEN.",
@@ -101,8 +101,8 @@ impl Named {
             Named::Questions =>
                 "Prints what a verifier must be asked of the signatures in the CMS SignedData in FILE.",
             Named::Attach =>
-                "Attaches the time-stamp token in TOKEN to a signer of the CMS SignedData in FILE (RFC 3161 appendix A), \
-                and writes the new file into OUT.",
+                "Attaches the time-stamp token in TOKEN to a signer of the CMS SignedData in FILE (RFC 3161 appendix \
+                A), and writes the new file into OUT.",
             Named::Compare =>
                 "Says whether a signature in the CMS SignedData in A and one in B sign the same (RFC 5652 5.4).",
             Named::Migrate =>
@@ -126,17 +126,17 @@ impl Named {
             Named::EvidenceQuestions =>
                 "Prints what a verifier must be asked of the time-stamps in the evidence record in RECORD.",
             Named::EvidenceRequest =>
-                "Makes a request for a time-stamp of the root of the hash tree over the digests in SUMS (RFC 4998 4.2), \
-                and writes it into OUT.",
+                "Makes a request for a time-stamp of the root of the hash tree over the digests in SUMS (RFC 4998 \
+                4.2), and writes it into OUT.",
             Named::EvidenceMake =>
                 "Makes an evidence record of each file in SUMS, by the time-stamp token in TOKEN (RFC 4998 4.2), and \
                 writes it into FOLDER.",
             Named::EvidenceRenew =>
-                "Makes a request for one time-stamp by which the evidence records in the RECORDs are renewed, or renews \
-                each of them by its token (RFC 4998 5.2).",
+                "Makes a request for one time-stamp by which the evidence records in the RECORDs are renewed, or \
+                renews each of them by its token (RFC 4998 5.2).",
             _ =>
-                "Makes a request for one time-stamp by which the evidence records of the files in SUMS get a new chain, \
-                under another digest algorithm, or gives it to each of them by its token (RFC 4998 5.2).",
+                "Makes a request for one time-stamp by which the evidence records of the files in SUMS get a new \
+                chain, under another digest algorithm, or gives it to each of them by its token (RFC 4998 5.2).",
         }
     }
 

@@ -108,7 +108,7 @@ def state(path, octets):
     if not path.exists():
         return "absent"
     found = path.read_bytes()
-    return "as given" if found == octets else found.hex()
+    return "as given" if found == octets else found.hex() or "-"
 
 
 def run(row, place):

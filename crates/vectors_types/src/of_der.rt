@@ -1,15 +1,9 @@
-//! The judge of the rows of `vectors_run/data/der`: elements, object identifiers, digests and what is shown.
-#![tactic(auto)]
-
-mod elements;
-mod hashing;
-mod names;
-mod told;
-
+//! The judge of the rows in the folder `der`.
+use crate::{elements, hashing, names};
 use vectors::{Bad, Judge, Row, Said};
 
 /// Answers rows about DER, digests and what is shown.
-#[derive(Clone, Copy, Drop)]
+#[derive(Drop)]
 pub struct OfDer;
 
 impl Judge for OfDer {

@@ -15,9 +15,10 @@ use commands::OfCommands;
 use std::env;
 use std::io::{self, BufWriter, Write};
 use vectors::{Bad, Blobs, Judge, Row, judge_file};
+use vectors_der::OfDer;
 use vectors_files::OfFiles;
 use vectors_rules::OfRules;
-use vectors_types::{OfDer, OfTypes};
+use vectors_types::OfTypes;
 
 /// The judge of an area, which is named as its folder.
 #[derive(Drop)]

@@ -3,7 +3,7 @@ ghost use Rattle.std.specs.Prelude.{◌≡◌, ◌≤◌, ◌^◌, length, filte
 ghost use Rattle.std.specs.List.{flat_map};
 ghost use Rattle.der_core.specs.Lists.{is_same};
 
-use cms_types::{Attributes, SignedData, Signer};
+use cms_types::{Attributes, SignedData};
 use der_core::octets::is_same;
 use vectors::{Bad, Row, Said};
 
@@ -25,33 +25,19 @@ fn count_of(attributes: &Attributes, id: &[u8]) -> Option<usize>
 
 /// `values_counted of type`: how many values the signed and the unsigned attributes of a type of the first signer have.
 pub fn values_counted(said: &mut Said, row: &Row<'_>, octets: &[u8]) {
-    match SignedData::read(octets) {
-        Ok(file) => tell_first(said, row, &file),
-        Err(_) => said.refuse(NONE),
-    }
-}
-
-const NONE: Bad = Bad::Text("no such attributes");
-
-fn tell_first(said: &mut Said, row: &Row<'_>, file: &SignedData<'_>) {
-    match file.signers().next() {
-        Some((signer, _)) => tell_counts(said, row, &signer),
-        None => said.refuse(NONE),
-    }
-}
-
-fn tell_counts(said: &mut Said, row: &Row<'_>, signer: &Signer<'_>) {
     let id = said.given(row, "type");
-    tell_count(said, signer.attributes(), id.as_slice());
-    tell_count(said, signer.unsigned_attributes(), id.as_slice());
+    match counts_of(octets, id.as_slice()) {
+        Some((signed, unsigned)) => {
+            said.shown(&signed);
+            said.shown(&unsigned);
+        }
+        None => said.refuse(Bad::Text("no such attributes")),
+    }
 }
 
-fn tell_count(said: &mut Said, attributes: Option<&Attributes<'_>>, id: &[u8]) {
-    match attributes {
-        Some(attributes) => match count_of(attributes, id) {
-            Some(count) => said.shown(&count),
-            None => said.refuse(NONE),
-        },
-        None => said.refuse(NONE),
-    }
+fn counts_of(octets: &[u8], id: &[u8]) -> Option<(usize, usize)> {
+    let file = SignedData::read(octets).ok()?;
+    let (signer, _) = file.signers().next()?;
+    let signed = count_of(signer.attributes()?, id)?;
+    Some((signed, count_of(signer.unsigned_attributes()?, id)?))
 }

@@ -4,7 +4,7 @@ use cms_types::{Attribute, Attributes, Signer, Signers, Tokens};
 use der_core::{AlgorithmIdentifier, Cursor, Fault};
 use der_lists::{AlgorithmIdentifiers, ListIter, ListView, Opaque, Opaques};
 use tsp_types::{Text, Texts};
-use vectors::{Bad, Row, Said, needed};
+use vectors::{Bad, Row, Said};
 
 /// A list of a library.
 pub trait Listed: ListView {
@@ -146,7 +146,8 @@ fn tell_read<L: Listed>(said: &mut Said, name: &str, read: Result<L, Fault>) {
 /// The position of the first octet, `at`.
 pub fn place(said: &mut Said, row: &Row<'_>) -> u32 {
     let at = said.taken(row.number("at"), 0);
-    said.taken(needed(u32::try_from(at), "a position that is too far"), 0)
+    let at = u32::try_from(at).map_err(|_| Bad::Text("a position that is too far"));
+    said.taken(at, 0)
 }
 
 /// `elements of at`, `ordered_elements of at`, `tagged_elements of at tags`, `algorithms of at`, `signers of at` (the

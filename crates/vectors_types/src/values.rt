@@ -3,7 +3,7 @@ use crate::lists::{Listed, place, tell_list, tell_maybe};
 use cert_types::Certificate;
 use cms_types::{CmsFault, SignedData, Signer, SignerId, Signers};
 use der_core::{Bits, Fault, Int, Kind, Oid, ReadFault};
-use der_time::{Moment, generalized_text, read_generalized, read_utc};
+use der_time::{generalized_text, read_generalized, read_utc};
 use devices::FromWrite;
 use digests::{Alg, Digest};
 use ess_types::{CertId, HashAlgorithm, SigningCert};
@@ -141,27 +141,6 @@ fn tell_id(said: &mut Said, id: &CertId<'_>) {
     }
 }
 
-fn tell_policy(said: &mut Said, policy: Option<&Oid<'_>>) {
-    match policy {
-        Some(policy) => said.part("policy", policy.bytes()),
-        None => said.maybe("policy", None),
-    }
-}
-
-fn tell_int(said: &mut Said, name: &str, int: Option<&Int<'_>>) {
-    match int {
-        Some(int) => said.part(name, int.bytes()),
-        None => said.maybe(name, None),
-    }
-}
-
-fn tell_fail(said: &mut Said, fail: Option<&Bits<'_>>) {
-    match fail {
-        Some(fail) => said.part("fail", fail.bytes()),
-        None => said.maybe("fail", None),
-    }
-}
-
 /// `request of`.
 pub fn request(said: &mut Said, octets: &[u8]) {
     let request = read!(said, Request::read(octets));
@@ -173,8 +152,8 @@ pub fn request(said: &mut Said, octets: &[u8]) {
         None => "unknown",
     });
     said.part("imprint", request.imprint());
-    tell_policy(said, request.policy());
-    tell_int(said, "nonce", request.nonce());
+    said.maybe("policy", request.policy().map(Oid::bytes));
+    said.maybe("nonce", request.nonce().map(Int::bytes));
     said.flag("certificate", request.cert_req());
     tell_maybe(said, "extensions", request.extensions());
     let mut out = FromWrite::new(Vec::new(said.alloc));
@@ -185,35 +164,16 @@ pub fn request(said: &mut Said, octets: &[u8]) {
 /// `made`: what is read of it. A policy or nonce that is none counts as absent.
 pub fn make(said: &mut Said, row: &Row<'_>) {
     let octets = said.given(row, "digest");
-    match digest_by(row, octets.as_slice()) {
-        Some(digest) => tell_made(said, row, &digest),
-        None => said.refuse(Bad::Text("no digest")),
-    }
-}
-
-fn tell_made(said: &mut Said, row: &Row<'_>, digest: &Digest) {
+    let Some(digest) = digest_by(row, octets.as_slice()) else {
+        return said.refuse(Bad::Text("no digest"));
+    };
     let policy = said.given_if_any(row, "policy");
+    let policy = Oid::read(policy.as_slice(), 0).ok();
     let nonce = said.given_if_any(row, "nonce");
-    match made_of(said, row, digest, policy.as_slice(), nonce.as_slice()) {
-        Ok(octets) => tell_request(said, row, &octets),
-        Err(fault) => said.shown(&fault),
-    }
-}
-
-fn made_of(
-    said: &mut Said,
-    row: &Row<'_>,
-    digest: &Digest,
-    policy: &[u8],
-    nonce: &[u8],
-) -> Result<Vec<u8>, MakeFault> {
+    let nonce = Int::read(nonce.as_slice(), 0).ok();
     let certificate = said.taken(row.flag("certificate"), false);
-    let policy = Oid::read(policy, 0).ok();
-    let nonce = Int::read(nonce, 0).ok();
-    Request::make(said.alloc, digest, policy, nonce, certificate)
-}
-
-fn tell_request(said: &mut Said, row: &Row<'_>, octets: &Vec<u8>) {
+    let made = Request::make(said.alloc, &digest, policy, nonce, certificate);
+    let octets = read!(said, made);
     match row.kind {
         "make" => said.octets(octets.as_slice()),
         "make_room" => said.shown(&octets.capacity()),
@@ -236,7 +196,7 @@ pub fn stamp(said: &mut Said, octets: &[u8]) {
     tell_time(said, &stamp);
     tell_accuracy(said, stamp.accuracy());
     said.flag("ordering", stamp.ordering());
-    tell_int(said, "nonce", stamp.nonce());
+    said.maybe("nonce", stamp.nonce().map(Int::bytes));
     said.maybe("tsa", stamp.tsa());
     tell_maybe(said, "extensions", stamp.extensions());
     let mut out = FromWrite::new(Vec::new(said.alloc));
@@ -251,9 +211,9 @@ fn tell_time(said: &mut Said, stamp: &TstInfo<'_>) {
 fn tell_accuracy(said: &mut Said, accuracy: Option<&Accuracy<'_>>) {
     match accuracy {
         Some(accuracy) => {
-            tell_int(said, "seconds", accuracy.seconds());
-            tell_int(said, "millis", accuracy.millis());
-            tell_int(said, "micros", accuracy.micros());
+            said.maybe("seconds", accuracy.seconds().map(Int::bytes));
+            said.maybe("millis", accuracy.millis().map(Int::bytes));
+            said.maybe("micros", accuracy.micros().map(Int::bytes));
         }
         None => said.maybe("accuracy", None),
     }
@@ -264,7 +224,7 @@ pub fn response(said: &mut Said, octets: &[u8]) {
     let response = read!(said, Response::read(octets));
     said.part("status", response.status().bytes());
     tell_maybe(said, "texts", response.texts());
-    tell_fail(said, response.fail());
+    said.maybe("fail", response.fail().map(Bits::bytes));
     for n in 0..64usize {
         if response.fails(n) {
             said.value("bit", &n);
@@ -296,16 +256,8 @@ pub fn time(said: &mut Said, row: &Row<'_>, octets: &[u8]) {
 pub fn moments(said: &mut Said, row: &Row<'_>) {
     let long = said.given(row, "long");
     let short = said.given(row, "short");
-    tell_moments(said, long.as_slice(), short.as_slice());
-}
-
-fn tell_moments(said: &mut Said, long: &[u8], short: &[u8]) {
-    let first = read!(said, read_generalized(long, 0));
-    let second = read!(said, read_utc(short, 0));
-    tell_order(said, first, second);
-}
-
-fn tell_order(said: &mut Said, first: Moment, second: Moment) {
+    let first = read!(said, read_generalized(long.as_slice(), 0));
+    let second = read!(said, read_utc(short.as_slice(), 0));
     let same = first;
     said.value("before", &(first < second));
     said.shown(&(second < first));
@@ -320,8 +272,7 @@ fn refusal(said: &mut Said, kind: &str, octets: &[u8]) -> Option<ReadFault> {
     match kind {
         "signed_data" => match SignedData::read(octets).err() {
             Some(CmsFault::Malformed(fault)) => Some(ReadFault::Malformed(fault)),
-            Some(_) => Some(ReadFault::OutOfMemory),
-            None => None,
+            fault => fault.map(|_| ReadFault::OutOfMemory),
         },
         "certificate" => Certificate::read(octets).err(),
         "stamp" => TstInfo::read(octets).err(),

@@ -4,7 +4,7 @@ use crate::told::found;
 use devices::{FromRead, Pieces, Slice, Source};
 use digests::Alg::{self, Sha1, Sha224, Sha256, Sha384, Sha512, Sha512_224, Sha512_256};
 use digests::{Algs, All, ContentFault, Digest, Wanted, digest};
-use vectors::{Bad, Row, Said, number_of};
+use vectors::{Bad, Row, Said};
 use vectors_doubles::Failing;
 
 /// All algorithms, in the order of each table of digests.
@@ -207,26 +207,16 @@ fn feed_cut(both: &mut Both, message: &[u8], at: usize, piece: usize) {
 fn read_as(said: &mut Said, both: &mut Both, from: &str, message: &[u8]) {
     match from {
         "slice" => both.read(said, message, &mut Slice::new(message)),
+        "pieces_of_1" => both.read(said, message, &mut Pieces::new(message, 1)),
+        "pieces_of_7" => both.read(said, message, &mut Pieces::new(message, 7)),
+        "pieces_of_64" => both.read(said, message, &mut Pieces::new(message, 64)),
         "reader" => both.read(said, message, &mut FromRead::new(message)),
-        "failing" => read_failing(said, both, message),
-        _ => read_pieces(said, both, from, message),
-    }
-}
-
-fn read_failing(said: &mut Said, both: &mut Both, message: &[u8]) {
-    let mut failing = Failing::new(Pieces::new(message, 2));
-    both.read(said, message, &mut failing);
-    said.shown(&failing.failed);
-}
-
-/// `pieces_of_NUMBER`.
-fn read_pieces(said: &mut Said, both: &mut Both, from: &str, message: &[u8]) {
-    match from.strip_prefix("pieces_of_") {
-        Some(most) => {
-            let most = said.taken(number_of(most), 1).max(1);
-            both.read(said, message, &mut Pieces::new(message, most));
+        "failing" => {
+            let mut failing = Failing::new(Pieces::new(message, 2));
+            both.read(said, message, &mut failing);
+            said.shown(&failing.failed);
         }
-        None => said.refuse(Bad::Text("a source that is not known")),
+        _ => said.refuse(Bad::Text("a source that is not known")),
     }
 }
 

@@ -1,22 +1,19 @@
 //! Elements: calls of a cursor one after another, contents, what is shown of them, and headers.
 use crate::told::{Told, found};
-use der_core::{Bits, Cursor, Fault, Int, Oid, header, in_order};
+use der_core::{Bits, Cursor, Int, Oid, header, in_order};
 use der_oid_text::oid_text;
 use lines_shown::{show_certificate, show_request, show_signed};
-use vectors::{Bad, Row, Said, needed};
+use vectors::{Bad, Row, Said};
 
 /// `cursor of=OCTETS at=POSITION calls=METHOD,METHOD:IDENTIFIER,again.METHOD,..` answers what each call of `Cursor`
 /// gives.
 pub fn cursor(said: &mut Said, row: &Row<'_>) {
     let octets = said.given(row, "of");
     let base = said.taken(row.number_or("at", 0), 0) as u64;
-    match base.checked_add(octets.len() as u64) {
-        Some(_) => tell_calls(said, row, Cursor::new(octets.as_slice(), base)),
-        None => said.refuse(Bad::Text("a position that is too high")),
+    if base.checked_add(octets.len() as u64).is_none() {
+        return said.refuse(Bad::Text("a position that is too high"));
     }
-}
-
-fn tell_calls(said: &mut Said, row: &Row<'_>, mut cursor: Cursor<'_>) {
+    let mut cursor = Cursor::new(octets.as_slice(), base);
     for call in said.taken(row.text("calls"), "").split(',') {
         said.mark(";");
         match call.strip_prefix("again.") {
@@ -30,17 +27,10 @@ fn called(said: &mut Said, cursor: &mut Cursor<'_>, call: &str, row: &Row<'_>) {
     let (name, value) = call.split_once(':').unwrap_or((call, "-"));
     let value = said.taken(row.made(value), Vec::new(row.alloc));
     match (name, value.as_slice()) {
-        ("version", allowed) => tell_version(said, cursor.version(allowed)),
+        ("version", allowed) => found(said, cursor.version(allowed).map(|version| version as u64)),
         (_, []) => plain(said, cursor, name),
         (_, [tag]) => tagged(said, cursor, name, *tag),
         _ => said.refuse(Bad::Text("a call with an identifier that is not one octet")),
-    }
-}
-
-fn tell_version(said: &mut Said, version: Result<u8, Fault>) {
-    match version {
-        Ok(version) => said.shown(&version),
-        Err(fault) => said.shown(&fault),
     }
 }
 
@@ -53,18 +43,11 @@ fn plain(said: &mut Said, cursor: &mut Cursor<'_>, name: &str) {
         "rest" => said.octets(cursor.rest()),
         "position" => cursor.position().told(said),
         "is_empty" => cursor.is_empty().told(said),
-        "opaque" => found(said, cursor.opaque()),
-        _ => typed(said, cursor, name),
-    }
-}
-
-/// Calls that know which identifier there is.
-fn typed(said: &mut Said, cursor: &mut Cursor<'_>, name: &str) {
-    match name {
         "integer" => found(said, cursor.integer()),
         "oid" => found(said, cursor.oid()),
         "octet_string" => found(said, cursor.octet_string()),
         "flag" => found(said, cursor.flag()),
+        "opaque" => found(said, cursor.opaque()),
         "algorithm" => found(said, cursor.algorithm()),
         "optional_oid" => found(said, cursor.optional_oid()),
         "optional_algorithm" => found(said, cursor.optional_algorithm()),
@@ -81,13 +64,6 @@ fn tagged(said: &mut Said, cursor: &mut Cursor<'_>, name: &str, tag: u8) {
         "has" => cursor.has(tag).told(said),
         "element" => found(said, cursor.element(tag)),
         "bits" => found(said, cursor.bits(tag)),
-        _ => tagged_at_end(said, cursor, name, tag),
-    }
-}
-
-/// Calls for what is optional, or last.
-fn tagged_at_end(said: &mut Said, cursor: &mut Cursor<'_>, name: &str, tag: u8) {
-    match name {
         "optional_integer" => found(said, cursor.optional_integer(tag)),
         "optional_bits" => found(said, cursor.optional_bits(tag)),
         "last_integer" => found(said, cursor.last_integer(tag)),
@@ -148,5 +124,5 @@ pub fn head(said: &mut Said, row: &Row<'_>) {
 
 /// The object identifier with these contents.
 pub fn identifier(octets: &[u8]) -> Result<Oid<'_>, Bad> {
-    needed(Oid::read(octets, 0), "contents of no object identifier")
+    Oid::read(octets, 0).map_err(|_| Bad::Text("contents of no object identifier"))
 }

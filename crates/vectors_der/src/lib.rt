@@ -1,9 +1,15 @@
-//! The judge of the rows in the folder `der`.
-use crate::{elements, hashing, names};
+//! The judge of the rows of `vectors_run/data/der`: elements, object identifiers, digests and what is shown.
+#![tactic(auto)]
+
+mod elements;
+mod hashing;
+mod names;
+mod told;
+
 use vectors::{Bad, Judge, Row, Said};
 
 /// Answers rows about DER, digests and what is shown.
-#[derive(Drop)]
+#[derive(Clone, Copy, Drop)]
 pub struct OfDer;
 
 impl Judge for OfDer {

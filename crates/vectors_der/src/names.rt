@@ -76,10 +76,7 @@ pub fn algorithm(said: &mut Said, row: &Row<'_>) {
 pub fn identified(said: &mut Said, row: &Row<'_>) {
     let oid = said.given(row, "oid");
     let parameters = said.given_if_any(row, "parameters");
-    let given = match row.value("parameters") {
-        Some(_) => Some(parameters.as_slice()),
-        None => None,
-    };
+    let given = row.value("parameters").map(|_| parameters.as_slice());
     match identifier(oid.as_slice()) {
         Ok(oid) => said.word(name_of(Alg::of(&oid, given))),
         Err(bad) => said.refuse(bad),

@@ -373,7 +373,7 @@ class Comparing(Tree):
             '/// Five, it says.\npub fn five<R: Abort>(rt: &R) -> u8\n    ensures { result ≡ 5 }\n{\n    panic!(rt; "never")\n}\n'
         )
         (self.top / "crates.txt").write_text("cmsproof may_abort=1:\ncmsproof_c staticlib:\nworkloads:\n")
-        for name in ("dist.py", "proving.py", "jobs.sh"):
+        for name in ("dist.py", "proving.py", "kept_sums.py", "jobs.sh"):
             shutil.copy(TOOLS / name, self.top / "tools")
         main = "\n\nfn main(rt: HostRuntime) {\n    let _ = five(&rt);\n}\n"
         (self.top / "crates/cmsproof/src/main.rt").write_text(text + main)

@@ -60,6 +60,7 @@ fn option<'a>(arg: Arg<'a>, takes: &'static Takes) -> Result<Arg<'a>, AllocError
                 .default_value("sha256")
                 .value_parser(ALGORITHMS.as_slice()),
         ),
-        _ => Ok(arg.value_name("NAME").value_parser(ALGORITHMS.as_slice())),
+        Takes::NamedAlgorithm | Takes::Place | Takes::Kind | Takes::Several | Takes::Places(_) =>
+            Ok(arg.value_name("NAME").value_parser(ALGORITHMS.as_slice())),
     }
 }

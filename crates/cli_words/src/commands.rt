@@ -109,7 +109,14 @@ impl Named {
                 "Reads the trust list in LIST, of version 1 or 2, and writes it in version 2 into OUT.",
             Named::Stamp => ABOUT_STAMPS,
             Named::Evidence => ABOUT_EVIDENCE,
-            _ => self.about_beside(),
+            Named::StampCheck
+            | Named::StampQuestions
+            | Named::EvidenceCheck
+            | Named::EvidenceQuestions
+            | Named::EvidenceRequest
+            | Named::EvidenceMake
+            | Named::EvidenceRenew
+            | Named::EvidenceRehash => self.about_beside(),
         }
     }
 

@@ -8,7 +8,7 @@ Exit status:
   1  refused: a rule isn't met, or two signatures don't sign the same
   2  malformed: a file isn't well formed; standard output names the fault, and the octet, from 0,
      or of a list the line, from 1
-  3  usage: the command line, or a value on it, is wrong; nothing was read or written
+  3  usage: the command line, or a value on it, is wrong; nothing was written
   4  failed: a file, standard output (`-`) or memory
 
 For one file that is read, `-` names standard input; a file of that name is written ./- instead. A
@@ -383,7 +383,7 @@ Examples:
 pub const EVIDENCE_CHECK_LINES: &str = "\
 RECORD is an evidence record (RFC 4998, DER): chains of archive time-stamps, each of which has lists
 of hash values, and a time-stamp token for their root. Prints `accepted TIME` if each of them holds:
-its hash values cover each DATA, and all that it renews (5.2, 5.3); a trusted authority made its
+its hash values cover each DATA, what it renews, or both (5.2, 5.3); a trusted authority made its
 token for the root of its lists (4.3); and its algorithms and its authority still held at the end of
 its use, which is the time of the next one. TIME is the time of the first one, a GeneralizedTime in
 UTC, as 20240131235959Z: by then each DATA existed.

@@ -7,7 +7,7 @@ program fills in: the checker takes a verifier's word for them. Digests are fill
 
 A file consists of a front, the content, a back and signers (RFC 5652 5.1). A line is a word and its values:
 
-    front|back|item HEX          octets of the template that the last line `template NAME ALG` began
+    front|back|item HEX          octets of the template that the last line `template NAME ALG` began, in this order
     ends AT SIZE                 in the front or back: the length, of SIZE octets, of an element that ends with the file
     holds AT SIZE                in the front: the length of an element that ends with the content
     kept AT                      in the item: the digest of the content by ALG

@@ -85,6 +85,6 @@ impl<'a> Files<'a> {
         let digest = self.digests[place];
         let signers = template.pieces.len().saturating_sub(2);
         make(template, octets, &digest, signers, &mut self.numbers, file);
-        results.note(file.whole, "a file can't be made");
+        results.note(file.whole && signers > 0, "a file can't be made");
     }
 }

@@ -43,6 +43,7 @@ fn run_batch(trust: &Trust, files: &mut Files<'_>, batch: usize, results: &mut R
         results.note(asked.is_ok(), "a file without questions");
         results.note(made.push(file).is_ok(), "no memory");
     }
+    results.note(text.whole, "no memory");
     results.take(text.as_slice());
     check_batch(trust, made.as_slice(), text.as_slice(), results);
 }

@@ -48,7 +48,7 @@ fn with_needed(job: &Job<'_>, mut text: Octets) -> Result<Trust, Bad> {
         text.add(entry.line.as_slice());
     }
     let read = Trust::read(job.alloc, text.as_slice());
-    if text.whole {
+    if text.whole && !job.parts.entries.is_empty() {
         needed(read, "a trust list has a fault")
     } else {
         Err(Bad("a trust list can't be made"))

@@ -29,9 +29,9 @@ impl Results {
         }
     }
 
-    /// Notes why there is none, if something isn't good.
+    /// Notes why there is none, if something isn't good. The first reason stands.
     pub(crate) fn note(&mut self, good: bool, why: &'static str) {
-        if !good {
+        if !good && self.why.is_empty() {
             self.why = why;
         }
     }

@@ -6,7 +6,7 @@
 Comments, white space and proofs don't count, nor whether a line goes on in the next one, further in by four, or a list of
 names in a second `use`: of code (.rt) and definitions (.antt) what is left without comments is compared, of an edit the lines
 that are read. Nor does it count that a module, or a definition that its file names no more, went as a whole, that a type no longer derives
-what prints or compares it, or that the line of crates.txt lost a library that no file of the crate names: what is left is as it was, and
+what prints it, or that the line of crates.txt lost a library that no file of the crate names: what is left is as it was, and
 no proof can cite what is gone. What can't be told apart
 for sure counts as a change. `soak.py` uses this.
 """
@@ -39,9 +39,9 @@ BLOCK_MARK = re.compile(r"/\*|\*/")
 USE = re.compile(r"^((?:pub |unfoldable |ghost )*use [\w.]+\{)([^{}]*)(\};?)$", re.M)
 ROOTS = ("lib.rt", "main.rt", "Lib.antt")
 MODULE = re.compile(r"(?:pub )?mod \w+ ?;|pub use [\w:]+ ?;")  # what a root of code says of a module
-# what a type derives, up to its name, and the traits that only print or compare it
+# what a type derives, up to its name, and the trait that only prints it: edits may compare values
 DERIVED = re.compile(r"#\[derive\(([\w, ]*)\)\]((?: #\[[^\]]*\])* (?:pub(?:\([a-z]+\))? )?(?:struct|enum) \w+)")
-PLAIN_TRAITS = ("Debug", "PartialEq", "Eq", "PartialOrd", "Ord")
+PLAIN_TRAITS = ("Debug",)
 DEFINED = re.compile(r"(?:pub use .*\{|pub mod |(?:abbrev )?(?:pub )?)(\w+)")  # the name that a line of definitions is of
 FURTHER = 4  # how much further in rt fmt sets a line that goes on; what stands in a block is further in by two
 DEFINITION = re.compile(r'"(?:[^"\\]|\\.)*"|(?P<comment>(?<!\S)--(?!\S).*)|(?P<space>\s+)|.')
@@ -264,7 +264,7 @@ def less_code(before, after):
 
 
 def less_derived(before, after):
-    """Whether code differs in nothing but that types derive less of what prints or compares them."""
+    """Whether code differs in nothing but that types derive less of what prints them."""
     left = {item: traits.split(", ") for traits, item in DERIVED.findall(after)}
 
     def fewer(found):

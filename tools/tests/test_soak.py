@@ -192,7 +192,8 @@ class Meanings(unittest.TestCase):
     ]
     LESS_DERIVED = [
         ("#[derive(Clone, Copy, Debug)] pub enum A { B }", "#[derive(Clone, Copy)] pub enum A { B }", True),
-        ("#[derive(Clone, Debug, PartialEq, Eq)] #[b] pub(crate) struct A;", "#[derive(Clone)] #[b] pub(crate) struct A;", True),
+        ("#[derive(Clone, Debug)] #[b] pub(crate) struct A;", "#[derive(Clone)] #[b] pub(crate) struct A;", True),
+        ("#[derive(Clone, PartialEq)] struct A;", "#[derive(Clone)] struct A;", False),
         ("#[derive(Debug, Drop)] struct A;", "#[derive(Drop)] struct A;", True),
         ("#[derive(Debug, Drop)] struct A;", "#[derive(Debug)] struct A;", False),
         ("#[derive(Clone, Copy)] struct A;", "#[derive(Clone)] struct A;", False),

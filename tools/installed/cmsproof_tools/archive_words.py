@@ -31,13 +31,13 @@ The files that are not accepted, whatever their names are:
     cmsproof-archive --trust trust.txt letters/*.p7s | grep -vE ': accepted [0-9.]+Z$'
 
 --state keeps a row for each file. The next run judges what is new, changed, or was judged by another list, policy or version, and has
-no lines for the others. The first word `report` or `evidence` stands for another tool:
+no lines for the others. The first word `report`, `evidence`, `due`, `stamp` or `renew` stands for another tool:
 
     cmsproof-archive --trust trust.txt --state archive.state --files-from names.txt
     cmsproof-archive report archive.state --html archive.html
     cmsproof-archive evidence --trust trust.txt letter.p7s --to letter.zip
 
-A file of such a name is ./report or ./evidence.
+A file of such a name is ./report, for one.
 
 With --known a refusal that the text FILE acknowledges counts no longer for the status. FILE has the code of each and the name of its
 file, as it is printed, as `S10 letter.p7s`, on a line of their own, and lines of comments that begin with #.

@@ -206,8 +206,8 @@ ROWS = (
     Row(
         "5",
         "S5 DigestAlgorithm",
-        "its digest algorithm is SHA-1, as in many old files, without `--sha1`, or an unknown one, as MD5",
-        "`--sha1`, if you allow it: two contents can be made with one SHA-1. MD5 cannot be allowed",
+        "its digest algorithm is SHA-1 without `--sha1`, unknown, as MD5, or with `--evidence` had ended (`--end`)",
+        "`--sha1`, or `--end` with `--evidence`, if you allow it: two contents can have one SHA-1. MD5 cannot be allowed",
     ),
     Row(
         "5",
@@ -270,7 +270,7 @@ ROWS = (
     Row(
         "6",
         "K8 ImprintAlgorithm",
-        "the algorithm of its imprint is unknown, or SHA-1 without `--sha1`",
+        "the algorithm of its imprint is unknown, or not allowed (S5)",
         "stamp again, with another `--alg`; or `--sha1`, if you allow it",
     ),
     Row(
@@ -403,7 +403,7 @@ ROWS = (
     Row(
         "10",
         "X1 ReadFailed",
-        "FILE of `check` was opened and cannot be read, or not again from its front; mostly it is a folder",
+        "FILE of `check`, CONTENT or DATA was opened and cannot be read, or not again; mostly a folder",
         "name a file, on a disk that can be read",
     ),
     Row(
@@ -414,7 +414,7 @@ ROWS = (
         "a greater `--buffer N`, up to 1,073,741,824: twice as many octets, or the length of the file; a "
         "regular file in the place of a pipe; or `cmsproof-archive`, which never says this",
     ),
-    Row("10", "X5 ContentTooLong", "CONTENT has more than 2^40 octets", "none: no option allows more"),
+    Row("10", "X5 ContentTooLong", "CONTENT or DATA exceeds 2^40 octets", "none: no option allows more"),
     # containers
     Row(
         "11",
@@ -642,7 +642,7 @@ ROWS = (
 # rule then has.
 AS_MADE = (
     "get the stamp as the authority made it, its response or the token, in DER; a new stamp of the file, made by "
-    "`cmsproof request FILE`, says a later time"
+    "`cmsproof request --digest`, says a later time"
 )
 RIGHT_ONE = "have an authority that does it right stamp the file, which then has a later time, or get the stamp as the authority made it"
 OF_STAMPS: dict[str, tuple[str, str]] = {
@@ -653,7 +653,7 @@ OF_STAMPS: dict[str, tuple[str, str]] = {
     "K9": (
         "its imprint is not the digest of the file, or of what of it the stamp is over: the file was changed since, or the stamp is that "
         "of another file, or of a signature",
-        "find the file as it was, or its own stamp; a new one, made by `cmsproof request FILE`, says a later time",
+        "find the file as it was, or its own stamp; a new one, made by `cmsproof request --digest`, says a later time",
     ),
     "P1": ("", "`cmsproof show response` says why; ask the authority again"),
 }

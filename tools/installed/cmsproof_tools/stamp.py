@@ -14,7 +14,7 @@ ABOUT = """Has an authority stamp all files under a folder that have no evidence
 
 The digest of each file is computed, the program asked for a request of the root of the tree over them (`cmsproof evidence request`), the
 authority for a time-stamp of that (RFC 3161 3.4), and once its answer is judged the program makes the records (`cmsproof evidence make`):
-that of FOLDER/NAME is RECORDS/NAME.ers. Nobody but you gets a digest of a file.
+that of FOLDER/NAME is RECORDS/NAME.ers. The authority gets only the root over them.
 
 The answer must be to the very request, and by --trust the token must count under an authority of the list now. Without --trust its signature
 must hold, nobody looks whose it is, and a line says so.

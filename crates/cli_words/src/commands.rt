@@ -1,34 +1,20 @@
 //! The commands, by groups: what names each, what its help says, and the words that it takes.
 use crate::help::{
-    ATTACH_LINES, CERTIFICATE_LINES, CHECK_LINES, COMPARE_LINES, EVIDENCE_CHECK_LINES,
-    EVIDENCE_LINES, EVIDENCE_MAKE_LINES, EVIDENCE_QUESTIONS_LINES, EVIDENCE_REHASH_LINES,
-    EVIDENCE_RENEW_LINES, EVIDENCE_REQUEST_LINES, FIT_LINES, MATCH_LINES, MIGRATE_LINES,
-    QUESTIONS_LINES, REQUEST_LINES, SHOW_LINES, STAMP_CHECK_LINES, STAMP_LINES,
-    STAMP_QUESTIONS_LINES, STATUSES,
+    ABOUT, ATTACH_ABOUT, ATTACH_LINES, CERTIFICATE_ABOUT, CERTIFICATE_LINES, CHECK_ABOUT,
+    CHECK_LINES, COMPARE_ABOUT, COMPARE_LINES, EVIDENCE_ABOUT, EVIDENCE_CHECK_ABOUT,
+    EVIDENCE_CHECK_LINES, EVIDENCE_LINES, EVIDENCE_MAKE_ABOUT, EVIDENCE_MAKE_LINES,
+    EVIDENCE_QUESTIONS_ABOUT, EVIDENCE_QUESTIONS_LINES, EVIDENCE_REHASH_ABOUT,
+    EVIDENCE_REHASH_LINES, EVIDENCE_RENEW_ABOUT, EVIDENCE_RENEW_LINES, EVIDENCE_REQUEST_ABOUT,
+    EVIDENCE_REQUEST_LINES, FIT_ABOUT, FIT_LINES, MATCH_ABOUT, MATCH_LINES, MIGRATE_ABOUT,
+    MIGRATE_LINES, QUESTIONS_ABOUT, QUESTIONS_LINES, REQUEST_ABOUT, REQUEST_LINES, SHOW_ABOUT,
+    SHOW_LINES, STAMP_CHECK_ABOUT, STAMP_CHECK_LINES, STAMP_LINES, STAMP_QUESTIONS_ABOUT,
+    STAMP_QUESTIONS_LINES, STAMPS_ABOUT, STATUSES,
 };
 use crate::vocabulary::{
     ATTACH, CERTIFICATE, CHECK, COMPARE, EVIDENCE_CHECK, EVIDENCE_MAKE, EVIDENCE_QUESTIONS,
     EVIDENCE_REHASH, EVIDENCE_RENEW, EVIDENCE_REQUEST, FIT, MATCH, MIGRATE, QUESTIONS, REQUEST,
     SHOW, STAMP_CHECK, STAMP_QUESTIONS, Word,
 };
-
-/// What the program does, at the top of its help.
-const ABOUT: &str =
-    "Makes requests for time-stamps (RFC 3161); shows what is in requests, responses, time-stamps,\n\
-     certificates, CMS SignedData and evidence records (RFC 4998); says whether a content and its signed\n\
-     attributes belong together, whether a response answers a request, by when the signatures of a file\n\
-     existed, and whether two signatures sign the same; prints what a verifier must be asked about a\n\
-     file; judges a time-stamp, or an evidence record, that stands beside files; makes and renews\n\
-     evidence records; attaches time-stamp tokens; and brings trust lists to their newest version.";
-
-/// What the commands about stamps do.
-const ABOUT_STAMPS: &str =
-    "Says by when a file existed, by a time-stamp token or response that stands beside it (RFC 3161).";
-
-/// What the commands about evidence records do.
-const ABOUT_EVIDENCE: &str =
-    "Says by when files existed, by an evidence record that stands beside them (RFC 4998); and makes and renews such \
-     records.";
 
 /// A command, or a group of commands.
 pub enum Named {
@@ -85,65 +71,26 @@ impl Named {
     pub fn about(&self) -> &'static str {
         match self {
             Named::Program => ABOUT,
-            Named::Request =>
-                "Makes a request for a time-stamp of a digest, or of a signature, and writes it into OUT.",
-            Named::Show => "Shows what is in FILE, field by field.",
-            Named::Certificate =>
-                "Shows what a checker looks at in the certificate that FILE holds in DER (RFC 5280).",
-            Named::Fit =>
-                "Says whether the content and the signed attributes of each signer of the CMS SignedData in FILE \
-                belong together (RFC 5652 5.4, 11).",
-            Named::Matching =>
-                "Says whether the response in RESPONSE answers the time-stamp request in REQUEST (RFC 3161 2.4.2), \
-                and writes its token into TOKEN.",
-            Named::Check =>
-                "Says by when each signature of the CMS SignedData in FILE existed, if the file is accepted.",
-            Named::Questions =>
-                "Prints what a verifier must be asked of the signatures in the CMS SignedData in FILE.",
-            Named::Attach =>
-                "Attaches the time-stamp token in TOKEN to a signer of the CMS SignedData in FILE (RFC 3161 appendix \
-                A), and writes the new file into OUT.",
-            Named::Compare =>
-                "Says whether a signature in the CMS SignedData in A and one in B sign the same (RFC 5652 5.4).",
-            Named::Migrate =>
-                "Reads the trust list in LIST, of version 1 or 2, and writes it in version 2 into OUT.",
-            Named::Stamp => ABOUT_STAMPS,
-            Named::Evidence => ABOUT_EVIDENCE,
-            Named::StampCheck
-            | Named::StampQuestions
-            | Named::EvidenceCheck
-            | Named::EvidenceQuestions
-            | Named::EvidenceRequest
-            | Named::EvidenceMake
-            | Named::EvidenceRenew
-            | Named::EvidenceRehash => self.about_beside(),
-        }
-    }
-
-    /// The same of a command about stamps or evidence records.
-    fn about_beside(&self) -> &'static str {
-        match self {
-            Named::StampCheck =>
-                "Says by when the file DATA existed, if the time-stamp token in STAMP is accepted (RFC 3161 2.4.2).",
-            Named::StampQuestions =>
-                "Prints what a verifier must be asked of the time-stamp token in STAMP.",
-            Named::EvidenceCheck =>
-                "Says by when the files DATA existed, if the evidence record in RECORD is accepted for each of them \
-                (RFC 4998 3.3, 5.3).",
-            Named::EvidenceQuestions =>
-                "Prints what a verifier must be asked of the time-stamps in the evidence record in RECORD.",
-            Named::EvidenceRequest =>
-                "Makes a request for a time-stamp of the root of the hash tree over the digests in SUMS (RFC 4998 \
-                4.2), and writes it into OUT.",
-            Named::EvidenceMake =>
-                "Makes an evidence record of each file in SUMS, by the time-stamp token in TOKEN (RFC 4998 4.2), and \
-                writes it into FOLDER.",
-            Named::EvidenceRenew =>
-                "Makes a request for one time-stamp by which the evidence records in the RECORDs are renewed, or \
-                renews each of them by its token (RFC 4998 5.2).",
-            _ =>
-                "Makes a request for one time-stamp by which the evidence records of the files in SUMS get a new \
-                chain, under another digest algorithm, or gives it to each of them by its token (RFC 4998 5.2).",
+            Named::Request => REQUEST_ABOUT,
+            Named::Show => SHOW_ABOUT,
+            Named::Certificate => CERTIFICATE_ABOUT,
+            Named::Fit => FIT_ABOUT,
+            Named::Matching => MATCH_ABOUT,
+            Named::Check => CHECK_ABOUT,
+            Named::Questions => QUESTIONS_ABOUT,
+            Named::Attach => ATTACH_ABOUT,
+            Named::Compare => COMPARE_ABOUT,
+            Named::Migrate => MIGRATE_ABOUT,
+            Named::Stamp => STAMPS_ABOUT,
+            Named::StampCheck => STAMP_CHECK_ABOUT,
+            Named::StampQuestions => STAMP_QUESTIONS_ABOUT,
+            Named::Evidence => EVIDENCE_ABOUT,
+            Named::EvidenceCheck => EVIDENCE_CHECK_ABOUT,
+            Named::EvidenceQuestions => EVIDENCE_QUESTIONS_ABOUT,
+            Named::EvidenceRequest => EVIDENCE_REQUEST_ABOUT,
+            Named::EvidenceMake => EVIDENCE_MAKE_ABOUT,
+            Named::EvidenceRenew => EVIDENCE_RENEW_ABOUT,
+            Named::EvidenceRehash => EVIDENCE_REHASH_ABOUT,
         }
     }
 

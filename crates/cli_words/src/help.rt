@@ -1,4 +1,4 @@
-//! The texts of the help of the program and of its commands after the list of words. No line has more than 100
+//! The texts of the help of the program and of its commands. After the list of words no line has more than 100
 //! characters.
 
 /// The exit statuses, and an example of each command.
@@ -669,3 +669,83 @@ The certificates are not checked.
 
 Example:
   cmsproof migrate trusted.txt trusted-2.txt";
+
+/// What the program does, at the top of its help.
+pub const ABOUT: &str =
+    "Makes requests for time-stamps (RFC 3161); shows what is in requests, responses, time-stamps,\n\
+     certificates, CMS SignedData and evidence records (RFC 4998); says whether a content and its signed\n\
+     attributes belong together, whether a response answers a request, by when the signatures of a file\n\
+     existed, and whether two signatures sign the same; prints what a verifier must be asked about a\n\
+     file; judges a time-stamp, or an evidence record, that stands beside files; makes and renews\n\
+     evidence records; attaches time-stamp tokens; and brings trust lists to their newest version.";
+
+/// What the commands about stamps do.
+pub const STAMPS_ABOUT: &str =
+    "Says by when a file existed, by a time-stamp token or response that stands beside it (RFC 3161).";
+
+/// What the commands about evidence records do.
+pub const EVIDENCE_ABOUT: &str =
+    "Says by when files existed, by an evidence record that stands beside them (RFC 4998); and makes and renews such \
+     records.";
+
+// What each command does, at the top of its help.
+pub const REQUEST_ABOUT: &str =
+    "Makes a request for a time-stamp of a digest, or of a signature, and writes it into OUT.";
+
+pub const SHOW_ABOUT: &str = "Shows what is in FILE, field by field.";
+
+pub const CERTIFICATE_ABOUT: &str =
+    "Shows what a checker looks at in the certificate that FILE holds in DER (RFC 5280).";
+
+pub const FIT_ABOUT: &str =
+    "Says whether the content and the signed attributes of each signer of the CMS SignedData in FILE belong \
+     together (RFC 5652 5.4, 11).";
+
+pub const MATCH_ABOUT: &str =
+    "Says whether the response in RESPONSE answers the time-stamp request in REQUEST (RFC 3161 2.4.2), and \
+     writes its token into TOKEN.";
+
+pub const CHECK_ABOUT: &str =
+    "Says by when each signature of the CMS SignedData in FILE existed, if the file is accepted.";
+
+pub const QUESTIONS_ABOUT: &str =
+    "Prints what a verifier must be asked of the signatures in the CMS SignedData in FILE.";
+
+pub const ATTACH_ABOUT: &str =
+    "Attaches the time-stamp token in TOKEN to a signer of the CMS SignedData in FILE (RFC 3161 appendix A), \
+     and writes the new file into OUT.";
+
+pub const COMPARE_ABOUT: &str =
+    "Says whether a signature in the CMS SignedData in A and one in B sign the same (RFC 5652 5.4).";
+
+pub const MIGRATE_ABOUT: &str =
+    "Reads the trust list in LIST, of version 1 or 2, and writes it in version 2 into OUT.";
+
+pub const STAMP_CHECK_ABOUT: &str =
+    "Says by when the file DATA existed, if the time-stamp token in STAMP is accepted (RFC 3161 2.4.2).";
+
+pub const STAMP_QUESTIONS_ABOUT: &str =
+    "Prints what a verifier must be asked of the time-stamp token in STAMP.";
+
+pub const EVIDENCE_CHECK_ABOUT: &str =
+    "Says by when the files DATA existed, if the evidence record in RECORD is accepted for each of them \
+     (RFC 4998 3.3, 5.3).";
+
+pub const EVIDENCE_QUESTIONS_ABOUT: &str =
+    "Prints what a verifier must be asked of the time-stamps in the evidence record in RECORD.";
+
+pub const EVIDENCE_REQUEST_ABOUT: &str =
+    "Makes a request for a time-stamp of the root of the hash tree over the digests in SUMS (RFC 4998 4.2), \
+     and writes it into OUT.";
+
+pub const EVIDENCE_MAKE_ABOUT: &str =
+    "Makes an evidence record of each file in SUMS, by the time-stamp token in TOKEN (RFC 4998 4.2), and \
+     writes it into FOLDER.";
+
+pub const EVIDENCE_RENEW_ABOUT: &str =
+    "Makes a request for one time-stamp by which the evidence records in the RECORDs are renewed, or renews \
+     each of them by its token (RFC 4998 5.2).";
+
+pub const EVIDENCE_REHASH_ABOUT: &str =
+    "Makes a request for one time-stamp by which the evidence records of the files in SUMS get a new chain, \
+     under another digest algorithm, or gives it to each of them by its token (RFC 4998 5.2).";

@@ -1,5 +1,5 @@
 """Tests of the built program: evidence records that got another time-stamp, or another chain by another algorithm (RFC 4998 5.2), one after
-the other. Bouncy Castle reads them, which has no line of this program."""
+the other. Bouncy Castle reads them, which has no line of this program; and old ones are put back, and one in the place of another."""
 import hashlib
 import os
 import shutil
@@ -30,6 +30,11 @@ def names_of(*batches):
 
 
 ALL = names_of(*BATCHES)
+
+
+def moment(days):
+    """The moment so many days from now."""
+    return time.strftime("%Y%m%d%H%M%SZ", time.gmtime(time.time() + days * 86400))
 
 
 @unittest.skipIf(lacking_tools(), lacking_tools())
@@ -176,6 +181,46 @@ class ByAnotherProgram(Folder):
                 self.assertEqual((second.lists[0], third.lists), ([covered[0]], [[covered[1]]]))
                 self.assertRegex(self.check(path, name), "^accepted [0-9]{14}Z$")
         self.assert_taken((self.rehash("twice", "twice-rehashed", BATCHES), [3, 1]))
+
+
+class PutBack(Folder):
+    """Records in the places of others."""
+
+    def test_old_record(self):
+        """An old record in the place of its renewed one is refused at a moment after the end of its authority's certificate, where the renewed
+        one is accepted; without a moment it is judged by its own time."""
+        after, before, names = moment(DAYS["tsa"] + 1), moment(DAYS["tsa"] - 1), names_of("three")
+        self.renew("made", "renewed", ["three"])
+        self.rehash("made", "rehashed", ["three"])
+        for name in names:
+            made = self.check(f"made/{name}.ers", name)
+            self.assertRegex(made, "^accepted [0-9]{14}Z$")
+            for new in ("renewed", "rehashed"):
+                path = f"{new}/{name}.ers"
+                for words in ((), ("--at", before), ("--at", after)):
+                    self.assertEqual(self.check(path, name, *words), made, (path, words))
+                shutil.copy(self.folder / "made" / f"{name}.ers", self.folder / path)
+                for words in ((), ("--at", before)):
+                    self.assertEqual(self.check(path, name, *words), made, (path, words))
+                self.assertEqual(self.check(path, name, "--at", after), "refused chain 1 stamp 1 W7 Lapsed", path)
+
+    def test_renewed_by_the_first_authority(self):
+        """A time-stamp more of the authority that made the first one carries a record no further, and it is the last one that lapsed."""
+        (path,) = self.renew("made", "renewed", ["one"], "tsa")
+        (name,) = names_of("one")
+        self.assertRegex(self.check(path, name), "^accepted [0-9]{14}Z$")
+        self.assertEqual(self.check(path, name, "--at", moment(DAYS["tsa"] + 1)), "refused chain 1 stamp 2 W7 Lapsed")
+
+    def test_exchanged(self):
+        """The record of a file in the place of another file's covers that one not, however often both were renewed."""
+        batches = ["two", "three"]
+        self.renew("made", "renewed", batches)
+        self.rehash("renewed", "rehashed", batches)
+        names = names_of(*batches)
+        for where in ("made", "renewed", "rehashed"):
+            for one, other in zip(names, names[1:] + names[:1]):
+                said = self.check(f"{where}/{other}.ers", one)
+                self.assertEqual(said, "refused chain 1 stamp 1 W3 NotCovered", (where, one, other))
 
 
 if __name__ == "__main__":

@@ -164,7 +164,7 @@ class ByAnotherProgram(Folder):
         self.renew("made", "renewed", BATCHES)
         self.assert_taken(*some, rehashed, again, (self.rehash("renewed", "renewed-rehashed", BATCHES), [2, 1]))
 
-    @unittest.skipUnless(os.path.realpath(JARS[0]).endswith("-1.72.jar"), "what another Bouncy Castle than 1.72 says is not known")
+    @unittest.skipUnless(os.path.realpath(JARS[0]).endswith("-1.72.jar"), "it is known of Bouncy Castle 1.72 alone")
     def test_renewed_twice(self):
         """It refuses what has three time-stamps in its last chain. The third one must cover the second (RFC 4998 5.2: the time-stamp of the
         old Archive Timestamp), whose digest is all that stands in its first list; Bouncy Castle 1.72 searches that list for the first one

@@ -301,6 +301,10 @@ class Left(WithRecords):
         (self.folder / "records" / "left4.ers").write_bytes(b""), os.truncate(self.folder / "records" / "left4.ers", COPIED + 1)
         both = sequence(element(0xA0, SHA512[2:]), token_of())
         self.put("records/left5.ers", record_with(both, chains_of(GOOD)[0][0]))
+        # an algorithm with parameters that no check knows, of the chain and of its last time-stamp
+        odd = sequence(element(0xA0, SHA256[2:], number(5)), token_of())
+        self.put("records/left6.ers", record_with(odd)), self.put("records/left7.ers", record_with(odd, sequence(token_of())))
+        self.put("records/left8.ers", record_with(sequence(token_of()), odd))
         self.left(
             [
                 "due now records/left1.ers: malformed M6 Tag at 0",
@@ -308,6 +312,9 @@ class Left(WithRecords):
                 f"due now records/left3.ers: malformed M7 Trailing at {len(GOOD)}",
                 f"due now records/left4.ers: it has more than {COPIED} octets",
                 f"due now records/left5.ers: W1 Algorithm, its last time-stamp, of {BEGUN}",
+                f"due now records/left6.ers: U3 NoStamp, its last time-stamp, of {BEGUN}",
+                f"due now records/left7.ers: U3 NoStamp, its last time-stamp, of {BEGUN}",
+                f"due now records/left8.ers: W1 Algorithm, its last time-stamp, of {BEGUN}",
             ],
             status=2,
         )

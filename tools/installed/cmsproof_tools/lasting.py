@@ -48,12 +48,13 @@ class Unjudged(Exception):
 
 class Last(NamedTuple):
     """The last archive time-stamp of a record: its time, the identifiers of the digest algorithms of its lists and of its imprint, its token,
-    and a record that has that token alone, and no lists."""
+    a record that has that token alone, and no lists, and one that has besides the algorithm that this archive time-stamp names."""
 
     time: str
     algorithms: tuple[str, ...]
     token: bytes
     alone: bytes
+    without_lists: bytes
 
     def failing(self, rule: str) -> Unjudged:
         """That it fails a rule, in the words of a check."""
@@ -112,8 +113,11 @@ def last_of(octets: Buffer) -> Last:
     fields = some(octets, begin, end, IN_STAMP)
     token = bytes(octets[fields[-1][1] : fields[-1][3]])
     time, imprint = stated_in(token)
-    alone = sequence(VERSION_1, bytes(octets[parts[1][1] : parts[1][3]]), sequence(sequence(sequence(token))))
-    return Last(time, algorithms_of(octets, fields, imprint), token, alone)
+    identifier, begin, _, end = fields[0]
+    named = bytes(octets[begin:end]) if identifier == CONTEXT_0 else b""
+    of_record = VERSION_1, bytes(octets[parts[1][1] : parts[1][3]])
+    alone, without_lists = (sequence(*of_record, sequence(sequence(sequence(one + token)))) for one in (b"", named))
+    return Last(time, algorithms_of(octets, fields, imprint), token, alone, without_lists)
 
 
 def is_good(question: Question) -> bool:

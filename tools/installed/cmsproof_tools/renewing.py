@@ -21,13 +21,14 @@ from typing import Any, Iterator, NamedTuple, Optional, Sequence
 from urllib.parse import SplitResult
 
 import cmsproof
+from cmsproof.making import Unmade, renewal_algorithm
 from cmsproof.octets import COPIED, Buffer
 from cmsproof_tools import due
 from cmsproof_tools.batches import CHOSEN, DONE_FILE, NEW, POSITIVE, REQUEST, RESPONSE, TERMS, TOKEN, Batch
 from cmsproof_tools.batches import answered, held, last_in, later_of, made, program_of, request_in, run_program
 from cmsproof_tools.batches import served_until, settle, time_of
 from cmsproof_tools.evidenced import ENDING, first_ends, records_in
-from cmsproof_tools.lasting import By, Unjudged, last_and_end
+from cmsproof_tools.lasting import By, Last, Unjudged, last_and_end
 from cmsproof_tools.progress import Progress
 from cmsproof_tools.rows import time_text
 from cmsproof_tools.running import DONE, FAILED, REFUSED, USAGE, Stop
@@ -120,16 +121,28 @@ class Plan(NamedTuple):
 # ---- which records
 
 
+def algorithm_of(last: Last, octets: Buffer) -> str:
+    """The algorithm by which the program renews a record, which is that of the first archive time-stamp of its last chain. Raises Unjudged where
+    it renews it by none, or the last one has another algorithm, by which no check accepts it."""
+    try:
+        of_chain = renewal_algorithm(octets)
+    except Unmade as error:
+        raise last.failing(error.line.removeprefix("refused ")) from error
+    try:
+        is_same = renewal_algorithm(last.without_lists) == of_chain
+    except Unmade:
+        is_same = False
+    if not is_same:
+        raise last.failing("W1 Algorithm")
+    return of_chain
+
+
 def standing_of(by: By, octets: Buffer) -> Standing:
     """What the renewal of a record stands on; of one that is not due only its end. Raises Unjudged where nobody can say it."""
     last, until = last_and_end(octets, by)
     if in_order(by.moment, until):
         return Standing("", "", until)
-    stamps = cmsproof.show("evidence", octets)["stamp"]
-    of_chain = [one["algorithm"] for one in stamps if one["chain"] == stamps[-1]["chain"]]
-    if of_chain[0] != of_chain[-1]:
-        raise last.failing("W1 Algorithm")
-    return Standing(NAMES[of_chain[0]], last.time, until, hashlib.sha256(last.token).digest()[:KEPT])
+    return Standing(algorithm_of(last, octets), last.time, until, hashlib.sha256(last.token).digest()[:KEPT])
 
 
 def not_replaced(path: str, longest: int) -> str:

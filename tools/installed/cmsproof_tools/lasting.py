@@ -143,8 +143,10 @@ class Entry:
             return PURPOSE
         if not self.period.has(last.time):
             return PERIOD
-        code = cmsproof.check(last.token, trust=self.as_signer, verifier=is_good, sha1=True).code
-        return OF_SIGNER.get(code or "", f"K5 {code}")
+        said = cmsproof.check(last.token, trust=self.as_signer, verifier=is_good, sha1=True)
+        # (a token of its own, which anybody can put there, is refused only where none of S1 to S10 fails: docs/LINES.md, `cmsproof check`)
+        is_of_own_token = said.verdict == "refused" and said.token is not None
+        return "" if is_of_own_token else OF_SIGNER.get(said.code or "", f"K5 {said.code}")
 
 
 class By:

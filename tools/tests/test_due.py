@@ -20,8 +20,8 @@ from cmsproof_tools.texts import in_order, trust_entries  # noqa: E402
 from oracle.der import element, number, oid, sequence  # noqa: E402
 from oracle.identifiers import DIGEST_OIDS, TST_INFO  # noqa: E402
 from samples import hierarchy as h  # noqa: E402
-from samples.building import digest_attribute, names_2, octets as string, sha, signed_data, stamp_attribute  # noqa: E402
-from samples.building import type_attribute  # noqa: E402
+from samples.building import attribute, digest_attribute, names_2, octets as string, sha, signed_data  # noqa: E402
+from samples.building import stamp_attribute, type_attribute  # noqa: E402
 from test_archive_records import AGAIN, BEGUN, DATA, FILE, MADE, RENEWED, ROWS, record_of  # noqa: E402
 
 BY, LATER = "20300101000000Z", "20280101000000Z"
@@ -360,6 +360,21 @@ class Held(unittest.TestCase):
             ):
                 record = record_with(sequence(token))
                 self.assertEqual(self.compared(record, FILE, cmsproof.TrustList(entries), {}, moment), expected)
+
+    def test_a_name_of_a_certificate_within_another_attribute(self):
+        """It is none of the token: a check says W4 K11."""
+        trust, named = cmsproof.TrustList(list_of(tsa(MADE.clock))), names_2(sha(MADE.clock.octets))
+        for name in lasting.NAMING:
+            for value in (name, named, string(name), sequence(name, element(0x31))):
+                token = token_of([attribute("2.999.8", value)])
+                self.assertIn(name if value != named else named, token)
+                self.assertEqual(self.compared(record_with(sequence(token)), FILE, trust, {}, BY), (False, "now"))
+                said = cmsproof.evidence.check(record_with(sequence(token)), FILE, trust=trust, at=BY).name
+                self.assertEqual(said, "K11 NotNamed")
+                with self.assertRaisesRegex(lasting.Unjudged, "^W4 K11 NotNamed, "):
+                    lasting.end_of(record_with(sequence(token)), lasting.By(trust, {}, BY))
+                both = record_with(sequence(token_of([attribute("2.999.8", value), named])))
+                self.assertEqual(self.compared(both, FILE, trust, {}, BY), (True, "lasts"))
 
     def test_the_questions_of_other_stamps_do_not_count(self):
         """The last time-stamp has the signature and the attributes of the one before, which holds, and says another time."""

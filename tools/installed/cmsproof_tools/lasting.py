@@ -18,7 +18,7 @@ from cmsproof_tools import der
 from cmsproof_tools.periods import Period
 from cmsproof_tools.rows import digest_of
 from cmsproof_tools.running import MALFORMED, REFUSED, SHORT, kept_if_short, module
-from cmsproof_tools.signed_parts import CONTEXT_0, Span, header, parts_of, some, spans, time_in, tst_fields
+from cmsproof_tools.signed_parts import CONTEXT_0, SET, Span, header, parts_of, some, spans, time_in, tst_fields
 from cmsproof_tools.texts import Question, answers_of, in_order, read_questions, trust_entries
 from cmsproof_tools.timelines import NAMES, earliest
 
@@ -125,6 +125,17 @@ def is_good(question: Question) -> bool:
     return module("verifying").fault_in(question.line) is None
 
 
+def names_certificate(tail: bytes) -> bool:
+    """Whether signed attributes, a SET without its first octet, have one that names a certificate, itself and not in a value of another one."""
+    octets = bytes([SET]) + tail
+    try:
+        ((_, _, begin, end),) = some(octets, 0, len(octets), 1)
+        # (whoever made them can have put in any number)
+        return any(octets.startswith(NAMING, at, stop) for _, _, at, stop in spans(octets, begin, end))
+    except (ValueError, IndexError):
+        return False
+
+
 class Entry:
     """An entry of an authority in a trust list: when it holds, whether its certificate is for time-stamping alone, and itself as a list that
     has it as a signer's, which is made if it is needed."""
@@ -167,7 +178,8 @@ class By:
     def under(self, last: Last, asked: tuple[Question, ...]) -> list[Entry]:
         """The entries under which the last time-stamp passes, of which these questions are asked. Raises Unjudged where there is none."""
         found = [entry for key in dict.fromkeys(one.key for one in asked) for entry in self.entries[key]]
-        faults = [NOT_NAMED if not any(name in asked[0].tail for name in NAMING) else entry.fault(last) for entry in found]
+        is_named = bool(found) and names_certificate(asked[0].tail)
+        faults = [entry.fault(last) if is_named else NOT_NAMED for entry in found]
         if "" not in faults:
             # (of several the one counts that comes furthest, as in a check)
             raise last.failing("W4 " + max(faults, key=lambda one: int(one[1:].split(" ")[0]), default="K10 UnknownTsa"))

@@ -5,6 +5,7 @@ import http.server
 import os
 import random
 import resource
+import shutil
 import signal
 import socket
 import ssl
@@ -37,6 +38,7 @@ digests = sha256, sha384, sha512
 """
 
 
+OTHERWISE = "remove state/1 to have the files without a record stamped by another one"
 ASKED = cmsproof.request(digest=bytes(32), nonce=b"\x01\x02", certificate=True)
 
 
@@ -506,9 +508,24 @@ class Answers(WithAuthority):
         self.assertEqual((status, err), (0, "cmsproof-archive stamp: no --trust: nobody looked whose time-stamp it is\n"))
         # and one that is kept is looked at once there is one
         os.remove(self.folder / "state" / "1" / "done")
+        (self.folder / "records").rename(self.folder / "others")
         status, _, err = self.stamp()
         self.assertEqual(status, 1)
         self.assertIn("; it is kept as state/1/response.tsr: remove that to ask again\n", err)
+        # of records that it has made another one makes none
+        (self.folder / "records").rmdir(), (self.folder / "others").rename(self.folder / "records")
+        os.remove(self.folder / "records" / "b" / "d.ers")
+        status, _, err = self.stamp()
+        self.assertEqual(status, 1)
+        self.assertIn(f"; it is kept as state/1/response.tsr: records by it are there: {OTHERWISE}\n", err)
+        os.remove(self.folder / "state" / "1" / "response.tsr")
+        self.authority.answer = self.authority.usual
+        status, _, err = self.stamp()
+        self.assertEqual((status, err.endswith(f"a.ers; move that away, or {OTHERWISE}\n")), (4, True), err)
+        shutil.rmtree(self.folder / "state" / "1")
+        status, lines, err = self.stamp()
+        self.assertEqual((status, "3 files have a record already" in err), (0, True), err)
+        self.assertRegex(lines[0], "^files: 1 records of ")
 
 
 def other_nonce(request):
@@ -681,7 +698,7 @@ class GoneOn(WithAuthority):
         for _ in range(2):
             status, lines, err = self.stamp()
             self.assertEqual((status, lines), (4, []))
-            self.assertIn(f"cmsproof evidence make: failed replace {place}\n", err)
+            self.assertIn(f"cmsproof evidence make: failed replace {place}; move that away, or {OTHERWISE}\n", err)
             self.assertEqual((self.records(), place.read_bytes()), ([b"b/d.ers"], b"another's"))
         place.unlink()
         self.assertEqual((self.stamp()[0], len(self.authority.asked)), (0, 1))

@@ -327,15 +327,18 @@ def tell_where_apart(tool: str, token: bytes) -> None:
         tell(tool, f"the token of the authority says {said}, and the clock here {time_text(now)}")
 
 
-def answered(tool: str, given: Any, batch: Batch, address: SplitResult, judged: Callable[[bytes], None]) -> str:
-    """Has the token of the batch there, and answers its time. What is kept was judged, and is judged again."""
+def answered(
+    tool: str, given: Any, batch: Batch, address: SplitResult, judged: Callable[[bytes], None], help_of: Callable[[], str] = str
+) -> str:
+    """Has the token of the batch there, and answers its time. What is kept was judged, and is judged again: of one that is refused then `help_of`
+    says what helps, where another one would not."""
     is_kept, request = batch.has(RESPONSE), request_in(batch)
     response = batch.read(RESPONSE) if is_kept else authority.answer_to(request, address, given.timeout)
     try:
         token = token_in(batch, response)
         judged(token)
     except Stop as stop:
-        place = f"; it is kept as {shown(batch.place(RESPONSE))}: remove that to ask again" if is_kept else ""
+        place = f"; it is kept as {shown(batch.place(RESPONSE))}: {help_of() or 'remove that to ask again'}" if is_kept else ""
         raise Stop(stop.status, stop.line + place) from stop
     if not is_kept:
         tell_where_apart(tool, token)

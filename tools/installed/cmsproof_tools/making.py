@@ -186,13 +186,37 @@ def changed_since(tool: str, given: Any, batch: Batch, top: int) -> int:
     return found
 
 
+def help_of(given: Any, batch: Batch) -> str:
+    """What helps where records of a batch are there, in whose places the program puts none by another token, "" where none is."""
+    try:
+        with open(batch.place(SUMS), "rb") as lines:
+            is_there = any(os.path.lexists(os.path.join(given.into, summing.name_in(line) + ENDING)) for line in lines)
+    except OSError:
+        is_there = False
+    return f"records by it are there: {by_another(batch)}" if is_there else ""
+
+
+def by_another(batch: Batch) -> str:
+    """What to do for another token."""
+    return f"remove {shown(batch.path)} to have the files without a record stamped by another one"
+
+
+def make(given: Any, batch: Batch) -> None:
+    """Has the program make the records."""
+    try:
+        run_program(given, batch, "make", "--alg", given.alg, "--token", TOKEN, "--into", os.path.abspath(given.into), SUMS)
+    except Stop as stop:
+        is_there = stop.line.startswith("cmsproof evidence make: failed replace ")
+        raise Stop(stop.status, stop.line + (f"; move that away, or {by_another(batch)}" if is_there else "")) from stop
+
+
 def finish(tool: str, given: Any, batch: Batch, top: int, address: SplitResult, trust: Any) -> int:
     """Goes on from the digests to the records, and answers the exit status."""
     check_writable(given.into)
     if not batch.has(REQUEST):
         ask(given, batch)
-    moment = answered(tool, given, batch, address, partial(judge, tool, given, trust))
-    run_program(given, batch, "make", "--alg", given.alg, "--token", TOKEN, "--into", os.path.abspath(given.into), SUMS)
+    moment = answered(tool, given, batch, address, partial(judge, tool, given, trust), partial(help_of, given, batch))
+    make(given, batch)
     with open(batch.place(SUMS), "rb") as lines:
         count = sum(1 for _ in lines)
     changed = changed_since(tool, given, batch, top)

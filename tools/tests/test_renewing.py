@@ -622,7 +622,7 @@ class GoneOn(WithRecords):
         shutil.copytree(self.folder / "records", self.folder / "kept")
         for place, size in (("state", 8), ("state", 16), ("records", 200)):
             (self.folder / place).mkdir(exist_ok=True)
-            words = ["mount", "-t", "tmpfs", "-o", f"size={size}k", "none", self.folder / place]
+            words = ["mount", "-t", "tmpfs", "-o", f"size={size}k,mode=755", "none", self.folder / place]
             if subprocess.run(words, capture_output=True, check=False).returncode:
                 self.skipTest("no disk can be mounted")
             try:

@@ -729,7 +729,7 @@ class GoneOn(WithAuthority):
         for place, sizes in (("state", (12, 16, 24)), ("records", (16, 64, 100))):
             for size in sizes:
                 (self.folder / place).mkdir(exist_ok=True)
-                words = ["mount", "-t", "tmpfs", "-o", f"size={size}k", "none", self.folder / place]
+                words = ["mount", "-t", "tmpfs", "-o", f"size={size}k,mode=755", "none", self.folder / place]
                 if subprocess.run(words, capture_output=True, check=False).returncode:
                     self.skipTest("no disk can be mounted")
                 try:
@@ -782,10 +782,29 @@ class GoneOn(WithAuthority):
         self.assertEqual((status, err), (0, ""))
         self.assert_records(4)
 
+    def test_a_state_that_others_may_write(self):
+        """They could put digests there that nobody computed. One that the tool makes is for its user alone."""
+        old = os.umask(0)
+        self.addCleanup(os.umask, old)
+        self.authority_away()
+        asked = len(self.authority.asked)
+        for name in ("state", "state/1"):
+            path = self.folder / name
+            self.assertEqual(path.stat().st_mode & 0o7777, 0o700, name)
+            for mode in (0o720, 0o702, 0o770, 0o1777):
+                path.chmod(mode)
+                status, lines, err = self.stamp()
+                self.assertEqual((status, lines, len(self.authority.asked)), (4, [], asked), (name, mode, err))
+                self.assertIn(f"failed state {name}: others may write it, ", err)
+            path.chmod(0o755)
+        self.authority.answer = self.authority.usual
+        self.assertEqual(self.stamp()[0], 0)
+        self.assert_records(4)
+
     def test_a_file_that_cannot_be_read(self):
         who = as_nobody()
-        (self.folder / "records").mkdir(), (self.folder / "state").mkdir()
-        for path in ("records", "state", "."):
+        (self.folder / "records").mkdir()
+        for path in ("records", "."):
             os.chmod(self.folder / path, 0o777)
         os.chmod(self.folder / "files" / "a", 0)
         status, _, err = self.stamp(**who)

@@ -36,6 +36,8 @@ from cmsproof_tools.workers import LIBRARY, PR_SET_PDEATHSIG
 REQUEST, RESPONSE, TOKEN, DONE_FILE, TERMS = "request.tsq", "response.tsr", "token.tok", "done", "terms.json"
 NEW = ".new"
 READING = os.O_RDONLY | os.O_NOFOLLOW | os.O_CLOEXEC
+# whom folders are for, and who has no right to write in those of a state: the group and others
+ANYBODYS, OWN, OTHERS = 0o777, 0o700, 0o022
 # how many seconds two clocks may be apart without a word
 APART = 300
 # an AlgorithmIdentifier, which each record has one of at least
@@ -114,10 +116,10 @@ def sync(folder: str) -> None:
             os.close(descriptor)
 
 
-def made(folder: str) -> None:
-    """Makes a folder, if it is not there. Raises Stop, with a line, where that fails."""
+def made(folder: str, mode: int = ANYBODYS) -> None:
+    """Makes a folder, if it is not there, by default one for all whom the mask of this process lets. Raises Stop, with a line, where that fails."""
     try:
-        os.makedirs(folder, exist_ok=True)
+        os.makedirs(folder, mode, exist_ok=True)
     except OSError as error:
         raise Stop(FAILED, f"failed write {shown(folder)}: {error.strerror}") from error
 
@@ -131,6 +133,15 @@ def closing_descriptor(descriptor: int) -> Iterator[None]:
         os.close(descriptor)
 
 
+def check_own(path: str, found: os.stat_result) -> None:
+    """Ends the tool where others may write a folder of a state: what they put there, as digests, would be stamped."""
+    if found.st_uid not in (os.geteuid(), 0):
+        raise Stop(FAILED, f"failed state {shown(path)}: it is another user's, who can put anything into it")
+    if found.st_mode & OTHERS:
+        reason = "others may write it, and put anything into it: look what is in it, then take that right away by chmod go-w"
+        raise Stop(FAILED, f"failed state {shown(path)}: {reason}")
+
+
 @contextmanager
 def held(state: str) -> Iterator[None]:
     """A block in which no other run has the state."""
@@ -139,8 +150,7 @@ def held(state: str) -> Iterator[None]:
     except OSError as error:
         raise Stop(FAILED, f"failed open {shown(state)}: {error.strerror}") from error
     with closing_descriptor(descriptor):
-        if os.fstat(descriptor).st_uid not in (os.geteuid(), 0):
-            raise Stop(FAILED, f"failed state {shown(state)}: it is another user's, who can put anything into it")
+        check_own(state, os.fstat(descriptor))
         try:
             fcntl.flock(descriptor, fcntl.LOCK_EX | fcntl.LOCK_NB)
         except OSError as error:
@@ -181,9 +191,11 @@ def last_in(state: str, terms: dict[str, str], key: str) -> Batch:
     last = Batch(os.path.join(state, str(numbers[-1] if numbers else 1)), terms)
     if last.has(DONE_FILE):
         last = Batch(os.path.join(state, str(numbers[-1] + 1)), terms)
-    made(last.path)
-    if not stat.S_ISDIR(os.lstat(last.path).st_mode):
+    made(last.path, OWN)
+    found = os.lstat(last.path)
+    if not stat.S_ISDIR(found.st_mode):
         raise Stop(FAILED, f"failed state {shown(last.path)}: it is a link")
+    check_own(last.path, found)
     sync(state)
     if last.has(TERMS) and key not in last.begun_with():
         raise Stop(USAGE, f"{shown(last.path)} is a batch of another command: name another --state")

@@ -13,7 +13,7 @@ from typing import Any, Iterator, Optional, Sequence
 from urllib.parse import SplitResult
 
 from cmsproof_tools import summing
-from cmsproof_tools.batches import CHOSEN, DONE_FILE, NEW, POSITIVE, REQUEST, TERMS, TOKEN, Batch
+from cmsproof_tools.batches import CHOSEN, DONE_FILE, NEW, OWN, POSITIVE, REQUEST, TERMS, TOKEN, Batch
 from cmsproof_tools.batches import answered, check_writable, held, judge, last_in, made, program_of, put_in_place
 from cmsproof_tools.batches import run_program, settle, sync
 from cmsproof_tools.evidenced import ENDING, NOTHING, records_in
@@ -230,8 +230,7 @@ def run(tool: str, given: Any, address: SplitResult) -> int:
     """Has the files of an archive stamped, and answers the exit status."""
     trust = None if given.trust is None else module("archive").trust_list(given.trust, False)
     program_of(given)
-    for folder in (given.state, given.into):
-        made(folder)
+    made(given.state, OWN), made(given.into)
     with ExitStack() as stack:
         stack.enter_context(held(given.state))
         try:

@@ -24,7 +24,7 @@ import cmsproof
 from cmsproof.making import Unmade, renewal_algorithm
 from cmsproof.octets import COPIED, Buffer
 from cmsproof_tools import due
-from cmsproof_tools.batches import CHOSEN, DONE_FILE, NEW, POSITIVE, REQUEST, RESPONSE, TERMS, TOKEN, Batch
+from cmsproof_tools.batches import CHOSEN, DONE_FILE, NEW, OWN, POSITIVE, REQUEST, RESPONSE, TERMS, TOKEN, Batch
 from cmsproof_tools.batches import answered, held, last_in, later_of, made, program_of, request_in, run_program
 from cmsproof_tools.batches import served_until, settle, time_of
 from cmsproof_tools.evidenced import ENDING, first_ends, records_in
@@ -456,7 +456,7 @@ def run(tool: str, given: Any, address: SplitResult) -> int:
     trust = module("archive").trust_list(given.trust, False)
     program_of(given)
     check_policy(given)
-    made(given.state)
+    made(given.state, OWN)
     with held(given.state):
         batch = begun(tool, given)
         renewed = 0 if batch is None else finish(tool, given, batch, address, trust)

@@ -107,6 +107,14 @@ class WithRecords(WithAuthority):
         status, out, err = run_tool("cmsproof-archive", *self.words(*words, **how), cwd=self.folder, env=env, **rest)
         return status, out.decode().splitlines(), err
 
+    def changed_run(self, code, *words):
+        """What is said by the tool with a part of it changed by this code."""
+        text = f"import sys\nsys.path[:0] = [{str(MODULES)!r}]\nfrom cmsproof_tools import renewing, running\n{code}\n"
+        (self.folder / "changed.py").write_text(text + "running.start('archive')\n")
+        words = [sys.executable, self.folder / "changed.py", *map(str, self.words(*words))]
+        done = subprocess.run(words, cwd=self.folder, capture_output=True, check=False, text=True)
+        return done.returncode, done.stdout.splitlines(), done.stderr
+
     def record(self, name):
         """The octets of a record."""
         return (self.folder / "records" / f"{name}.ers").read_bytes()
@@ -195,14 +203,6 @@ class Renewed(WithRecords):
         self.assertIn("batch 2 of 2: 2 records by sha512\n", err)
         self.assertIn(f"6 records: 6 due by {BY}: 6 renewed\n", err)
         self.assert_renewed("a", "b/c.tif", "b/d"), self.assert_renewed("x", "y", old=by_other)
-
-    def changed_run(self, code, *words):
-        """What is said by the tool with a part of it changed by this code."""
-        text = f"import sys\nsys.path[:0] = [{str(MODULES)!r}]\nfrom cmsproof_tools import renewing, running\n{code}\n"
-        (self.folder / "changed.py").write_text(text + "running.start('archive')\n")
-        words = [sys.executable, self.folder / "changed.py", *map(str, self.words(*words))]
-        done = subprocess.run(words, cwd=self.folder, capture_output=True, check=False, text=True)
-        return done.returncode, done.stdout.splitlines(), done.stderr
 
     def test_more_records_than_a_command_can_name(self):
         """There are several commands then, and one time-stamp for all, as long as the different last time-stamps are few."""
@@ -613,6 +613,28 @@ class GoneOn(WithRecords):
             self.assertFalse((self.folder / "state" / "1" / "done").exists())
             self.assert_as_before("a", "b/c.tif", "b/d")
         self.assertEqual(self.renew()[0], 0)
+        self.assert_renewed("a", "b/c.tif", "b/d"), self.assert_renewed("e", old=OTHER)
+
+    def test_a_token_that_there_is_no_room_for(self):
+        """No record is renewed where not each has room for it, and it is used once there is."""
+        with_free = lambda free: self.changed_run(  # noqa: E731
+            f"from cmsproof_tools import batches\nbatches.free_in = lambda _: {free}"
+        )
+        self.assertEqual(with_free(0)[:2], (4, []))
+        size = (self.folder / "state" / "1" / "token.tok").stat().st_size
+        status, lines, err = with_free(4 * size - 1)
+        self.assertEqual((status, lines, len(self.authority.asked)), (4, [], 1), err)
+        free = f"4 records by a token of {size} octets need {4 * size} octets, and {4 * size - 1} are free"
+        where = os.path.realpath(self.folder / "records")
+        self.assertIn(f"failed write {where}: {free}; state/1 has its token: run this again, ", err)
+        self.assert_as_before("a", "b/c.tif", "b/d"), self.assert_as_before("e", old=OTHER)
+        self.assertEqual((with_free(4 * size)[0], len(self.authority.asked)), (0, 1))
+        self.assert_renewed("a", "b/c.tif", "b/d"), self.assert_renewed("e", old=OTHER)
+        # what has it already needs none
+        os.remove(self.folder / "state" / "1" / "done"), self.put("records/a.ers", GOOD)
+        status, lines, err = with_free(size - 1)
+        self.assertEqual((status, f": 1 records by a token of {size} octets need " in err), (4, True), err)
+        self.assertEqual((with_free(size)[0], len(self.authority.asked)), (0, 1))
         self.assert_renewed("a", "b/c.tif", "b/d"), self.assert_renewed("e", old=OTHER)
 
     @unittest.skipUnless(os.geteuid() == 0, "only root can mount a small disk")

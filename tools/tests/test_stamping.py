@@ -722,11 +722,40 @@ class GoneOn(WithAuthority):
         self.assertEqual(self.stamp()[0], 0)
         self.assert_records(44)
 
+    def with_free(self, free):
+        """The status, the lines, and what else is said by a run where so many octets are free."""
+        text = f"import sys\nsys.path[:0] = [{str(MODULES)!r}]\nfrom cmsproof_tools import batches, running\n"
+        self.put("changed.py", (text + f"batches.free_in = lambda _: {free}\nrunning.start('archive')\n").encode())
+        words = [sys.executable, self.folder / "changed.py", *map(str, self.words())]
+        done = subprocess.run(words, cwd=self.folder, capture_output=True, check=False, text=True)
+        return done.returncode, done.stdout.splitlines(), done.stderr
+
+    def test_a_token_that_there_is_no_room_for(self):
+        """No record is made where that of each file has none, and a token that is kept is used once there is."""
+        self.assertEqual(self.with_free(0)[:2], (4, []))
+        size = (self.folder / "state" / "1" / "token.tok").stat().st_size
+        status, lines, err = self.with_free(4 * size - 1)
+        self.assertEqual((status, lines, self.records(), len(self.authority.asked)), (4, [], [], 1), err)
+        free = f"4 records by a token of {size} octets need {4 * size} octets, and {4 * size - 1} are free"
+        kept = "it is kept as state/1/response.tsr: remove that to ask again"
+        self.assertEqual(err, f"cmsproof-archive: failed write records: {free}; {kept}\n")
+        self.assertEqual((self.with_free(4 * size)[0], len(self.authority.asked)), (0, 1))
+        self.assert_records(4)
+        # what is there needs none
+        os.remove(self.folder / "state" / "1" / "done"), os.remove(self.folder / "records" / "b" / "d.ers")
+        status, _, err = self.with_free(size - 1)
+        self.assertEqual((status, f"failed write records: 1 records by a token of {size} octets" in err), (4, True), err)
+        self.assertIn(f"records by it are there: {OTHERWISE}\n", err)
+        self.assertEqual(self.with_free(size)[0], 0)
+        os.remove(self.folder / "state" / "1" / "done"), os.remove(self.folder / "records" / "a.ers")
+        self.assertEqual((self.with_free(None)[0], len(self.authority.asked)), (0, 1))
+        self.assert_records(4)
+
     @unittest.skipUnless(os.geteuid() == 0, "only root can mount a small disk")
     def test_a_full_disk(self):
         for number in range(60):
             self.put(f"files/many/{number:03}", str(number).encode())
-        for place, sizes in (("state", (12, 16, 24)), ("records", (16, 64, 100))):
+        for place, sizes in (("state", (12, 16, 24)), ("records", (16, 64, 100, 200))):
             for size in sizes:
                 (self.folder / place).mkdir(exist_ok=True)
                 words = ["mount", "-t", "tmpfs", "-o", f"size={size}k,mode=755", "none", self.folder / place]

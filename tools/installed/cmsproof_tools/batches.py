@@ -19,7 +19,7 @@ import subprocess
 import sys
 import time
 from contextlib import contextmanager, suppress
-from typing import Any, Callable, Iterator, NamedTuple
+from typing import Any, Callable, Iterator, NamedTuple, Optional
 from urllib.parse import SplitResult
 
 import cmsproof
@@ -163,6 +163,25 @@ def check_writable(folder: str) -> None:
     """Ends the tool where no record can be put into a folder, before a time-stamp is asked for."""
     if not os.access(folder, os.W_OK | os.X_OK):
         raise Stop(FAILED, f"failed write {shown(folder)}: no record can be put there")
+
+
+def free_in(folder: str) -> Optional[int]:
+    """How many octets are free in the file system of a folder, None where it does not say that."""
+    try:
+        found = os.statvfs(folder)
+    except OSError:
+        return None
+    return found.f_bavail * found.f_frsize if found.f_blocks else None
+
+
+def check_room(batch: Batch, folder: str, count: int, without: Callable[[], int]) -> None:
+    """Ends the tool, before any is written, where so many records, of which `without` counts those that have not the token of the batch yet,
+    have no room for it in a folder: whoever is on the line can make a token as long as an answer may be."""
+    size, free = len(batch.read(TOKEN)), free_in(folder)
+    if free is None or count * size <= free or (lacking := without()) * size <= free:
+        return
+    needed = f"{lacking} records by a token of {size} octets need {lacking * size} octets, and {free} are free"
+    raise Stop(FAILED, f"failed write {shown(folder)}: {needed}")
 
 
 def settle(folder: str) -> None:
@@ -339,6 +358,11 @@ def tell_where_apart(tool: str, token: bytes) -> None:
         tell(tool, f"the token of the authority says {said}, and the clock here {time_text(now)}")
 
 
+def kept_as(batch: Batch, helps: str) -> str:
+    """Where an answer is kept, and what helps: by default that another one is asked for."""
+    return f"; it is kept as {shown(batch.place(RESPONSE))}: {helps or 'remove that to ask again'}"
+
+
 def answered(
     tool: str, given: Any, batch: Batch, address: SplitResult, judged: Callable[[bytes], None], help_of: Callable[[], str] = str
 ) -> str:
@@ -350,8 +374,7 @@ def answered(
         token = token_in(batch, response)
         judged(token)
     except Stop as stop:
-        place = f"; it is kept as {shown(batch.place(RESPONSE))}: {help_of() or 'remove that to ask again'}" if is_kept else ""
-        raise Stop(stop.status, stop.line + place) from stop
+        raise Stop(stop.status, stop.line + (kept_as(batch, help_of()) if is_kept else "")) from stop
     if not is_kept:
         tell_where_apart(tool, token)
         batch.put(RESPONSE, response)

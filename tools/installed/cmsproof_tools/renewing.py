@@ -24,9 +24,9 @@ import cmsproof
 from cmsproof.making import Unmade, renewal_algorithm
 from cmsproof.octets import COPIED, Buffer
 from cmsproof_tools import due
-from cmsproof_tools.batches import CHOSEN, DONE_FILE, NEW, OWN, POSITIVE, REQUEST, RESPONSE, TERMS, TOKEN, Batch
-from cmsproof_tools.batches import answered, held, last_in, later_of, made, program_of, request_in, run_program
-from cmsproof_tools.batches import served_until, settle, time_of
+from cmsproof_tools.batches import CHOSEN, DONE_FILE, NEW, OWN, POSITIVE, READING, REQUEST, RESPONSE, TERMS, TOKEN, Batch
+from cmsproof_tools.batches import answered, check_room, closing_descriptor, held, last_in, later_of, made, program_of
+from cmsproof_tools.batches import request_in, run_program, served_until, settle, time_of
 from cmsproof_tools.evidenced import ENDING, first_ends, records_in
 from cmsproof_tools.lasting import By, Last, Unjudged, last_and_end
 from cmsproof_tools.progress import Progress
@@ -44,6 +44,8 @@ RECORDS, ROOT = "records", "root.tsq"
 STACK, MOST, LEAST, BESIDE_WORD, LEFT = 32 << 20, 6 << 20, 128 << 10, 9, 16 << 10
 # how many octets of a digest tell the octets of time-stamps apart
 KEPT = 16
+# how many octets at the end of a record tell whether it has a token already
+ENDS = 64
 TOLD = "the token of the authority: "
 
 
@@ -417,10 +419,27 @@ def judge(given: Any, batch: Batch, trust: Any, token: bytes) -> None:
         raise Stop(REFUSED, f"{TOLD}it is of {said}, and the time-stamp of a record served until {until} alone")
 
 
+def ending_of(path: str) -> bytes:
+    """The last octets of a file, none where they cannot be read."""
+    try:
+        descriptor = os.open(path, READING | os.O_NONBLOCK)
+        with closing_descriptor(descriptor):
+            return os.pread(descriptor, ENDS, max(0, os.fstat(descriptor).st_size - ENDS))
+    except OSError:
+        return b""
+
+
+def without_token(batch: Batch) -> int:
+    """How many records of a batch do not end in its token, as those do that are renewed by it."""
+    last = batch.read(TOKEN)[-ENDS:]
+    return sum(ending_of(path) != last for path in paths_of(batch))
+
+
 def finish(tool: str, given: Any, batch: Batch, address: SplitResult, trust: Any) -> int:
     """Goes on from the request of a batch to its records, and answers how many they are."""
     moment = answered(tool, given, batch, address, partial(judge, given, batch, trust))
     try:
+        check_room(batch, batch.terms["records"], len(names_in(batch)), partial(without_token, batch))
         for part in parts_of(batch):
             renew(given, batch, part, "--token", TOKEN)
     except Stop as stop:

@@ -320,6 +320,23 @@ class Left(WithRecords):
         )
         self.assert_renewed("a", "b/c.tif", "b/d")
 
+    def test_what_the_program_refuses_all_the_same(self):
+        """It is named, and the records of other algorithms are renewed."""
+        odd, by_other = record_with(sequence(element(0xA0, SHA256[2:], number(5)), token_of())), by_sha512(FILE)
+        self.put("files/x", FILE), self.put("records/x.ers", by_other), self.put("records/c.ers", odd)
+        code = "renewing.algorithm_of = lambda last, _: renewing.NAMES[last.algorithms[0]]"
+        status, lines, err = self.changed_run(code)
+        self.assertEqual((status, len(lines), len(self.authority.asked)), (1, 1, 1), err)
+        self.assertIn("cmsproof evidence renew: refused U3 NoStamp: no record of this batch is renewed\n", err)
+        self.assertIn(f"6 records: 6 due by {BY}: 1 renewed, 5 left as they are\n", err)
+        named = os.path.realpath(self.folder / "records" / "c.ers")
+        self.assertIn(f"cmsproof-archive renew: {named}: refused U3 NoStamp\n", err)
+        self.assert_renewed("x", old=by_other), self.assert_as_before("c", old=odd)
+        self.assert_as_before("a", "b/c.tif", "b/d"), self.assert_as_before("e", old=OTHER)
+        # as it is, the tool leaves it out
+        self.assertEqual(self.renew()[0], 1)
+        self.assert_renewed("a", "b/c.tif", "b/d"), self.assert_renewed("e", old=OTHER)
+
     def test_links_and_devices(self):
         """Nothing outside of the folder is read or renewed through a link."""
         os.remove(self.folder / "records" / "e.ers")

@@ -31,7 +31,7 @@ from cmsproof_tools.evidenced import ENDING, first_ends, records_in
 from cmsproof_tools.lasting import By, Last, Unjudged, last_and_end
 from cmsproof_tools.progress import Progress
 from cmsproof_tools.rows import time_text
-from cmsproof_tools.running import DONE, FAILED, REFUSED, USAGE, Stop
+from cmsproof_tools.running import DONE, FAILED, MALFORMED, REFUSED, USAGE, Stop
 from cmsproof_tools.running import module, one_line, shown, tell, write
 from cmsproof_tools.summing import BESIDE, LONGEST_NAME, LONGEST_PATH
 from cmsproof_tools.texts import in_order, is_moment
@@ -390,8 +390,8 @@ def is_void(given: Any, batch: Batch) -> str:
     return "" if is_same else "one of its records was changed"
 
 
-def begin(given: Any, plan: Plan, group: Group) -> Batch:
-    """A new batch of a group of records, with its request."""
+def new_batch(given: Any, plan: Plan, group: Group) -> Batch:
+    """A new batch of a group of records, which has no request yet."""
     batch = last_in(given.state, asked_of(given), "records")
     more = {"algorithm": group.algorithm, "after": group.after, "until": group.until, "stamps": str(len(group.firsts))}
     batch = batch._replace(terms={**batch.terms, **more})
@@ -402,7 +402,6 @@ def begin(given: Any, plan: Plan, group: Group) -> Batch:
     top = len(os.path.join(given.records, ""))
     numbers = (*group.firsts, *group.others)
     batch.put(RECORDS, b"".join(os.fsencode(plan.names[number][top:]) + b"\0" for number in numbers))
-    ask(given, batch)
     return batch
 
 
@@ -452,13 +451,43 @@ def finish(tool: str, given: Any, batch: Batch, address: SplitResult, trust: Any
     return count
 
 
-def batches_of(tool: str, given: Any, plan: Plan) -> Iterator[Batch]:
-    """The batches of all groups, each begun once the one before is done."""
+def refusal_of(path: str, algorithm: str) -> str:
+    """Why the program renews a record by no time-stamp for records of this algorithm, "" where nothing is known of that."""
+    try:
+        found = renewal_algorithm(path)
+    except (Unmade, OSError, ValueError) as error:
+        return str(error)
+    return "" if found == algorithm else f"its last chain is by {found}"
+
+
+def tell_refused(tool: str, batch: Batch) -> None:
+    """Names the records for which the program refuses those of a batch: they are not what they were when they were looked at."""
+    for path in paths_of(batch):
+        if reason := refusal_of(path, batch.terms["algorithm"]):
+            tell(tool, f"{shown(path)}: {reason}")
+
+
+def renewed_all(tool: str, given: Any, plan: Plan, address: SplitResult, trust: Any) -> tuple[int, int]:
+    """Has all groups renewed, each once the one before is done, and answers how many records were, and the worst status: where the program
+    refuses those of a group, the others are renewed still."""
+    renewed, worst = 0, plan.worst
     for number, group in enumerate(plan.groups):
+        count = len(group.firsts) + len(group.others)
         if len(plan.groups) > 1:
-            count = len(group.firsts) + len(group.others)
             tell(tool, f"batch {number + 1} of {len(plan.groups)}: {count} records by {group.algorithm}")
-        yield begin(given, plan, group)
+        batch = new_batch(given, plan, group)
+        try:
+            ask(given, batch)
+        except Stop as stop:
+            if stop.status not in (REFUSED, MALFORMED):
+                raise
+            tell(tool, f"{stop.line}: no record of this batch is renewed")
+            tell_refused(tool, batch)
+            worst = max(worst, stop.status)
+            plan.counts["left"] += count
+        else:
+            renewed += finish(tool, given, batch, address, trust)
+    return renewed, worst
 
 
 def counted(plan: Plan, renewed: int, moment: str) -> str:
@@ -480,6 +509,6 @@ def run(tool: str, given: Any, address: SplitResult) -> int:
         batch = begun(tool, given)
         renewed = 0 if batch is None else finish(tool, given, batch, address, trust)
         plan = planned(tool, given, By(trust, dict(first_ends(given.end)), given.by))
-        renewed += sum(finish(tool, given, one, address, trust) for one in batches_of(tool, given, plan))
-    tell(tool, counted(plan, renewed, given.by))
-    return plan.worst
+        more, worst = renewed_all(tool, given, plan, address, trust)
+    tell(tool, counted(plan, renewed + more, given.by))
+    return worst

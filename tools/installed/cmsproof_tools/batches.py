@@ -36,7 +36,7 @@ from cmsproof_tools.workers import LIBRARY, PR_SET_PDEATHSIG
 REQUEST, RESPONSE, TOKEN, DONE_FILE, TERMS = "request.tsq", "response.tsr", "token.tok", "done", "terms.json"
 NEW = ".new"
 READING = os.O_RDONLY | os.O_NOFOLLOW | os.O_CLOEXEC
-# whom folders are for, and who has no right to write in those of a state: the group and others
+# the rights to a folder of anybody's and to one of its user's own, and those to write that the group and others have
 ANYBODYS, OWN, OTHERS = 0o777, 0o700, 0o022
 # how many seconds two clocks may be apart without a word
 APART = 300
@@ -117,7 +117,7 @@ def sync(folder: str) -> None:
 
 
 def made(folder: str, mode: int = ANYBODYS) -> None:
-    """Makes a folder, if it is not there, by default one for all whom the mask of this process lets. Raises Stop, with a line, where that fails."""
+    """Makes a folder with these rights, less the mask of this process, if it is not there. Raises Stop, with a line, where that fails."""
     try:
         os.makedirs(folder, mode, exist_ok=True)
     except OSError as error:

@@ -113,10 +113,11 @@ def last_of(octets: Buffer) -> Last:
     fields = some(octets, begin, end, IN_STAMP)
     token = bytes(octets[fields[-1][1] : fields[-1][3]])
     time, imprint = stated_in(token)
+    before = VERSION_1, bytes(octets[parts[1][1] : parts[1][3]])
+    alone = without_lists = sequence(*before, sequence(sequence(sequence(token))))
     identifier, begin, _, end = fields[0]
-    named = bytes(octets[begin:end]) if identifier == CONTEXT_0 else b""
-    of_record = VERSION_1, bytes(octets[parts[1][1] : parts[1][3]])
-    alone, without_lists = (sequence(*of_record, sequence(sequence(sequence(one + token)))) for one in (b"", named))
+    if identifier == CONTEXT_0:
+        without_lists = sequence(*before, sequence(sequence(sequence(bytes(octets[begin:end]), token))))
     return Last(time, algorithms_of(octets, fields, imprint), token, alone, without_lists)
 
 

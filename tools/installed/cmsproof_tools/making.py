@@ -239,7 +239,8 @@ def run(tool: str, given: Any, address: SplitResult) -> int:
     """Has the files of an archive stamped, and answers the exit status."""
     trust = None if given.trust is None else module("archive").trust_list(given.trust, False)
     program_of(given)
-    made(given.state, OWN), made(given.into)
+    made(given.state, OWN)
+    made(given.into)
     with ExitStack() as stack:
         stack.enter_context(held(given.state))
         try:

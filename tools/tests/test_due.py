@@ -20,7 +20,8 @@ from cmsproof_tools.texts import in_order, trust_entries  # noqa: E402
 from oracle.der import element, number, oid, sequence  # noqa: E402
 from oracle.identifiers import DIGEST_OIDS, TST_INFO  # noqa: E402
 from samples import hierarchy as h  # noqa: E402
-from samples.building import digest_attribute, names_2, octets as string, sha, signed_data, type_attribute  # noqa: E402
+from samples.building import attribute, digest_attribute, names_2, octets as string, sha, signed_data  # noqa: E402
+from samples.building import stamp_attribute, type_attribute  # noqa: E402
 from test_archive_records import AGAIN, BEGUN, DATA, FILE, MADE, RENEWED, ROWS, record_of  # noqa: E402
 
 BY, LATER = "20300101000000Z", "20280101000000Z"
@@ -29,13 +30,14 @@ UNKNOWN = f"W4 K10 UnknownTsa, its last time-stamp, of {BEGUN}"
 SHA256 = sequence(oid(DIGEST_OIDS["sha256"]))
 
 
-def token_of(attributes=None, time_text=BEGUN, extensions=b"", algorithm=SHA256):
-    """A token over FILE of the first authority, with other attributes behind the type and the digest, or another TSTInfo."""
+def token_of(attributes=None, time_text=BEGUN, extensions=b"", algorithm=SHA256, unsigned=()):
+    """A token over FILE of the first authority, with other attributes behind the type and the digest, or another TSTInfo, or with unsigned
+    attributes."""
     imprint = sequence(algorithm, string(sha(FILE)))
     info = sequence(number(1), oid("2.999.3"), imprint, number(9), element(0x18, time_text.encode()), extensions)
     named = [names_2(sha(MADE.clock.octets))] if attributes is None else attributes
     signer = h.signed_by(MADE.clock, [type_attribute(TST_INFO), digest_attribute(sha(info)), *named])
-    return signed_data([signer.stamped()], info, TST_INFO, MADE.clock.octets, 3)
+    return signed_data([signer.stamped(*unsigned)], info, TST_INFO, MADE.clock.octets, 3)
 
 
 def record_with(*stamps, algorithms=SHA256):
@@ -338,6 +340,41 @@ class Held(unittest.TestCase):
             trust = cmsproof.TrustList(list_of(*entries))
             self.assertEqual(self.compared(GOOD, FILE, trust, {}, BY), (True, "due"))
             self.assertEqual(self.compared(GOOD, FILE, trust, {}, LATER), (True, "lasts"))
+
+    def test_tokens_in_the_unsigned_attributes_of_a_token(self):
+        """Anybody can put them there, and a check of a record looks at none. What the token fails itself counts still."""
+        trust, other, inner = list_of(tsa(MADE.clock, last=LATER)), list_of(tsa(MADE.other)), token_of()
+        for value in (inner, inner[:-1] + b"\x01", inner[2:], sequence(), string(b"x")):
+            unsigned = [stamp_attribute(value)]
+            good, at = token_of(unsigned=unsigned), element(0xA1, *unsigned)
+            last = good.index(at) - 1
+            spoilt = good[:last] + bytes([good[last] ^ 1]) + good[last + 1 :]
+            for token, entries, moment, expected in (
+                (good, trust, LATER, (True, "lasts")),
+                (good, trust, BY, (True, "due")),
+                (good, other, LATER, (False, "now")),
+                (spoilt, trust, LATER, (False, "now")),
+                (token_of([], unsigned=unsigned), trust, LATER, (False, "now")),
+                (token_of([names_2(sha(b"another"))], unsigned=unsigned), trust, LATER, (False, "now")),
+                (token_of(time_text="19500101000000Z", unsigned=unsigned), trust, LATER, (False, "now")),
+            ):
+                record = record_with(sequence(token))
+                self.assertEqual(self.compared(record, FILE, cmsproof.TrustList(entries), {}, moment), expected)
+
+    def test_a_name_of_a_certificate_within_another_attribute(self):
+        """It is none of the token: a check says W4 K11."""
+        trust, named = cmsproof.TrustList(list_of(tsa(MADE.clock))), names_2(sha(MADE.clock.octets))
+        for name in lasting.NAMING:
+            for value in (name, named, string(name), sequence(name, element(0x31))):
+                token = token_of([attribute("2.999.8", value)])
+                self.assertIn(name if value != named else named, token)
+                self.assertEqual(self.compared(record_with(sequence(token)), FILE, trust, {}, BY), (False, "now"))
+                said = cmsproof.evidence.check(record_with(sequence(token)), FILE, trust=trust, at=BY).name
+                self.assertEqual(said, "K11 NotNamed")
+                with self.assertRaisesRegex(lasting.Unjudged, "^W4 K11 NotNamed, "):
+                    lasting.end_of(record_with(sequence(token)), lasting.By(trust, {}, BY))
+                both = record_with(sequence(token_of([attribute("2.999.8", value), named])))
+                self.assertEqual(self.compared(both, FILE, trust, {}, BY), (True, "lasts"))
 
     def test_the_questions_of_other_stamps_do_not_count(self):
         """The last time-stamp has the signature and the attributes of the one before, which holds, and says another time."""

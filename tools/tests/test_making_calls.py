@@ -14,7 +14,7 @@ from samples.authority import STAMPING, certificate, configure, make_certificate
 need_tools()
 
 import cmsproof  # noqa: E402
-from cmsproof import evidence  # noqa: E402
+from cmsproof import evidence, making  # noqa: E402
 
 RECORDS, SHA512 = TOP / "data" / "records" / "records", DIGEST_OIDS["sha512"]
 # one stands there twice
@@ -147,6 +147,8 @@ class Records(unittest.TestCase):
         # their last chains are by different algorithms now
         self.assert_unmade("U4", "refused U4 Mixed", 1, evidence.renewal_root, [records[0], due[0]])
         self.assertEqual(evidence.renewal_root(due[0]).algorithm, "sha512")
+        self.assertEqual([making.renewal_algorithm(one) for one in (records[0], due[0])], ["sha256", "sha512"])
+        self.assert_unmade("M1", "malformed M1 End at 0", None, making.renewal_algorithm, b"")
 
     def assert_unmade(self, code, line, place, call, *words, **options):
         """A call is refused by this rule, with this line, at this place."""

@@ -107,6 +107,14 @@ class WithRecords(WithAuthority):
         status, out, err = run_tool("cmsproof-archive", *self.words(*words, **how), cwd=self.folder, env=env, **rest)
         return status, out.decode().splitlines(), err
 
+    def changed_run(self, code, *words):
+        """What is said by the tool with a part of it changed by this code."""
+        text = f"import sys\nsys.path[:0] = [{str(MODULES)!r}]\nfrom cmsproof_tools import renewing, running\n{code}\n"
+        (self.folder / "changed.py").write_text(text + "running.start('archive')\n")
+        words = [sys.executable, self.folder / "changed.py", *map(str, self.words(*words))]
+        done = subprocess.run(words, cwd=self.folder, capture_output=True, check=False, text=True)
+        return done.returncode, done.stdout.splitlines(), done.stderr
+
     def record(self, name):
         """The octets of a record."""
         return (self.folder / "records" / f"{name}.ers").read_bytes()
@@ -195,14 +203,6 @@ class Renewed(WithRecords):
         self.assertIn("batch 2 of 2: 2 records by sha512\n", err)
         self.assertIn(f"6 records: 6 due by {BY}: 6 renewed\n", err)
         self.assert_renewed("a", "b/c.tif", "b/d"), self.assert_renewed("x", "y", old=by_other)
-
-    def changed_run(self, code, *words):
-        """What is said by the tool with a part of it changed by this code."""
-        text = f"import sys\nsys.path[:0] = [{str(MODULES)!r}]\nfrom cmsproof_tools import renewing, running\n{code}\n"
-        (self.folder / "changed.py").write_text(text + "running.start('archive')\n")
-        words = [sys.executable, self.folder / "changed.py", *map(str, self.words(*words))]
-        done = subprocess.run(words, cwd=self.folder, capture_output=True, check=False, text=True)
-        return done.returncode, done.stdout.splitlines(), done.stderr
 
     def test_more_records_than_a_command_can_name(self):
         """There are several commands then, and one time-stamp for all, as long as the different last time-stamps are few."""
@@ -301,6 +301,10 @@ class Left(WithRecords):
         (self.folder / "records" / "left4.ers").write_bytes(b""), os.truncate(self.folder / "records" / "left4.ers", COPIED + 1)
         both = sequence(element(0xA0, SHA512[2:]), token_of())
         self.put("records/left5.ers", record_with(both, chains_of(GOOD)[0][0]))
+        # an algorithm with parameters that no check knows, of the chain and of its last time-stamp
+        odd = sequence(element(0xA0, SHA256[2:], number(5)), token_of())
+        self.put("records/left6.ers", record_with(odd)), self.put("records/left7.ers", record_with(odd, sequence(token_of())))
+        self.put("records/left8.ers", record_with(sequence(token_of()), odd))
         self.left(
             [
                 "due now records/left1.ers: malformed M6 Tag at 0",
@@ -308,10 +312,30 @@ class Left(WithRecords):
                 f"due now records/left3.ers: malformed M7 Trailing at {len(GOOD)}",
                 f"due now records/left4.ers: it has more than {COPIED} octets",
                 f"due now records/left5.ers: W1 Algorithm, its last time-stamp, of {BEGUN}",
+                f"due now records/left6.ers: U3 NoStamp, its last time-stamp, of {BEGUN}",
+                f"due now records/left7.ers: U3 NoStamp, its last time-stamp, of {BEGUN}",
+                f"due now records/left8.ers: W1 Algorithm, its last time-stamp, of {BEGUN}",
             ],
             status=2,
         )
         self.assert_renewed("a", "b/c.tif", "b/d")
+
+    def test_what_the_program_refuses_all_the_same(self):
+        """It is named, and the records of other algorithms are renewed."""
+        odd, by_other = record_with(sequence(element(0xA0, SHA256[2:], number(5)), token_of())), by_sha512(FILE)
+        self.put("files/x", FILE), self.put("records/x.ers", by_other), self.put("records/c.ers", odd)
+        code = "renewing.algorithm_of = lambda last, _: renewing.NAMES[last.algorithms[0]]"
+        status, lines, err = self.changed_run(code)
+        self.assertEqual((status, len(lines), len(self.authority.asked)), (1, 1, 1), err)
+        self.assertIn("cmsproof evidence renew: refused U3 NoStamp: no record of this batch is renewed\n", err)
+        self.assertIn(f"6 records: 6 due by {BY}: 1 renewed, 5 left as they are\n", err)
+        named = os.path.realpath(self.folder / "records" / "c.ers")
+        self.assertIn(f"cmsproof-archive renew: {named}: refused U3 NoStamp\n", err)
+        self.assert_renewed("x", old=by_other), self.assert_as_before("c", old=odd)
+        self.assert_as_before("a", "b/c.tif", "b/d"), self.assert_as_before("e", old=OTHER)
+        # as it is, the tool leaves it out
+        self.assertEqual(self.renew()[0], 1)
+        self.assert_renewed("a", "b/c.tif", "b/d"), self.assert_renewed("e", old=OTHER)
 
     def test_links_and_devices(self):
         """Nothing outside of the folder is read or renewed through a link."""
@@ -608,6 +632,28 @@ class GoneOn(WithRecords):
         self.assertEqual(self.renew()[0], 0)
         self.assert_renewed("a", "b/c.tif", "b/d"), self.assert_renewed("e", old=OTHER)
 
+    def test_a_token_that_there_is_no_room_for(self):
+        """No record is renewed where not each has room for it, and it is used once there is."""
+        with_free = lambda free: self.changed_run(  # noqa: E731
+            f"from cmsproof_tools import batches\nbatches.free_in = lambda _: {free}"
+        )
+        self.assertEqual(with_free(0)[:2], (4, []))
+        size = (self.folder / "state" / "1" / "token.tok").stat().st_size
+        status, lines, err = with_free(4 * size - 1)
+        self.assertEqual((status, lines, len(self.authority.asked)), (4, [], 1), err)
+        free = f"4 records by a token of {size} octets need {4 * size} octets, and {4 * size - 1} are free"
+        where = os.path.realpath(self.folder / "records")
+        self.assertIn(f"failed write {where}: {free}; state/1 has its token: run this again, ", err)
+        self.assert_as_before("a", "b/c.tif", "b/d"), self.assert_as_before("e", old=OTHER)
+        self.assertEqual((with_free(4 * size)[0], len(self.authority.asked)), (0, 1))
+        self.assert_renewed("a", "b/c.tif", "b/d"), self.assert_renewed("e", old=OTHER)
+        # what has it already needs none
+        os.remove(self.folder / "state" / "1" / "done"), self.put("records/a.ers", GOOD)
+        status, lines, err = with_free(size - 1)
+        self.assertEqual((status, f": 1 records by a token of {size} octets need " in err), (4, True), err)
+        self.assertEqual((with_free(size)[0], len(self.authority.asked)), (0, 1))
+        self.assert_renewed("a", "b/c.tif", "b/d"), self.assert_renewed("e", old=OTHER)
+
     @unittest.skipUnless(os.geteuid() == 0, "only root can mount a small disk")
     def test_a_full_disk(self):
         for number_of in range(20):
@@ -615,7 +661,7 @@ class GoneOn(WithRecords):
         shutil.copytree(self.folder / "records", self.folder / "kept")
         for place, size in (("state", 8), ("state", 16), ("records", 200)):
             (self.folder / place).mkdir(exist_ok=True)
-            words = ["mount", "-t", "tmpfs", "-o", f"size={size}k", "none", self.folder / place]
+            words = ["mount", "-t", "tmpfs", "-o", f"size={size}k,mode=755", "none", self.folder / place]
             if subprocess.run(words, capture_output=True, check=False).returncode:
                 self.skipTest("no disk can be mounted")
             try:

@@ -5,6 +5,7 @@ import http.server
 import os
 import random
 import resource
+import shutil
 import signal
 import socket
 import ssl
@@ -37,6 +38,7 @@ digests = sha256, sha384, sha512
 """
 
 
+OTHERWISE = "remove state/1 to have the files without a record stamped by another one"
 ASKED = cmsproof.request(digest=bytes(32), nonce=b"\x01\x02", certificate=True)
 
 
@@ -506,9 +508,24 @@ class Answers(WithAuthority):
         self.assertEqual((status, err), (0, "cmsproof-archive stamp: no --trust: nobody looked whose time-stamp it is\n"))
         # and one that is kept is looked at once there is one
         os.remove(self.folder / "state" / "1" / "done")
+        (self.folder / "records").rename(self.folder / "others")
         status, _, err = self.stamp()
         self.assertEqual(status, 1)
         self.assertIn("; it is kept as state/1/response.tsr: remove that to ask again\n", err)
+        # of records that it has made another one makes none
+        (self.folder / "records").rmdir(), (self.folder / "others").rename(self.folder / "records")
+        os.remove(self.folder / "records" / "b" / "d.ers")
+        status, _, err = self.stamp()
+        self.assertEqual(status, 1)
+        self.assertIn(f"; it is kept as state/1/response.tsr: records by it are there: {OTHERWISE}\n", err)
+        os.remove(self.folder / "state" / "1" / "response.tsr")
+        self.authority.answer = self.authority.usual
+        status, _, err = self.stamp()
+        self.assertEqual((status, err.endswith(f"a.ers; move that away, or {OTHERWISE}\n")), (4, True), err)
+        shutil.rmtree(self.folder / "state" / "1")
+        status, lines, err = self.stamp()
+        self.assertEqual((status, "3 files have a record already" in err), (0, True), err)
+        self.assertRegex(lines[0], "^files: 1 records of ")
 
 
 def other_nonce(request):
@@ -681,7 +698,7 @@ class GoneOn(WithAuthority):
         for _ in range(2):
             status, lines, err = self.stamp()
             self.assertEqual((status, lines), (4, []))
-            self.assertIn(f"cmsproof evidence make: failed replace {place}\n", err)
+            self.assertIn(f"cmsproof evidence make: failed replace {place}; move that away, or {OTHERWISE}\n", err)
             self.assertEqual((self.records(), place.read_bytes()), ([b"b/d.ers"], b"another's"))
         place.unlink()
         self.assertEqual((self.stamp()[0], len(self.authority.asked)), (0, 1))
@@ -705,14 +722,43 @@ class GoneOn(WithAuthority):
         self.assertEqual(self.stamp()[0], 0)
         self.assert_records(44)
 
+    def with_free(self, free):
+        """The status, the lines, and what else is said by a run where so many octets are free."""
+        text = f"import sys\nsys.path[:0] = [{str(MODULES)!r}]\nfrom cmsproof_tools import batches, running\n"
+        self.put("changed.py", (text + f"batches.free_in = lambda _: {free}\nrunning.start('archive')\n").encode())
+        words = [sys.executable, self.folder / "changed.py", *map(str, self.words())]
+        done = subprocess.run(words, cwd=self.folder, capture_output=True, check=False, text=True)
+        return done.returncode, done.stdout.splitlines(), done.stderr
+
+    def test_a_token_that_there_is_no_room_for(self):
+        """No record is made where that of each file has none, and a token that is kept is used once there is."""
+        self.assertEqual(self.with_free(0)[:2], (4, []))
+        size = (self.folder / "state" / "1" / "token.tok").stat().st_size
+        status, lines, err = self.with_free(4 * size - 1)
+        self.assertEqual((status, lines, self.records(), len(self.authority.asked)), (4, [], [], 1), err)
+        free = f"4 records by a token of {size} octets need {4 * size} octets, and {4 * size - 1} are free"
+        kept = "it is kept as state/1/response.tsr: remove that to ask again"
+        self.assertEqual(err, f"cmsproof-archive: failed write records: {free}; {kept}\n")
+        self.assertEqual((self.with_free(4 * size)[0], len(self.authority.asked)), (0, 1))
+        self.assert_records(4)
+        # what is there needs none
+        os.remove(self.folder / "state" / "1" / "done"), os.remove(self.folder / "records" / "b" / "d.ers")
+        status, _, err = self.with_free(size - 1)
+        self.assertEqual((status, f"failed write records: 1 records by a token of {size} octets" in err), (4, True), err)
+        self.assertIn(f"records by it are there: {OTHERWISE}\n", err)
+        self.assertEqual(self.with_free(size)[0], 0)
+        os.remove(self.folder / "state" / "1" / "done"), os.remove(self.folder / "records" / "a.ers")
+        self.assertEqual((self.with_free(None)[0], len(self.authority.asked)), (0, 1))
+        self.assert_records(4)
+
     @unittest.skipUnless(os.geteuid() == 0, "only root can mount a small disk")
     def test_a_full_disk(self):
         for number in range(60):
             self.put(f"files/many/{number:03}", str(number).encode())
-        for place, sizes in (("state", (12, 16, 24)), ("records", (16, 64, 100))):
+        for place, sizes in (("state", (12, 16, 24)), ("records", (16, 64, 100, 200))):
             for size in sizes:
                 (self.folder / place).mkdir(exist_ok=True)
-                words = ["mount", "-t", "tmpfs", "-o", f"size={size}k", "none", self.folder / place]
+                words = ["mount", "-t", "tmpfs", "-o", f"size={size}k,mode=755", "none", self.folder / place]
                 if subprocess.run(words, capture_output=True, check=False).returncode:
                     self.skipTest("no disk can be mounted")
                 try:
@@ -765,10 +811,29 @@ class GoneOn(WithAuthority):
         self.assertEqual((status, err), (0, ""))
         self.assert_records(4)
 
+    def test_a_state_that_others_may_write(self):
+        """They could put digests there that nobody computed. One that the tool makes is for its user alone."""
+        old = os.umask(0)
+        self.addCleanup(os.umask, old)
+        self.authority_away()
+        asked = len(self.authority.asked)
+        for name in ("state", "state/1"):
+            path = self.folder / name
+            self.assertEqual(path.stat().st_mode & 0o7777, 0o700, name)
+            for mode in (0o720, 0o702, 0o770, 0o1777):
+                path.chmod(mode)
+                status, lines, err = self.stamp()
+                self.assertEqual((status, lines, len(self.authority.asked)), (4, [], asked), (name, mode, err))
+                self.assertIn(f"failed state {name}: others may write it, ", err)
+            path.chmod(0o755)
+        self.authority.answer = self.authority.usual
+        self.assertEqual(self.stamp()[0], 0)
+        self.assert_records(4)
+
     def test_a_file_that_cannot_be_read(self):
         who = as_nobody()
-        (self.folder / "records").mkdir(), (self.folder / "state").mkdir()
-        for path in ("records", "state", "."):
+        (self.folder / "records").mkdir()
+        for path in ("records", "."):
             os.chmod(self.folder / path, 0o777)
         os.chmod(self.folder / "files" / "a", 0)
         status, _, err = self.stamp(**who)

@@ -138,6 +138,11 @@ def renewed_by(maker: Maker, records: Sequence[Octets], token: Octets) -> tuple[
     return name.decode("ascii"), leaves
 
 
+def renewal_algorithm(record: Given) -> str:
+    """The algorithm of the last chain of an evidence record, by which alone `renew` renews it. Raises `Unmade` where it cannot be renewed."""
+    return Maker().made("cmsproof_evidence_renew_algorithm", *copy_of(record)).decode("ascii")
+
+
 def renewal_root(records: Union[Given, Sequence[Given]], *, token: Optional[Given] = None) -> Root:
     """What a new time-stamp must be of, so that `renew` can renew these evidence records by it.
 

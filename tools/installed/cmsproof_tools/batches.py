@@ -19,7 +19,7 @@ import subprocess
 import sys
 import time
 from contextlib import contextmanager, suppress
-from typing import Any, Callable, Iterator, NamedTuple
+from typing import Any, Callable, Iterator, NamedTuple, Optional
 from urllib.parse import SplitResult
 
 import cmsproof
@@ -36,6 +36,8 @@ from cmsproof_tools.workers import LIBRARY, PR_SET_PDEATHSIG
 REQUEST, RESPONSE, TOKEN, DONE_FILE, TERMS = "request.tsq", "response.tsr", "token.tok", "done", "terms.json"
 NEW = ".new"
 READING = os.O_RDONLY | os.O_NOFOLLOW | os.O_CLOEXEC
+# the rights to a folder of anybody's and to one of its user's own, and those to write that the group and others have
+ANYBODYS, OWN, OTHERS = 0o777, 0o700, 0o022
 # how many seconds two clocks may be apart without a word
 APART = 300
 # an AlgorithmIdentifier, which each record has one of at least
@@ -114,10 +116,10 @@ def sync(folder: str) -> None:
             os.close(descriptor)
 
 
-def made(folder: str) -> None:
-    """Makes a folder, if it is not there. Raises Stop, with a line, where that fails."""
+def made(folder: str, mode: int = ANYBODYS) -> None:
+    """Makes a folder with these rights, less the mask of this process, if it is not there. Raises Stop, with a line, where that fails."""
     try:
-        os.makedirs(folder, exist_ok=True)
+        os.makedirs(folder, mode, exist_ok=True)
     except OSError as error:
         raise Stop(FAILED, f"failed write {shown(folder)}: {error.strerror}") from error
 
@@ -131,6 +133,15 @@ def closing_descriptor(descriptor: int) -> Iterator[None]:
         os.close(descriptor)
 
 
+def check_own(path: str, found: os.stat_result) -> None:
+    """Ends the tool where others may write a folder of a state: what they put there, as digests, would be stamped."""
+    if found.st_uid not in (os.geteuid(), 0):
+        raise Stop(FAILED, f"failed state {shown(path)}: it is another user's, who can put anything into it")
+    if found.st_mode & OTHERS:
+        reason = "others may write it, and put anything into it: look what is in it, then take that right away by chmod go-w"
+        raise Stop(FAILED, f"failed state {shown(path)}: {reason}")
+
+
 @contextmanager
 def held(state: str) -> Iterator[None]:
     """A block in which no other run has the state."""
@@ -139,8 +150,7 @@ def held(state: str) -> Iterator[None]:
     except OSError as error:
         raise Stop(FAILED, f"failed open {shown(state)}: {error.strerror}") from error
     with closing_descriptor(descriptor):
-        if os.fstat(descriptor).st_uid not in (os.geteuid(), 0):
-            raise Stop(FAILED, f"failed state {shown(state)}: it is another user's, who can put anything into it")
+        check_own(state, os.fstat(descriptor))
         try:
             fcntl.flock(descriptor, fcntl.LOCK_EX | fcntl.LOCK_NB)
         except OSError as error:
@@ -153,6 +163,25 @@ def check_writable(folder: str) -> None:
     """Ends the tool where no record can be put into a folder, before a time-stamp is asked for."""
     if not os.access(folder, os.W_OK | os.X_OK):
         raise Stop(FAILED, f"failed write {shown(folder)}: no record can be put there")
+
+
+def free_in(folder: str) -> Optional[int]:
+    """How many octets are free in the file system of a folder, None where it does not say that."""
+    try:
+        found = os.statvfs(folder)
+    except OSError:
+        return None
+    return found.f_bavail * found.f_frsize if found.f_blocks else None
+
+
+def check_room(batch: Batch, folder: str, count: int, without: Callable[[], int]) -> None:
+    """Ends the tool, before any is written, where so many records, of which `without` counts those that have not the token of the batch yet,
+    have no room for it in a folder: whoever is on the line can make a token as long as an answer may be."""
+    size, free = len(batch.read(TOKEN)), free_in(folder)
+    if free is None or count * size <= free or (lacking := without()) * size <= free:
+        return
+    needed = f"{lacking} records by a token of {size} octets need {lacking * size} octets, and {free} are free"
+    raise Stop(FAILED, f"failed write {shown(folder)}: {needed}")
 
 
 def settle(folder: str) -> None:
@@ -181,9 +210,11 @@ def last_in(state: str, terms: dict[str, str], key: str) -> Batch:
     last = Batch(os.path.join(state, str(numbers[-1] if numbers else 1)), terms)
     if last.has(DONE_FILE):
         last = Batch(os.path.join(state, str(numbers[-1] + 1)), terms)
-    made(last.path)
-    if not stat.S_ISDIR(os.lstat(last.path).st_mode):
+    made(last.path, OWN)
+    found = os.lstat(last.path)
+    if not stat.S_ISDIR(found.st_mode):
         raise Stop(FAILED, f"failed state {shown(last.path)}: it is a link")
+    check_own(last.path, found)
     sync(state)
     if last.has(TERMS) and key not in last.begun_with():
         raise Stop(USAGE, f"{shown(last.path)} is a batch of another command: name another --state")
@@ -327,16 +358,23 @@ def tell_where_apart(tool: str, token: bytes) -> None:
         tell(tool, f"the token of the authority says {said}, and the clock here {time_text(now)}")
 
 
-def answered(tool: str, given: Any, batch: Batch, address: SplitResult, judged: Callable[[bytes], None]) -> str:
-    """Has the token of the batch there, and answers its time. What is kept was judged, and is judged again."""
+def kept_as(batch: Batch, helps: str) -> str:
+    """Where an answer is kept, and what helps: by default that another one is asked for."""
+    return f"; it is kept as {shown(batch.place(RESPONSE))}: {helps or 'remove that to ask again'}"
+
+
+def answered(
+    tool: str, given: Any, batch: Batch, address: SplitResult, judged: Callable[[bytes], None], help_of: Callable[[], str] = str
+) -> str:
+    """Has the token of the batch there, and answers its time. What is kept was judged, and is judged again: of one that is refused then `help_of`
+    says what helps, where another one would not."""
     is_kept, request = batch.has(RESPONSE), request_in(batch)
     response = batch.read(RESPONSE) if is_kept else authority.answer_to(request, address, given.timeout)
     try:
         token = token_in(batch, response)
         judged(token)
     except Stop as stop:
-        place = f"; it is kept as {shown(batch.place(RESPONSE))}: remove that to ask again" if is_kept else ""
-        raise Stop(stop.status, stop.line + place) from stop
+        raise Stop(stop.status, stop.line + (kept_as(batch, help_of()) if is_kept else "")) from stop
     if not is_kept:
         tell_where_apart(tool, token)
         batch.put(RESPONSE, response)

@@ -18,7 +18,7 @@ from cmsproof_tools import der
 from cmsproof_tools.periods import Period
 from cmsproof_tools.rows import digest_of
 from cmsproof_tools.running import MALFORMED, REFUSED, SHORT, kept_if_short, module
-from cmsproof_tools.signed_parts import CONTEXT_0, Span, header, parts_of, some, spans, time_in, tst_fields
+from cmsproof_tools.signed_parts import CONTEXT_0, SET, Span, header, parts_of, some, spans, time_in, tst_fields
 from cmsproof_tools.texts import Question, answers_of, in_order, read_questions, trust_entries
 from cmsproof_tools.timelines import NAMES, earliest
 
@@ -48,12 +48,13 @@ class Unjudged(Exception):
 
 class Last(NamedTuple):
     """The last archive time-stamp of a record: its time, the identifiers of the digest algorithms of its lists and of its imprint, its token,
-    and a record that has that token alone, and no lists."""
+    a record that has that token alone, and no lists, and one that has besides the algorithm that this archive time-stamp names."""
 
     time: str
     algorithms: tuple[str, ...]
     token: bytes
     alone: bytes
+    without_lists: bytes
 
     def failing(self, rule: str) -> Unjudged:
         """That it fails a rule, in the words of a check."""
@@ -112,13 +113,28 @@ def last_of(octets: Buffer) -> Last:
     fields = some(octets, begin, end, IN_STAMP)
     token = bytes(octets[fields[-1][1] : fields[-1][3]])
     time, imprint = stated_in(token)
-    alone = sequence(VERSION_1, bytes(octets[parts[1][1] : parts[1][3]]), sequence(sequence(sequence(token))))
-    return Last(time, algorithms_of(octets, fields, imprint), token, alone)
+    before = VERSION_1, bytes(octets[parts[1][1] : parts[1][3]])
+    alone = without_lists = sequence(*before, sequence(sequence(sequence(token))))
+    identifier, begin, _, end = fields[0]
+    if identifier == CONTEXT_0:
+        without_lists = sequence(*before, sequence(sequence(sequence(bytes(octets[begin:end]), token))))
+    return Last(time, algorithms_of(octets, fields, imprint), token, alone, without_lists)
 
 
 def is_good(question: Question) -> bool:
     """Whether the signature of a question holds."""
     return module("verifying").fault_in(question.line) is None
+
+
+def names_certificate(tail: bytes) -> bool:
+    """Whether signed attributes, a SET without its first octet, have one that names a certificate, itself and not in a value of another one."""
+    octets = bytes([SET]) + tail
+    try:
+        ((_, _, begin, end),) = some(octets, 0, len(octets), 1)
+        # (whoever made them can have put in any number)
+        return any(octets.startswith(NAMING, at, stop) for _, _, at, stop in spans(octets, begin, end))
+    except (ValueError, IndexError):
+        return False
 
 
 class Entry:
@@ -139,8 +155,10 @@ class Entry:
             return PURPOSE
         if not self.period.has(last.time):
             return PERIOD
-        code = cmsproof.check(last.token, trust=self.as_signer, verifier=is_good, sha1=True).code
-        return OF_SIGNER.get(code or "", f"K5 {code}")
+        said = cmsproof.check(last.token, trust=self.as_signer, verifier=is_good, sha1=True)
+        # (a token of its own, which anybody can put there, is refused only where none of S1 to S10 fails: docs/LINES.md, `cmsproof check`)
+        is_of_own_token = said.verdict == "refused" and said.token is not None
+        return "" if is_of_own_token else OF_SIGNER.get(said.code or "", f"K5 {said.code}")
 
 
 class By:
@@ -161,7 +179,8 @@ class By:
     def under(self, last: Last, asked: tuple[Question, ...]) -> list[Entry]:
         """The entries under which the last time-stamp passes, of which these questions are asked. Raises Unjudged where there is none."""
         found = [entry for key in dict.fromkeys(one.key for one in asked) for entry in self.entries[key]]
-        faults = [NOT_NAMED if not any(name in asked[0].tail for name in NAMING) else entry.fault(last) for entry in found]
+        is_named = bool(found) and names_certificate(asked[0].tail)
+        faults = [entry.fault(last) if is_named else NOT_NAMED for entry in found]
         if "" not in faults:
             # (of several the one counts that comes furthest, as in a check)
             raise last.failing("W4 " + max(faults, key=lambda one: int(one[1:].split(" ")[0]), default="K10 UnknownTsa"))

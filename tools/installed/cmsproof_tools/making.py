@@ -13,9 +13,9 @@ from typing import Any, Iterator, Optional, Sequence
 from urllib.parse import SplitResult
 
 from cmsproof_tools import summing
-from cmsproof_tools.batches import CHOSEN, DONE_FILE, NEW, POSITIVE, REQUEST, TERMS, TOKEN, Batch
-from cmsproof_tools.batches import answered, check_writable, held, judge, last_in, made, program_of, put_in_place
-from cmsproof_tools.batches import run_program, settle, sync
+from cmsproof_tools.batches import CHOSEN, DONE_FILE, NEW, OWN, POSITIVE, REQUEST, TERMS, TOKEN, Batch
+from cmsproof_tools.batches import answered, check_room, check_writable, held, judge, kept_as, last_in, made, program_of
+from cmsproof_tools.batches import put_in_place, run_program, settle, sync
 from cmsproof_tools.evidenced import ENDING, NOTHING, records_in
 from cmsproof_tools.folders import files_under
 from cmsproof_tools.progress import Progress
@@ -186,15 +186,48 @@ def changed_since(tool: str, given: Any, batch: Batch, top: int) -> int:
     return found
 
 
+def places_of(given: Any, batch: Batch) -> Iterator[str]:
+    """The places of the records of a batch."""
+    with open(batch.place(SUMS), "rb") as lines:
+        for line in lines:
+            yield os.path.join(given.into, summing.name_in(line) + ENDING)
+
+
+def help_of(given: Any, batch: Batch) -> str:
+    """What helps where records of a batch are there, in whose places the program puts none by another token, "" where none is."""
+    try:
+        is_there = any(map(os.path.lexists, places_of(given, batch)))
+    except OSError:
+        is_there = False
+    return f"records by it are there: {by_another(batch)}" if is_there else ""
+
+
+def by_another(batch: Batch) -> str:
+    """What to do for another token."""
+    return f"remove {shown(batch.path)} to have the files without a record stamped by another one"
+
+
+def make(given: Any, batch: Batch, count: int) -> None:
+    """Has the program make the records, which are so many."""
+    try:
+        check_room(batch, given.into, count, lambda: sum(not os.path.lexists(place) for place in places_of(given, batch)))
+    except Stop as stop:
+        raise Stop(stop.status, stop.line + kept_as(batch, help_of(given, batch))) from stop
+    try:
+        run_program(given, batch, "make", "--alg", given.alg, "--token", TOKEN, "--into", os.path.abspath(given.into), SUMS)
+    except Stop as stop:
+        is_there = stop.line.startswith("cmsproof evidence make: failed replace ")
+        raise Stop(stop.status, stop.line + (f"; move that away, or {by_another(batch)}" if is_there else "")) from stop
+
+
 def finish(tool: str, given: Any, batch: Batch, top: int, address: SplitResult, trust: Any) -> int:
     """Goes on from the digests to the records, and answers the exit status."""
     check_writable(given.into)
     if not batch.has(REQUEST):
         ask(given, batch)
-    moment = answered(tool, given, batch, address, partial(judge, tool, given, trust))
-    run_program(given, batch, "make", "--alg", given.alg, "--token", TOKEN, "--into", os.path.abspath(given.into), SUMS)
-    with open(batch.place(SUMS), "rb") as lines:
-        count = sum(1 for _ in lines)
+    moment = answered(tool, given, batch, address, partial(judge, tool, given, trust), partial(help_of, given, batch))
+    count = sum(1 for _ in places_of(given, batch))
+    make(given, batch, count)
     changed = changed_since(tool, given, batch, top)
     settle(given.into)
     batch.put(DONE_FILE, b"")
@@ -206,8 +239,8 @@ def run(tool: str, given: Any, address: SplitResult) -> int:
     """Has the files of an archive stamped, and answers the exit status."""
     trust = None if given.trust is None else module("archive").trust_list(given.trust, False)
     program_of(given)
-    for folder in (given.state, given.into):
-        made(folder)
+    made(given.state, OWN)
+    made(given.into)
     with ExitStack() as stack:
         stack.enter_context(held(given.state))
         try:

@@ -21,16 +21,17 @@ from typing import Any, Iterator, NamedTuple, Optional, Sequence
 from urllib.parse import SplitResult
 
 import cmsproof
+from cmsproof.making import Unmade, renewal_algorithm
 from cmsproof.octets import COPIED, Buffer
 from cmsproof_tools import due
-from cmsproof_tools.batches import CHOSEN, DONE_FILE, NEW, POSITIVE, REQUEST, RESPONSE, TERMS, TOKEN, Batch
-from cmsproof_tools.batches import answered, held, last_in, later_of, made, program_of, request_in, run_program
-from cmsproof_tools.batches import served_until, settle, time_of
+from cmsproof_tools.batches import CHOSEN, DONE_FILE, NEW, OWN, POSITIVE, READING, REQUEST, RESPONSE, TERMS, TOKEN, Batch
+from cmsproof_tools.batches import answered, check_room, closing_descriptor, held, last_in, later_of, made, program_of
+from cmsproof_tools.batches import request_in, run_program, served_until, settle, time_of
 from cmsproof_tools.evidenced import ENDING, first_ends, records_in
-from cmsproof_tools.lasting import By, Unjudged, last_and_end
+from cmsproof_tools.lasting import By, Last, Unjudged, last_and_end
 from cmsproof_tools.progress import Progress
 from cmsproof_tools.rows import time_text
-from cmsproof_tools.running import DONE, FAILED, REFUSED, USAGE, Stop
+from cmsproof_tools.running import DONE, FAILED, MALFORMED, REFUSED, USAGE, Stop
 from cmsproof_tools.running import module, one_line, shown, tell, write
 from cmsproof_tools.summing import BESIDE, LONGEST_NAME, LONGEST_PATH
 from cmsproof_tools.texts import in_order, is_moment
@@ -43,6 +44,8 @@ RECORDS, ROOT = "records", "root.tsq"
 STACK, MOST, LEAST, BESIDE_WORD, LEFT = 32 << 20, 6 << 20, 128 << 10, 9, 16 << 10
 # how many octets of a digest tell the octets of time-stamps apart
 KEPT = 16
+# how many octets at the end of a record tell whether it has a token already
+ENDS = 64
 TOLD = "the token of the authority: "
 
 
@@ -120,16 +123,28 @@ class Plan(NamedTuple):
 # ---- which records
 
 
+def algorithm_of(last: Last, octets: Buffer) -> str:
+    """The algorithm by which the program renews a record, which is that of the first archive time-stamp of its last chain. Raises Unjudged where
+    it renews it by none, or the last one has another algorithm, by which no check accepts it."""
+    try:
+        of_chain = renewal_algorithm(octets)
+    except Unmade as error:
+        raise last.failing(error.line.removeprefix("refused ")) from error
+    try:
+        is_same = renewal_algorithm(last.without_lists) == of_chain
+    except Unmade:
+        is_same = False
+    if not is_same:
+        raise last.failing("W1 Algorithm")
+    return of_chain
+
+
 def standing_of(by: By, octets: Buffer) -> Standing:
     """What the renewal of a record stands on; of one that is not due only its end. Raises Unjudged where nobody can say it."""
     last, until = last_and_end(octets, by)
     if in_order(by.moment, until):
         return Standing("", "", until)
-    stamps = cmsproof.show("evidence", octets)["stamp"]
-    of_chain = [one["algorithm"] for one in stamps if one["chain"] == stamps[-1]["chain"]]
-    if of_chain[0] != of_chain[-1]:
-        raise last.failing("W1 Algorithm")
-    return Standing(NAMES[of_chain[0]], last.time, until, hashlib.sha256(last.token).digest()[:KEPT])
+    return Standing(algorithm_of(last, octets), last.time, until, hashlib.sha256(last.token).digest()[:KEPT])
 
 
 def not_replaced(path: str, longest: int) -> str:
@@ -375,8 +390,8 @@ def is_void(given: Any, batch: Batch) -> str:
     return "" if is_same else "one of its records was changed"
 
 
-def begin(given: Any, plan: Plan, group: Group) -> Batch:
-    """A new batch of a group of records, with its request."""
+def new_batch(given: Any, plan: Plan, group: Group) -> Batch:
+    """A new batch of a group of records, which has no request yet."""
     batch = last_in(given.state, asked_of(given), "records")
     more = {"algorithm": group.algorithm, "after": group.after, "until": group.until, "stamps": str(len(group.firsts))}
     batch = batch._replace(terms={**batch.terms, **more})
@@ -387,7 +402,6 @@ def begin(given: Any, plan: Plan, group: Group) -> Batch:
     top = len(os.path.join(given.records, ""))
     numbers = (*group.firsts, *group.others)
     batch.put(RECORDS, b"".join(os.fsencode(plan.names[number][top:]) + b"\0" for number in numbers))
-    ask(given, batch)
     return batch
 
 
@@ -404,10 +418,27 @@ def judge(given: Any, batch: Batch, trust: Any, token: bytes) -> None:
         raise Stop(REFUSED, f"{TOLD}it is of {said}, and the time-stamp of a record served until {until} alone")
 
 
+def ending_of(path: str) -> bytes:
+    """The last octets of a file, none where they cannot be read."""
+    try:
+        descriptor = os.open(path, READING | os.O_NONBLOCK)
+        with closing_descriptor(descriptor):
+            return os.pread(descriptor, ENDS, max(0, os.fstat(descriptor).st_size - ENDS))
+    except OSError:
+        return b""
+
+
+def without_token(batch: Batch) -> int:
+    """How many records of a batch do not end in its token, as those do that are renewed by it."""
+    last = batch.read(TOKEN)[-ENDS:]
+    return sum(ending_of(path) != last for path in paths_of(batch))
+
+
 def finish(tool: str, given: Any, batch: Batch, address: SplitResult, trust: Any) -> int:
     """Goes on from the request of a batch to its records, and answers how many they are."""
     moment = answered(tool, given, batch, address, partial(judge, given, batch, trust))
     try:
+        check_room(batch, batch.terms["records"], len(names_in(batch)), partial(without_token, batch))
         for part in parts_of(batch):
             renew(given, batch, part, "--token", TOKEN)
     except Stop as stop:
@@ -420,13 +451,43 @@ def finish(tool: str, given: Any, batch: Batch, address: SplitResult, trust: Any
     return count
 
 
-def batches_of(tool: str, given: Any, plan: Plan) -> Iterator[Batch]:
-    """The batches of all groups, each begun once the one before is done."""
+def refusal_of(path: str, algorithm: str) -> str:
+    """Why the program renews a record by no time-stamp for records of this algorithm, "" where nothing is known of that."""
+    try:
+        found = renewal_algorithm(path)
+    except (Unmade, OSError, ValueError) as error:
+        return str(error)
+    return "" if found == algorithm else f"its last chain is by {found}"
+
+
+def tell_refused(tool: str, batch: Batch) -> None:
+    """Names the records for which the program refuses those of a batch: they are not what they were when they were looked at."""
+    for path in paths_of(batch):
+        if reason := refusal_of(path, batch.terms["algorithm"]):
+            tell(tool, f"{shown(path)}: {reason}")
+
+
+def renewed_all(tool: str, given: Any, plan: Plan, address: SplitResult, trust: Any) -> tuple[int, int]:
+    """Has all groups renewed, each once the one before is done, and answers how many records were, and the worst status: where the program
+    refuses those of a group, the others are renewed still."""
+    renewed, worst = 0, plan.worst
     for number, group in enumerate(plan.groups):
+        count = len(group.firsts) + len(group.others)
         if len(plan.groups) > 1:
-            count = len(group.firsts) + len(group.others)
             tell(tool, f"batch {number + 1} of {len(plan.groups)}: {count} records by {group.algorithm}")
-        yield begin(given, plan, group)
+        batch = new_batch(given, plan, group)
+        try:
+            ask(given, batch)
+        except Stop as stop:
+            if stop.status not in (REFUSED, MALFORMED):
+                raise
+            tell(tool, f"{stop.line}: no record of this batch is renewed")
+            tell_refused(tool, batch)
+            worst = max(worst, stop.status)
+            plan.counts["left"] += count
+        else:
+            renewed += finish(tool, given, batch, address, trust)
+    return renewed, worst
 
 
 def counted(plan: Plan, renewed: int, moment: str) -> str:
@@ -443,11 +504,11 @@ def run(tool: str, given: Any, address: SplitResult) -> int:
     trust = module("archive").trust_list(given.trust, False)
     program_of(given)
     check_policy(given)
-    made(given.state)
+    made(given.state, OWN)
     with held(given.state):
         batch = begun(tool, given)
         renewed = 0 if batch is None else finish(tool, given, batch, address, trust)
         plan = planned(tool, given, By(trust, dict(first_ends(given.end)), given.by))
-        renewed += sum(finish(tool, given, one, address, trust) for one in batches_of(tool, given, plan))
-    tell(tool, counted(plan, renewed, given.by))
-    return plan.worst
+        more, worst = renewed_all(tool, given, plan, address, trust)
+    tell(tool, counted(plan, renewed + more, given.by))
+    return worst

@@ -90,8 +90,9 @@ typedef struct cmsproof_answer {
 
 /* A handle of a trust list, and of an answers list, that was read: memory of the library behind a pointer of its own. One of zeros
  * holds none. The caller changes no field and uses no copy of the struct; only the calls that read, share and free a list
- * change what it holds. The calls that check keep up to eight digests of certificates of the trust list's entries in its handle
- * for the next call: they are freed with it, no other handle uses them, and they change no answer. */
+ * change what it holds. cmsproof_check, cmsproof_check_token and cmsproof_stamp_check keep up to eight digests of certificates of
+ * the trust list's entries in its handle for the next of them: they are freed with it, no other handle uses them, and they change no
+ * answer. */
 typedef struct cmsproof_trust {
     void *inside;
     bool held;

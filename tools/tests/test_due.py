@@ -22,7 +22,7 @@ from oracle.identifiers import DIGEST_OIDS, TST_INFO  # noqa: E402
 from samples import hierarchy as h  # noqa: E402
 from samples.building import attribute, digest_attribute, names_2, octets as string, sha, signed_data  # noqa: E402
 from samples.building import stamp_attribute, type_attribute  # noqa: E402
-from test_archive_records import AGAIN, BEGUN, DATA, FILE, MADE, RENEWED, ROWS, record_of  # noqa: E402
+from recorded_world import AGAIN, BEGUN, DATA, FILE, MADE, RENEWED, ROWS, record_of  # noqa: E402
 
 BY, LATER = "20300101000000Z", "20280101000000Z"
 GOOD, TWICE, STRANGE = MADE.record(), MADE.record(times=(BEGUN, RENEWED, AGAIN)), MADE.record(by=MADE.other)

@@ -27,7 +27,7 @@ from oracle.der import element, elements, number, oid, only, sequence  # noqa: E
 from oracle.identifiers import DIGEST_OIDS, TST_INFO  # noqa: E402
 from samples import hierarchy as h  # noqa: E402
 from samples.building import digest_attribute, names_2, octets as string, sha, signed_data, type_attribute  # noqa: E402
-from test_archive_records import AGAIN, BEGUN, FILE, MADE, RENEWED  # noqa: E402
+from recorded_world import AGAIN, BEGUN, FILE, MADE, RENEWED  # noqa: E402
 from test_due import BY, LATER, list_of, record_with, token_of, tsa  # noqa: E402
 from test_stamping import ASKED, CONFIG, REPLY, WithAuthority, other_nonce  # noqa: E402
 

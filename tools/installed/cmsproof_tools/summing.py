@@ -7,10 +7,11 @@ from __future__ import annotations
 
 import hashlib
 import os
+import re
 import sqlite3
 import stat
 import time
-from typing import Iterable, Iterator, NamedTuple, Sequence, Union
+from typing import Iterator, NamedTuple, Sequence, Union
 
 from cmsproof_tools import descriptors
 from cmsproof_tools.evidenced import ENDING
@@ -24,6 +25,8 @@ REACHING = os.O_PATH | os.O_NOFOLLOW | os.O_CLOEXEC
 LONGEST_NAME, LONGEST_PATH = 255, 4095
 # what stands behind the name of a record, at most, while the program writes it
 BESIDE = ".new99"
+# what a name is by which the program writes some record
+WRITING = re.compile(r".*\.ers\.new[0-9]{1,2}", re.DOTALL)
 TABLE = (
     "CREATE TABLE IF NOT EXISTS sums (name BLOB PRIMARY KEY, mark TEXT NOT NULL, steady INTEGER NOT NULL, algorithm TEXT NOT NULL,"
     " digest BLOB NOT NULL) WITHOUT ROWID"
@@ -120,7 +123,7 @@ class Names:
 
     def __init__(self, records: str) -> None:
         """Of records in this folder."""
-        self.records, self.taken = os.fsencode(os.path.abspath(records)), set[str]()
+        self.records, self.folders = os.fsencode(os.path.abspath(records)), set[str]()
         try:
             self.longest = os.pathconf(records, "PC_NAME_MAX")
         except (OSError, ValueError):
@@ -137,14 +140,24 @@ class Names:
             return f"its name is too long to have {ENDING}{BESIDE} behind it, or that of a folder is"
         if len(self.records) + 1 + len(octets) + len(ENDING + BESIDE) > LONGEST_PATH:
             return "the path of its record would be too long"
+        # (folders of such names, a hundred of which are enough, would hinder the record of another file for ever)
+        if any(map(WRITING.fullmatch, parts[:-1])):
+            return "a folder of it has a name by which a record is written"
         for at, part in enumerate(parts[:-1]):
             if part.endswith(ENDING):
-                self.taken.add("/".join(parts[: at + 1]))
+                self.folders.add("/".join(parts[: at + 1]))
         return ""
 
-    def clashing(self, names: Iterable[str]) -> Iterator[str]:
-        """Those of some names whose record would stand in the place of a folder of records. All were looked at before."""
-        return (name for name in names if name + ENDING in self.taken) if self.taken else iter(())
+    def hindered(self, names: Sequence[str]) -> Iterator[tuple[str, str]]:
+        """Those of some names whose records would be in a folder that has the place of the record of another one, with that one. All were
+        looked at before. (Whoever puts a file beside another one so costs that no record.)"""
+        others = {name + ENDING: name for name in names if name + ENDING in self.folders}
+        for name in names if others else ():
+            at = name.find(ENDING + "/")
+            while at >= 0 and name[: at + len(ENDING)] not in others:
+                at = name.find(ENDING + "/", at + 1)
+            if at >= 0:
+                yield name, others[name[: at + len(ENDING)]]
 
 
 class Sums:

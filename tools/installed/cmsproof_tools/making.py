@@ -5,6 +5,7 @@ what was said of the files that are left out of it. Only the program `cmsproof` 
 """
 from __future__ import annotations
 
+import hashlib
 import json
 import os
 from contextlib import ExitStack
@@ -19,6 +20,7 @@ from cmsproof_tools.batches import put_in_place, run_program, settle
 from cmsproof_tools.evidenced import ENDING, NOTHING, records_in
 from cmsproof_tools.folders import files_under
 from cmsproof_tools.progress import Progress
+from cmsproof_tools.rows import seen_here
 from cmsproof_tools.running import DONE, FAILED, REFUSED, USAGE, Started, Stop
 from cmsproof_tools.running import module, one_line, shown, tell, write
 from cmsproof_tools.state import told
@@ -111,13 +113,43 @@ def named(tool: str, given: Any, left: Left) -> list[str]:
     return [name for name in names if name not in left.names]
 
 
+def lost(_: str, by: int = 0) -> Summed:
+    """What is said of a file whose worker was ended."""
+    return Summed("", False, b"", f"its worker was ended by signal {by}" if by else "its worker ended")
+
+
+def sum_elsewhere(tool: str, given: Any, top: int, sums: Sums, names: Sequence[str]) -> list[str]:
+    """Has the workers of Dask compute digests, and answers the names of the files that must be read here. What is kept of a file is how this machine
+    saw it before its name was handed out, and only if the worker that read it saw the same, but for the device, which differs by machine."""
+    handing, seen, here = module("handing"), dict[str, Summed](), list[str]()
+    progress = Progress(tool, len(names), given.progress)
+
+    def look(some: list[str]) -> None:
+        seen.update((name, summing.seen_below(top, name)) for name in some)
+
+    folder, versions = os.path.abspath(given.folder), module("versions").versions_text()
+    terms = summing.Terms(hashlib.sha256(b"").hexdigest(), versions, folder, given.alg)
+    with handing.Cluster(tool, given.dask, handing.Each(b"", terms, lost, look)) as others:
+        for name, one in zip(names, (one for several in others.batches(names) for one in several)):
+            own = seen.pop(name)
+            if is_summed := not one.fault and seen_here(one.mark, own.mark) != "":
+                sums.put(name, own._replace(digest=one.digest))
+            else:
+                here.append(name)
+            progress.steps(["summed" if is_summed else "not summed"])
+    progress.end()
+    if here:
+        progress.put("")
+        tell(tool, f"{len(here)} files are read here, which no worker read as they are here")
+    return here
+
+
 def sum_all(tool: str, given: Any, top: int, sums: Sums, names: Sequence[str], left: Left) -> None:
     """Computes the digests that are not known. A file that cannot be read is left out."""
     due = sums.due(top, names)
+    if given.dask is not None and due:
+        due = sum_elsewhere(tool, given, top, sums, due)
     progress = Progress(tool, len(due), given.progress)
-
-    def lost(_: str, by: int) -> Summed:
-        return Summed("", False, b"", f"its worker was ended by signal {by}")
 
     due_names = module("names").kept(due) if due else due
     with Workers(min(given.jobs, len(due)), lambda name: summing.summed(top, given.alg, name)) as workers:
@@ -283,7 +315,7 @@ def run(tool: str, given: Any, address: SplitResult) -> int:
         if batch.has(SUMS):
             status = finish(tool, given, batch, top, address, trust)
         else:
-            said = f"nothing was sent: all {left} files without a record are left out" if left else "no file is without a record"
-            write("-", f"{shown(given.folder)}: {said}\n".encode())
+            nothing = f"nothing was sent: all {left} files without a record are left out"
+            write("-", f"{shown(given.folder)}: {nothing if left else 'no file is without a record'}\n".encode())
             status = DONE
     return max(status, REFUSED) if left else status

@@ -5,7 +5,7 @@ import argparse
 import os
 from typing import Any
 
-from cmsproof_tools.archive_words import add_ends, jobs_of
+from cmsproof_tools.archive_words import add_dask, add_ends, jobs_of
 from cmsproof_tools.running import Words, module
 
 ABOUT = """Has an authority stamp all files under a folder that have no evidence record (RFC 4998), by one time-stamp, and makes their records.
@@ -66,6 +66,7 @@ def parser_of(tool: str) -> Words:
     parser.add_argument("--alg", choices=ALGORITHMS, default="sha256", metavar="NAME", help=digest)
     jobs = "files that are read at a time; as many as there are processors by default"
     parser.add_argument("--jobs", type=jobs_of, default=len(os.sched_getaffinity(0)), metavar="N", help=jobs)
+    add_dask(parser, "read the files")
     parser.add_argument("folder", metavar="FOLDER", help="the folder of the archive")
     return parser
 

@@ -11,7 +11,8 @@ import re
 import sqlite3
 import stat
 import time
-from typing import Iterator, NamedTuple, Sequence, Union
+from contextlib import contextmanager
+from typing import Any, Callable, Iterator, NamedTuple, Sequence, Union
 
 from cmsproof_tools import descriptors
 from cmsproof_tools.evidenced import ENDING
@@ -90,17 +91,54 @@ def summed(top: int, algorithm: str, name: str) -> Summed:
     return Summed(mark_of(found), found.st_ctime_ns + STEP <= begun, hashed.digest())
 
 
-def mark_below(top: int, name: str) -> str:
-    """What says that a file below a folder is the same; "" of one that is not there, or no regular file."""
+def seen_below(top: int, name: str) -> Summed:
+    """What says that a file below a folder is the same, as `summed`, without its digest; a mark "" of one that is not there, or no regular
+    file."""
+    begun = time.time_ns()
     try:
         reached = reached_below(top, name)
     except (OSError, ValueError):
-        return ""
+        return Summed("", False, b"")
     try:
         found = os.fstat(reached)
-        return mark_of(found) if stat.S_ISREG(found.st_mode) else ""
     finally:
         os.close(reached)
+    is_file = stat.S_ISREG(found.st_mode)
+    return Summed(mark_of(found), found.st_ctime_ns + STEP <= begun, b"") if is_file else Summed("", False, b"")
+
+
+def mark_below(top: int, name: str) -> str:
+    """What says that a file below a folder is the same; "" of one that is not there, or no regular file."""
+    return seen_below(top, name).mark
+
+
+class Terms(NamedTuple):
+    """By what workers elsewhere read files (handing.py): no list, the versions, the archive's folder, and the digest algorithm."""
+
+    trust: str
+    versions: str
+    folder: str
+    algorithm: str
+
+    @contextmanager
+    def task(self, _shared: bytes, _beside: Any) -> Iterator[Callable[[str], Summed]]:
+        """What is done for a name."""
+        try:
+            top = os.open(self.folder, os.O_RDONLY | os.O_DIRECTORY | os.O_CLOEXEC)
+        except OSError as error:
+            unread = Summed("", False, b"", f"it cannot be read: {error.strerror}")
+            yield lambda _: unread
+            return
+        try:
+            yield lambda name: summed(top, self.algorithm, name)
+        finally:
+            os.close(top)
+
+    def is_said(self, one: Any) -> bool:
+        """Whether a worker can say this of a file: a fault, or a digest as long as one."""
+        if not isinstance(one, Summed) or not isinstance(one.mark, str) or not isinstance(one.fault, str):
+            return False
+        return bool(one.fault) or (isinstance(one.digest, bytes) and len(one.digest) == hashlib.new(self.algorithm).digest_size)
 
 
 def line_of(name: str, digest: bytes) -> bytes:

@@ -139,21 +139,16 @@ def sum_elsewhere(tool: str, given: Any, top: int, sums: Sums, names: Sequence[s
             progress.steps(["summed" if is_summed else "not summed"])
     progress.end()
     if here:
-        progress.put("")
         tell(tool, f"{len(here)} files are read here, which no worker read as they are here")
     return here
 
 
-def sum_all(tool: str, given: Any, top: int, sums: Sums, names: Sequence[str], left: Left) -> None:
-    """Computes the digests that are not known. A file that cannot be read is left out."""
-    due = sums.due(top, names)
-    if given.dask is not None and due:
-        due = sum_elsewhere(tool, given, top, sums, due)
+def sum_here(tool: str, given: Any, top: int, sums: Sums, due: list[str], left: Left) -> None:
+    """Computes digests. A file that cannot be read is left out."""
     progress = Progress(tool, len(due), given.progress)
-
-    due_names = module("names").kept(due) if due else due
+    names = module("names").kept(due) if due else due
     with Workers(min(given.jobs, len(due)), lambda name: summing.summed(top, given.alg, name)) as workers:
-        for name, one in zip(due_names, workers.results(due_names, lost)):
+        for name, one in zip(names, workers.results(names, lost)):
             if one.fault:
                 progress.put("")
                 left.put(name, one.fault)
@@ -161,6 +156,15 @@ def sum_all(tool: str, given: Any, top: int, sums: Sums, names: Sequence[str], l
                 sums.put(name, one)
             progress.steps(["unread" if one.fault else "summed"])
     progress.end()
+
+
+def sum_all(tool: str, given: Any, top: int, sums: Sums, names: Sequence[str], left: Left) -> None:
+    """Computes the digests that are not known."""
+    due = sums.due(top, names)
+    if given.dask is not None and due:
+        due = sum_elsewhere(tool, given, top, sums, due)
+    if given.dask is None or due:
+        sum_here(tool, given, top, sums, due, left)
     with told(sums.path):
         sums.commit()
 

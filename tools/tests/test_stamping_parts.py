@@ -160,7 +160,8 @@ class Parts(unittest.TestCase):
         at = os.open(top, os.O_RDONLY | os.O_DIRECTORY)
         self.addCleanup(os.close, at)
         found, batch = summing.summed(at, "sha256", "a"), batches.Batch(str(state), {})
-        given, line = mock.Mock(jobs=1, alg="sha256", progress=False), summing.line_of("a", hashlib.sha256(b"one").digest())
+        given = mock.Mock(jobs=1, alg="sha256", progress=False, dask=None)
+        line = summing.line_of("a", hashlib.sha256(b"one").digest())
         unread, changed = "it cannot be read: Input/output error", "it was changed while the others were read"
         for kept, now, reason in (
             (None, found, ""),

@@ -23,9 +23,9 @@ _cmsproof_options() {
     'cmsproof-verify') echo '--help --version' ;;
     'cmsproof-archive report') echo '--help --version --html --csv --json --known --records --under --only' ;;
     'cmsproof-archive evidence') echo '--help --version --trust --content --sha1 --record --end --at --whole --part --without-content --to --verify --list-of-the-bundle' ;;
-    'cmsproof-archive due') echo '--help --version --trust --months --by --end --jobs --json --files-from --null --progress' ;;
-    'cmsproof-archive stamp') echo '--help --version --into --tsa --state --policy --timeout --program --progress --trust --end --alg --jobs' ;;
-    'cmsproof-archive renew') echo '--help --version --records --trust --months --by --end --tsa --state --policy --timeout --program --progress --jobs' ;;
+    'cmsproof-archive due') echo '--help --version --trust --months --by --end --jobs --dask --json --files-from --null --progress' ;;
+    'cmsproof-archive stamp') echo '--help --version --into --tsa --state --policy --timeout --program --progress --trust --end --alg --jobs --dask' ;;
+    'cmsproof-archive renew') echo '--help --version --records --trust --months --by --end --tsa --state --policy --timeout --program --progress --jobs --dask' ;;
     esac
 }
 
@@ -144,6 +144,7 @@ _cmsproof_values() {
     'cmsproof-archive due --by') echo '' ;;
     'cmsproof-archive due --end') echo '' ;;
     'cmsproof-archive due --jobs') echo '' ;;
+    'cmsproof-archive due --dask') echo '' ;;
     'cmsproof-archive due --files-from') echo files ;;
     'cmsproof-archive stamp --into') echo files ;;
     'cmsproof-archive stamp --tsa') echo '' ;;
@@ -155,6 +156,7 @@ _cmsproof_values() {
     'cmsproof-archive stamp --end') echo '' ;;
     'cmsproof-archive stamp --alg') echo 'sha256 sha384 sha512' ;;
     'cmsproof-archive stamp --jobs') echo '' ;;
+    'cmsproof-archive stamp --dask') echo '' ;;
     'cmsproof-archive renew --records') echo files ;;
     'cmsproof-archive renew --trust') echo files ;;
     'cmsproof-archive renew --months') echo '' ;;
@@ -166,6 +168,7 @@ _cmsproof_values() {
     'cmsproof-archive renew --timeout') echo '' ;;
     'cmsproof-archive renew --program') echo files ;;
     'cmsproof-archive renew --jobs') echo '' ;;
+    'cmsproof-archive renew --dask') echo '' ;;
     *) return 1 ;;
     esac
 }

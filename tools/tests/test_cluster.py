@@ -135,13 +135,13 @@ class Lines(unittest.TestCase):
         self.assertEqual(len(cluster.judge(names, trusted, terms).said), 1)
 
 
-@unittest.skipUnless(THERE, "there is no python3-distributed")
-class Cluster(unittest.TestCase):
-    """A scheduler and its workers, which listen on the loopback alone."""
+class WithWorkers(unittest.TestCase):
+    """A scheduler and its workers, which listen on the loopback alone, and have another folder than the tool."""
 
     def setUp(self):
-        self.folder = folder_of(self)
-        self.number = 0
+        super().setUp()
+        self.folder, self.number = getattr(self, "folder", None) or folder_of(self), 0
+        (self.folder / "workers").mkdir()
         # (a file may end one worker by itself, and one with others)
         self.started("scheduler", "--port", "0", DASK_DISTRIBUTED__SCHEDULER__ALLOWED_FAILURES="0")
         self.address = self.said("scheduler.0", r"Scheduler at: +(tcp://127\.0\.0\.1:[0-9]+)")
@@ -151,7 +151,7 @@ class Cluster(unittest.TestCase):
         command = [PYTHON, "-m", f"distributed.cli.dask_{what}", "--host", "127.0.0.1", "--no-dashboard", *words]
         with open(self.folder / f"{what}.{self.number}", "wb") as log:
             environment = {**os.environ, "PYTHONPATH": str(modules), **others}
-            process = subprocess.Popen(command, stdout=log, stderr=log, env=environment, cwd=self.folder)
+            process = subprocess.Popen(command, stdout=log, stderr=log, env=environment, cwd=self.folder / "workers")
         self.number += 1
         self.addCleanup(process.wait, 20)
         self.addCleanup(process.kill)
@@ -173,6 +173,23 @@ class Cluster(unittest.TestCase):
             time.sleep(0.1)
         raise AssertionError((self.folder / log).read_text())
 
+    def other_version(self):
+        """A copy of the modules that says that it is another version."""
+        copy = self.folder / "other"
+        shutil.copytree(MODULES, copy)
+        text = (copy / "cmsproof_tools" / "__init__.py").read_text()
+        (copy / "cmsproof_tools" / "__init__.py").write_text(re.sub(r'VERSION = ".*"', 'VERSION = "0.0.1"', text))
+        return copy
+
+    def begin_with(self, code):
+        """Has the workers that find this test's folder begin with some code."""
+        (self.folder / "sitecustomize.py").write_text(code + "\n")
+
+
+@unittest.skipUnless(THERE, "there is no python3-distributed")
+class Cluster(WithWorkers):
+    """What is checked by workers."""
+
     def command(self, *words):
         """The words of a run."""
         return [PYTHON, INSTALLED / "cmsproof-archive", "--trust", TRUST, "--dask", self.address, *words]
@@ -181,14 +198,6 @@ class Cluster(unittest.TestCase):
         """The status of a run, its lines and what it says on standard error."""
         done = subprocess.run(self.command(*words), cwd=cwd or self.folder, capture_output=True, check=False, timeout=120)
         return done.returncode, done.stdout, done.stderr.decode()
-
-    def other_version(self):
-        """A copy of the modules that says that it is another version."""
-        copy = self.folder / "other"
-        shutil.copytree(MODULES, copy)
-        text = (copy / "cmsproof_tools" / "__init__.py").read_text()
-        (copy / "cmsproof_tools" / "__init__.py").write_text(re.sub(r'VERSION = ".*"', 'VERSION = "0.0.1"', text))
-        return copy
 
     def test_the_same_lines_and_rows_and_a_worker_of_another_version(self):
         names = []
@@ -250,10 +259,6 @@ class Cluster(unittest.TestCase):
         self.assertEqual(
             [line.partition(": ")[0] for line in lines], [r"two.pem\x20block 1", "two.pem block 2", r"mixed.eml\x20part 1"]
         )
-
-    def begin_with(self, code):
-        """Has the workers that find this test's folder begin with some code."""
-        (self.folder / "sitecustomize.py").write_text(code + "\n")
 
     def test_workers_that_leave_files(self):
         """What takes them long they leave to others."""

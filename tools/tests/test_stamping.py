@@ -251,41 +251,103 @@ class Stamped(WithAuthority):
         status, out, err = run_tool("cmsproof-archive", *words, said=given, cwd=self.folder)
         self.assertEqual((status, out.count(b": evidenced ")), (0, len(names)), err)
 
+    def assert_left(self, found, expected, records, status=1):
+        """These files are left out, each for its reason, and the others are stamped."""
+        told, lines, err = found
+        reasons = [f"cmsproof-archive stamp: files/{name}: {reason}\n" for name, reason in expected]
+        count = [f"cmsproof-archive stamp: {len(expected)} files without a record are left out\n"] if expected else []
+        said = [line + "\n" for line in err.splitlines() if "have a record already" not in line]
+        self.assertEqual((told, sorted(said)), (status, sorted(reasons + count)), err)
+        self.assertEqual(self.records(), sorted(name + b".ers" for name in records))
+
+    FOUR = (b"a", b"b/c.tif", b"b/d", b"e")
+
     def test_names_that_have_no_record(self):
-        for name, reason in (
-            (b"\xff", "its name is not UTF-8"),
-            (b"n" * 246, "its name is too long to have .ers.new99 behind it"),
-            (b"a.ers/x", None),
-        ):
+        """They cost no other file its record, and have one once they have another name."""
+        long, deep = "n" * 246, "/".join(["d" * 200] * 21)
+        behind = "its name is too long to have .ers.new99 behind it, or that of a folder is"
+        writing = "a folder of it has a name by which a record is written"
+        left = [
+            ("\\udcff", "its name is not UTF-8"),
+            ("\\udced\\udca0\\udc80/x", "its name is not UTF-8"),
+            (long, behind),
+            ("x.ers.new0/y", writing),
+            ("z\\n.ers.new99/y/z", writing),
+            (deep, "the path of its record would be too long"),
+        ]
+        for name in (b"\xff", b"\xed\xa0\x80/x", long.encode(), b"x.ers.new0/y", b"z\n.ers.new99/y/z"):
             self.put(b"files/" + name)
-            status, lines, err = self.stamp()
-            self.assertEqual((status, lines), (1, []), err)
-            self.assertIn(": it can have no record: ", err)
-            self.assertIn(reason or "files/a: it can have no record: a folder is in its place", err)
-            self.assertIn("1 files can have no record: nothing was sent\n", err)
-            self.assert_nothing_made(0)
-            os.remove(os.fsencode(self.folder) + b"/files/" + name)
-        os.rmdir(self.folder / "files" / "a.ers")
-        (self.folder / "records").mkdir(exist_ok=True), os.symlink("/etc", self.folder / "records" / "b")
-        status, _, err = self.stamp()
-        self.assertEqual((status, err.count("in the place of its record is a link")), (1, 2), err)
-        self.assertEqual(len(self.authority.asked), 0)
+        at = os.open(self.folder / "files", os.O_RDONLY)
+        for part in deep.split("/")[:-1]:
+            os.mkdir(part, dir_fd=at)
+            at, above = os.open(part, os.O_RDONLY, dir_fd=at), at
+            os.close(above)
+        os.close(os.open("d" * 200, os.O_WRONLY | os.O_CREAT, dir_fd=at)), os.close(at)
+        good = [b"x", b"x.ers.new1", b"x.ers.new100/y", b".ers/x", b"n" * 245]
+        good += [b"\xef\xbf\xbf", b"\xf4\x8f\xbf\xbf", b"\x01\x7f"]
+        for name in good:
+            self.put(b"files/" + name)
+        found = self.stamp()
+        self.assertRegex(found[1][0], "^files: 12 records of [0-9]{14}Z$")
+        left = [(name, f"it can have no record: {reason}") for name, reason in left]
+        self.assert_left(found, left, [*self.FOUR, *good])
+        self.assertEqual(len(self.authority.asked), 1)
+        # with them alone nothing is sent
+        found = self.stamp()
+        self.assertEqual(found[1], ["files: nothing was sent: all 6 files without a record are left out"])
+        self.assert_left(found, left, [*self.FOUR, *good])
+        self.assertEqual(len(self.authority.asked), 1)
+        os.rename(self.folder / "files" / "x.ers.new0", self.folder / "away")
+        os.rename(self.folder / "files" / long, self.folder / "files" / ("m" + long[2:]))
+        subprocess.run(["rm", "-r", self.folder / "files" / ("d" * 200)], check=True)
+        os.rename(os.fsencode(self.folder) + b"/files/\xff", os.fsencode(self.folder) + b"/files/y")
+        found = self.stamp()
+        self.assertRegex(found[1][0], "^files: 2 records of ")
+        self.assert_left(found, [left[1], left[4]], [*self.FOUR, *good, b"y", b"m" + long[2:].encode()])
+
+    def test_names_that_hinder_each_other(self):
+        """A file `x` and one in a folder `x.ers`: whoever puts that there keeps `x` from no record; and what has a record keeps it."""
+        files = ["x.ers/y", "x.ers/y.ers/z", "x.ers/z/y.ers/z", "p/q", "p/q.ers/r.ers/s", "p/q.ers/r"]
+        files += ["v.ers/w", "b.ers/c", "a.ers/b"]
+        for name in ("x", *files):
+            self.put(f"files/{name}")
+        by = "it can have no record: that of files/{} is in the place of its record's folder".format
+        left = [(name, by("x")) for name in files[:3]] + [(name, by("p/q")) for name in files[4:6]] + [("a.ers/b", by("a"))]
+        good = [*self.FOUR, b"x", b"p/q", b"v.ers/w", b"b.ers/c"]
+        self.assert_left(self.stamp(), left, good)
+        # a folder that has records already is in the way of a file that comes later, and the other way around
+        self.put("files/v"), os.remove(self.folder / "files" / "x")
+        there, nowhere = "in the place of its record is no regular file", "a file is in the place of its record's folder"
+        left = [("v", f"it can have no record: {there}")] + [(name, f"it can have no record: {nowhere}") for name, _ in left]
+        found = self.stamp()
+        self.assertEqual(found[1], ["files: nothing was sent: all 7 files without a record are left out"])
+        self.assert_left(found, left, good)
+        # once the cause is gone, they have records
+        os.remove(self.folder / "records" / "x.ers"), os.remove(self.folder / "files" / "v")
+        os.rename(self.folder / "files" / "p" / "q.ers", self.folder / "files" / "p" / "q_ers")
+        os.rename(self.folder / "files" / "a.ers", self.folder / "files" / "a_ers")
+        good = [*(name for name in good if name != b"x"), b"x.ers/y.ers/z", b"x.ers/z/y.ers/z", b"p/q_ers/r", b"a_ers/b"]
+        found = self.stamp()
+        both = [("x.ers/y.ers/z", by("x.ers/y")), ("p/q_ers/r.ers/s", by("p/q_ers/r"))]
+        good = [*(name for name in good if name != b"x.ers/y.ers/z"), b"x.ers/y"]
+        self.assert_left(found, both, good)
+        self.assertEqual(len(self.authority.asked), 2)
 
     def test_what_is_in_the_way(self):
-        """A file where the folder of a record must be, as another's record: that is seen before anything is sent."""
-        self.assertEqual(self.stamp()[0], 0)
-        (self.folder / "records" / "n").write_bytes(b"")
-        for name in ("a.ers/x", "n/x"):
-            self.put(f"files/{name}")
-            status, lines, err = self.stamp()
-            self.assertEqual((status, lines, len(self.authority.asked)), (1, [], 1), err)
-            self.assertIn(f"files/{name}: it can have no record: a file is in the place of its record's folder\n", err)
-            self.assertIn("1 files can have no record: nothing was sent\n", err)
-            os.remove(self.folder / "files" / name), os.rmdir(self.folder / "files" / name.split("/")[0])
+        """A file or a link where the folder of a record must be: what has its record there is left out."""
+        os.makedirs(self.folder / "records"), os.symlink("/etc", self.folder / "records" / "b")
+        self.put("records/n"), self.put("files/n/x")
+        left = [(f"b/{name}", "it can have no record: in the place of its record is a link") for name in ("c.tif", "d")]
+        left += [("n/x", "it can have no record: a file is in the place of its record's folder")]
+        found = self.stamp()
+        self.assertRegex(found[1][0], "^files: 2 records of ")
+        os.remove(self.folder / "records" / "b"), os.remove(self.folder / "records" / "n")
+        self.assert_left(found, left, [b"a", b"e"])
+        self.assert_left(self.stamp(), [], [*self.FOUR, b"n/x"], 0)
         # a record that is there is one, whatever its name
         self.put(b"files/" + b"n" * 251), self.put(b"records/" + b"n" * 251 + b".ers")
         status, _, err = self.stamp()
-        self.assertEqual((status, "5 files have a record already" in err), (0, True), err)
+        self.assertEqual((status, "6 files have a record already" in err), (0, True), err)
 
     def test_links_and_devices(self):
         os.symlink("a", self.folder / "files" / "link"), os.symlink("/etc", self.folder / "files" / "folder")
@@ -574,12 +636,32 @@ class GoneOn(WithAuthority):
         (self.folder / "changed.py").write_text(code)
         words = [sys.executable, self.folder / "changed.py", *map(str, self.words())]
         done = subprocess.run(words, cwd=self.folder, capture_output=True, check=False, text=True)
-        self.assertEqual(done.returncode, 4, done.stderr)
-        self.assertIn("files/a: it was changed while it was read\n", done.stderr)
-        self.assertIn("1 files could not be read: nothing was sent; run this again\n", done.stderr)
-        self.assert_nothing_made(0)
+        self.assertEqual(done.returncode, 1, done.stderr)
+        self.assertRegex(done.stdout, "^files: 3 records of ")
+        said = ["files/a: it was changed while it was read", "1 files without a record are left out"]
+        self.assertEqual(done.stderr, "".join(f"cmsproof-archive stamp: {line}\n" for line in said))
+        self.assertEqual(self.records(), [b"b/c.tif.ers", b"b/d.ers", b"e.ers"])
         self.assertEqual(self.stamp()[0], 0)
         self.assert_records(4)
+
+    def test_what_was_left_out_when_a_batch_was_begun(self):
+        """Whoever goes on with it says it again, and stamps no other files by it."""
+        self.put(b"files/\xff\n: x"), self.put("files/x.ers/y"), self.put("files/x")
+        self.authority.answer = lambda *_: (503, {}, b"")
+        status, lines, err = self.stamp()
+        said = err.splitlines()
+        self.assertEqual((status, lines, len(said)), (4, [], 4), err)
+        self.assertIn(r"files/\udcff\n:\x20x: it can have no record: its name is not UTF-8", said[0])
+        self.assertTrue(said[2].endswith("stamp: 2 files without a record are left out"), err)
+        os.remove(os.fsencode(self.folder) + b"/files/\xff\n: x"), self.put("files/new")
+        self.authority.answer = self.authority.usual
+        status, lines, err = self.stamp()
+        self.assertEqual((status, err.splitlines()), (1, said[:3]), err)
+        self.assertRegex(lines[0], "^files: 5 records of ")
+        self.assertEqual((len(self.authority.asked), self.authority.asked[0]), (2, self.authority.asked[1]))
+        os.rename(self.folder / "files" / "x.ers", self.folder / "files" / "y")
+        self.assertEqual(self.stamp()[0], 0)
+        self.assert_records(7)
 
     def test_digests_are_not_computed_again(self):
         """But where a file changed, or may have changed without a trace."""
@@ -835,15 +917,19 @@ class GoneOn(WithAuthority):
         (self.folder / "records").mkdir()
         for path in ("records", "."):
             os.chmod(self.folder / path, 0o777)
-        os.chmod(self.folder / "files" / "a", 0)
-        status, _, err = self.stamp(**who)
-        self.assertEqual(status, 4)
-        self.assertIn("files/a: it cannot be read: Permission denied\n", err)
-        os.chmod(self.folder / "files" / "a", 0o644), os.chmod(self.folder / "files" / "b", 0)
-        status, _, err = self.stamp(**who)
-        self.assertEqual(status, 4)
-        self.assertIn("files/b: it is a folder that cannot be listed\n", err)
-        os.chmod(self.folder / "files" / "b", 0o755), os.chmod(self.folder / "records", 0o555)
+        os.chmod(self.folder / "files" / "a", 0), os.chmod(self.folder / "files" / "b", 0)
+        told = ["files/a: it cannot be read: Permission denied", "files/b: it is a folder that cannot be listed"]
+        told = [f"cmsproof-archive stamp: {line}\n" for line in (*told, "2 files without a record are left out")]
+        first = ["--into", "others", "--state", "first"]
+        for words, line in ((first, "1 records of [0-9Z]+$"), ([], "nothing was sent: all 2 ")):
+            status, lines, err = self.stamp(*words, **who)
+            self.assertEqual((status, [one for one in told if one not in err]), (1, []), err)
+            self.assertRegex(lines[0], "^files: " + line)
+            self.assertEqual(len(self.authority.asked), 1)
+            shutil.copyfile(self.folder / "others" / "e.ers", self.folder / "records" / "e.ers")
+        os.remove(self.folder / "records" / "e.ers"), self.authority.asked.clear()
+        os.chmod(self.folder / "files" / "a", 0o644), os.chmod(self.folder / "files" / "b", 0o755)
+        os.chmod(self.folder / "records", 0o555)
         for _ in range(2):
             status, _, err = self.stamp(**who)
             self.assertEqual((status, err), (4, "cmsproof-archive: failed write records: no record can be put there\n"))

@@ -15,7 +15,7 @@ from making import NOBODY, folder_of, need_tools
 need_tools()
 
 import cmsproof  # noqa: E402
-from cmsproof_tools import authority, batches, making, summing  # noqa: E402
+from cmsproof_tools import authority, batches, folders, making, summing  # noqa: E402
 from cmsproof_tools.running import Stop  # noqa: E402
 from test_stamping import ASKED, Authority  # noqa: E402
 
@@ -142,10 +142,54 @@ class Parts(unittest.TestCase):
             ("d" * 256 + "/n", False),
             ("\udcff", False),
             ("\udcff/n", False),
+            ("n.ers/n", True),
+            ("n.ers.new0", True),
+            ("n.ers.new0/n", False),
+            ("d/\n.ers.new99/d/n", False),
+            ("n.ers.new100/n", True),
+            ("n.ers.new/n", True),
             (f"{deep}/{'n' * (4095 - 9 - 4000 - 10)}", True),
             (f"{deep}/{'n' * (4095 - 9 - 4000 - 9)}", False),
         ):
             self.assertEqual(fit.fault(name) == "", fits, name)
+
+    def test_which_files_are_left_out(self):
+        """Those of which it is not known that their octets were read in this run, or are as they were: whatever an earlier run kept of them."""
+        top, state = folder_of(self), folder_of(self)
+        (top / "a").write_bytes(b"one")
+        at = os.open(top, os.O_RDONLY | os.O_DIRECTORY)
+        self.addCleanup(os.close, at)
+        found, batch = summing.summed(at, "sha256", "a"), batches.Batch(str(state), {})
+        given = mock.Mock(jobs=1, alg="sha256", progress=False, dask=None)
+        line = summing.line_of("a", hashlib.sha256(b"one").digest())
+        unread, changed = "it cannot be read: Input/output error", "it was changed while the others were read"
+        for kept, now, reason in (
+            (None, found, ""),
+            (found, found, ""),
+            (None, found._replace(fault=unread), unread),
+            (found, found._replace(fault=unread), unread),
+            (None, found._replace(mark="3 0 0 0 0"), changed),
+            (found, found._replace(mark="3 0 0 0 0"), changed),
+            (found._replace(steady=True), found._replace(fault=unread), ""),
+        ):
+            left, database = making.Left("tool", "files"), state / "sums.db"
+            database.unlink(missing_ok=True)
+            with summing.Sums(str(database), "sha256") as sums, mock.patch.object(making, "tell") as tell:
+                if kept is not None:
+                    sums.put("a", kept), sums.commit()
+                with mock.patch.object(making.summing, "summed", return_value=now):
+                    making.sum_all("tool", given, at, sums, ["a"], left)
+                count = making.write_sums(batch, at, sums, ["a"], left)
+            self.assertEqual((count, (state / "sums.new").read_bytes()), (0, b"") if reason else (1, line), (kept, now))
+            self.assertEqual([one.args for one in tell.call_args_list], [("tool", f"files/a: {reason}")] if reason else [])
+
+    def test_a_name_that_is_listed_twice(self):
+        """As one can be that is renamed meanwhile: of two lines for one file there would be no records."""
+        top = folder_of(self)
+        (top / "a").write_bytes(b""), (top / "b").mkdir(), (top / "b" / "a").write_bytes(b"")
+        listed = os.listdir
+        with mock.patch.object(folders.os, "listdir", side_effect=lambda at: listed(at) * 2):
+            self.assertEqual(list(folders.files_under(str(top), self.fail)), [str(top / "a"), str(top / "b" / "a")])
 
     def test_lines_of_the_program(self):
         """A name in one is shown as names are: it is no other line, and has no part of one."""

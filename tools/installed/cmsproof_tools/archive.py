@@ -6,6 +6,7 @@ import os
 import sys
 from contextlib import ExitStack
 from functools import partial
+from itertools import chain
 from typing import TYPE_CHECKING, Any, Iterable, Sequence
 
 from cmsproof import ListRefused, TrustList
@@ -107,6 +108,18 @@ def trust_by(tool: str, given: argparse.Namespace, named: TrustList | None, name
     if given.write_trust is not None:
         write(given.write_trust, made.text)
     return made
+
+
+def own_among(names: Iterable[str]) -> list[str]:
+    """Those of some names that name descriptors of this process."""
+    places = (name for name in names if name.startswith(PLACES))
+    return list(dict.fromkeys(name for name in places if descriptors.number_named(name) is not None))
+
+
+def check_elsewhere(names: Iterable[str]) -> None:
+    """Ends the tool where a name names a descriptor of this process."""
+    for name in own_among(names):
+        raise Stop(USAGE, f"{shown(name)} is a descriptor, which workers of Dask do not have")
 
 
 def print_lines(tool: str, several: list[Told]) -> None:
@@ -259,24 +272,21 @@ def resumed(tool: str, given: Any, stack: ExitStack, work: Work, known: Known | 
 
 def outcomes(tool: str, given: Any, work: Work, names: Sequence[str], stack: ExitStack) -> Iterable[list[Told]]:
     """What is said of each file, of some at a time, by workers of this machine or of others."""
-    # What names a descriptor is opened before there are workers, which have others.
-    places = (name for several in (names, work.pairs.named.values()) for name in several if name.startswith(PLACES))
-    own = list(dict.fromkeys(name for name in places if descriptors.number_named(name) is not None))
     line_of, is_known = json_lines if given.json else text_lines, given.known is not None
     told = partial(told_of, line_of=line_of, is_kept=work.noting is not None, is_known=is_known)
     if given.dask is None:
-        work.opened.update({name: opened_now(name) for name in own})
+        # What names a descriptor is opened before there are workers, which have others.
+        work.opened.update({name: opened_now(name) for name in own_among(chain(names, work.pairs.named.values()))})
         done, judge = partial(all_told, work, line_of, is_known=is_known), partial(outcomes_of_several, work)
         workers = Workers(min(given.jobs, len(names)), partial(outcomes_of, work), done, judge)
         return stack.enter_context(workers).batches(names, lambda name, by: told(lost(name, by)))
-    if own:
-        raise Stop(USAGE, f"{shown(own[0])} is a descriptor, which workers of Dask do not have")
+    check_elsewhere(chain(names, work.pairs.named.values()))
     cluster = module("cluster")
     terms = cluster.terms_of(work)._replace(json=given.json, known=is_known)
     if not names:
         return []
-    others = stack.enter_context(cluster.Cluster(tool, given.dask, work.trust.text, terms))
-    found: Iterable[list[Told]] = others.batches(names, work.contents, told)
+    others = stack.enter_context(cluster.Cluster(tool, given.dask, cluster.Checks(work.trust.text, terms, work.contents)))
+    found: Iterable[list[Told]] = cluster.batches(others, names, told)
     return found
 
 

@@ -127,6 +127,11 @@ def add_records(parser: Words) -> None:
     add_judging(parser, "--records")
 
 
+def add_dask(parser: Words, done: str) -> None:
+    """The word by which others do the work."""
+    parser.add_argument("--dask", metavar="ADDRESS", help=f"let the workers of this scheduler of Dask {done}")
+
+
 def add_state(parser: Words) -> None:
     """The words that go with a state."""
     kept = "a file with a row for each file: only what changed is judged again"
@@ -154,7 +159,7 @@ def parser_of(tool: str) -> Words:
     parser.add_argument("--files-from", action="append", default=[], metavar="FILE", help="a list of names, one on each line")
     parser.add_argument("--null", action="store_true", help="names in lists end in an octet 00, as find -print0 writes them")
     add_state(parser)
-    parser.add_argument("--dask", metavar="ADDRESS", help="let the workers of this scheduler of Dask check the files")
+    add_dask(parser, "check the files")
     progress = "say how far the work is, also where standard error is not a terminal"
     parser.add_argument("--progress", action="store_true", help=progress)
     parser.add_argument("--log", metavar="FILE", help="add a line of JSON to this file for each thousand files")

@@ -5,12 +5,14 @@ import argparse
 import json
 import os
 import time
+from _thread import get_ident
 from calendar import monthrange
 from collections import Counter
-from functools import partial
-from typing import TYPE_CHECKING, Any, Callable, NamedTuple, Sequence, TypeVar
+from contextlib import ExitStack, contextmanager
+from functools import lru_cache, partial
+from typing import TYPE_CHECKING, Any, Callable, Iterable, Iterator, NamedTuple, Sequence, TypeVar
 
-from cmsproof_tools.archive_words import add_ends, jobs_of, time_of
+from cmsproof_tools.archive_words import add_dask, add_ends, jobs_of, time_of
 from cmsproof_tools.evidenced import ENDING, first_ends
 from cmsproof_tools.outcomes import named
 from cmsproof_tools.pairs import is_regular
@@ -71,6 +73,7 @@ def parser_of(tool: str) -> Words:
     add_moment(parser)
     jobs = "records that are judged at a time; as many as there are processors by default"
     parser.add_argument("--jobs", type=jobs_of, default=len(os.sched_getaffinity(0)), metavar="N", help=jobs)
+    add_dask(parser, "judge the records")
     json_help = "a line of JSON for each record that is due, and a last one about all"
     parser.add_argument("--json", action="store_true", help=json_help)
     parser.add_argument("--files-from", action="append", default=[], metavar="FILE", help="a list of names, one on each line")
@@ -145,29 +148,31 @@ def line_of(name: str, status: int, at: str, reason: str, is_json: bool) -> byte
     return json.dumps(said).encode() + b"\n"
 
 
-def said_of(unfit: dict[str, str], name: str, judge: Callable[[Buffer], Said]) -> Said:
-    """What is said of the octets of a record. Raises Unjudged, with the status and the reason, where nothing can be said."""
+def said_of(unfit: dict[str, str], name: str, judge: Callable[[Buffer], Said], folder: str = "") -> Said:
+    """What is said of the octets of a record, whose name is one in a folder, by default in that of this process. Raises Unjudged, with the status
+    and the reason, where nothing can be said."""
     lasting, checking = module("lasting"), module("checking")
     try:
         if name in unfit:
             raise lasting.Unjudged(FAILED, f"it is {unfit[name]}, and is not read")
-        with checking.opened(name) as file:
+        with checking.opened(os.path.join(folder, name)) as file:
             return judge(file.octets)
     except lasting.Unjudged:
         raise
     except MemoryError as error:
         raise lasting.Unjudged(FAILED, "failed memory") from error
     except checking.Unread as error:
-        raise lasting.Unjudged(FAILED, str(error)) from error
+        line = str(error).replace(shown(os.path.join(folder, name)), shown(name), 1)
+        raise lasting.Unjudged(FAILED, line) from error
     except Exception as error:  # a fault of the tool itself
         raise lasting.Unjudged(FAILED, f"failed due: {type(error).__name__}: {error}") from error
 
 
-def judged(by: Any, unfit: dict[str, str], is_json: bool, name: str) -> Told:
-    """What is said of a record."""
+def judged(by: Any, unfit: dict[str, str], is_json: bool, name: str, folder: str = "") -> Told:
+    """What is said of a record, whose name is one in this folder."""
     lasting = module("lasting")
     try:
-        end = said_of(unfit, name, lambda octets: str(lasting.end_of(octets, by)))
+        end = said_of(unfit, name, lambda octets: str(lasting.end_of(octets, by)), folder)
     except lasting.Unjudged as error:
         return Told(["unjudged"], error.status, line_of(name, error.status, "now", str(error), is_json))
     if in_order(by.moment, end):
@@ -191,13 +196,72 @@ def lost(is_json: bool, name: str, by: int) -> Told:
     return failed(is_json, name, f"failed worker: it was ended by signal {by}" if by else "failed worker: it ended")
 
 
-def told(tool: str, given: Any, by: Any, names: Sequence[str], found: Named) -> int:
-    """Writes the line of each record that is due, says how many there are of each kind, and answers the worst status."""
+@lru_cache(maxsize=64)
+def by_of(trusted: bytes, ends: tuple[tuple[str, str], ...], moment: str, _thread: int) -> Any:
+    """By what records are judged, made once in each thread of a worker elsewhere, since it keeps what was said last."""
+    from cmsproof import TrustList
+
+    return module("lasting").By(TrustList(trusted), dict(ends), moment)
+
+
+class Terms(NamedTuple):
+    """By what workers elsewhere judge records (handing.py): the SHA-256 of the trust list, the versions, the folder of relative names, and what was
+    said of ends, of the moment and of lines."""
+
+    trust: str
+    versions: str
+    folder: str
+    ends: tuple[tuple[str, str], ...]
+    moment: str
+    is_json: bool = False
+
+    def by(self, trusted: bytes) -> Any:
+        """By what this thread judges."""
+        return by_of(trusted, self.ends, self.moment, get_ident())
+
+    @contextmanager
+    def task(self, trusted: bytes, unfit: dict[str, str]) -> Iterator[Callable[[str], Told]]:
+        """What is done for a name."""
+        yield partial(judged, self.by(trusted), unfit, self.is_json, folder=self.folder)
+
+    def is_said(self, one: Any) -> bool:
+        """Whether a worker can say this of a record."""
+        return isinstance(one, Told) and len(one.words) == 1
+
+
+def terms_of(by: Any, is_json: bool = False) -> Terms:
+    """The terms of workers elsewhere. (They have another folder: names are those from the root there.)"""
+    import hashlib
+
+    versions, ends = module("versions").versions_text(), tuple(by.ends.items())
+    return Terms(hashlib.sha256(by.trust.text).hexdigest(), versions, os.getcwd(), ends, by.moment, is_json)
+
+
+def unfit_among(unfit: dict[str, str], names: Iterable[str]) -> dict[str, str]:
+    """What is said of those of some names that are no regular files."""
+    return {name: unfit[name] for name in names if name in unfit}
+
+
+def batches(tool: str, given: Any, by: Any, names: Sequence[str], found: Named, stack: ExitStack) -> Iterable[list[Told]]:
+    """What is said of all records, of some at a time, by workers of this machine or of others."""
     from cmsproof_tools.workers import Workers
 
+    if given.dask is None:
+        workers = Workers(min(given.jobs, len(names)), partial(judged, by, found.unfit, given.json), joined)
+        return stack.enter_context(workers).batches(names, partial(lost, given.json))
+    module("archive").check_elsewhere(names)
+    handing = module("handing")
+    lost_there, unfit = partial(lost, given.json, by=0), partial(unfit_among, found.unfit)
+    task = handing.Each(by.trust.text, terms_of(by, given.json), lost_there, unfit)
+    several: Iterable[list[Told]] = stack.enter_context(handing.Cluster(tool, given.dask, task)).batches(names)
+    return ([joined(some)[0][1]] for some in several)
+
+
+def told(tool: str, given: Any, by: Any, names: Sequence[str], found: Named) -> int:
+    """Writes the line of each record that is due, says how many there are of each kind, and answers the worst status."""
     progress, worst = Progress(tool, len(names), given.progress), DONE
-    with Workers(min(given.jobs, len(names)), partial(judged, by, found.unfit, given.json), joined) as workers:
-        for several in workers.batches(names, partial(lost, given.json)):
+    with ExitStack() as stack:
+        for several in batches(tool, given, by, names, found, stack):
             progress.put("")
             write("-", b"".join(one.lines for one in several))
             progress.steps([word for one in several for word in one.words])

@@ -19,7 +19,8 @@ class Open:
     def __init__(self, name: str, descriptor: int) -> None:
         self.name, self.descriptor = name, descriptor
         try:
-            self.rest = sorted(os.listdir(descriptor), key=os.fsencode, reverse=True)
+            # (one that is renamed meanwhile can be listed twice)
+            self.rest = sorted(set(os.listdir(descriptor)), key=os.fsencode, reverse=True)
         except OSError:
             os.close(descriptor)
             raise

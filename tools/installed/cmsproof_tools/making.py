@@ -1,10 +1,11 @@
 """How `cmsproof-archive stamp` goes on: from the files of an archive that have no evidence record to their records.
 
-A batch (batches.py) is what one time-stamp is over: its `sums` are the digests of these files, which stand there before the request. Only the
-program `cmsproof` makes a record.
+A batch (batches.py) is what one time-stamp is over: its `sums` are the digests of these files, which stand there before the request, and `left`
+what was said of the files that are left out of it. Only the program `cmsproof` makes a record.
 """
 from __future__ import annotations
 
+import hashlib
 import json
 import os
 from contextlib import ExitStack
@@ -15,10 +16,11 @@ from urllib.parse import SplitResult
 from cmsproof_tools import summing
 from cmsproof_tools.batches import CHOSEN, DONE_FILE, NEW, OWN, POSITIVE, REQUEST, TERMS, TOKEN, Batch
 from cmsproof_tools.batches import answered, check_room, check_writable, held, judge, kept_as, last_in, made, program_of
-from cmsproof_tools.batches import put_in_place, run_program, settle, sync
+from cmsproof_tools.batches import put_in_place, run_program, settle
 from cmsproof_tools.evidenced import ENDING, NOTHING, records_in
 from cmsproof_tools.folders import files_under
 from cmsproof_tools.progress import Progress
+from cmsproof_tools.rows import seen_here
 from cmsproof_tools.running import DONE, FAILED, REFUSED, USAGE, Started, Stop
 from cmsproof_tools.running import module, one_line, shown, tell, write
 from cmsproof_tools.state import told
@@ -26,7 +28,20 @@ from cmsproof_tools.summing import Names, Summed, Sums
 from cmsproof_tools.workers import Workers
 from cmsproof_tools.writing import written
 
-SUMS = "sums"
+SUMS, LEFT = "sums", "left"
+
+
+class Left:
+    """The files that are left out of a batch: their names, and what is said of each."""
+
+    def __init__(self, tool: str, folder: str) -> None:
+        self.tool, self.folder, self.names, self.lines = tool, folder, set[str](), list[str]()
+
+    def put(self, name: str, reason: str) -> None:
+        """Leaves a file out, and says why."""
+        self.names.add(name)
+        self.lines.append(f"{shown(os.path.join(self.folder, name))}: {reason}")
+        tell(self.tool, self.lines[-1])
 
 
 def terms_of(given: Any) -> dict[str, str]:
@@ -73,10 +88,11 @@ def in_the_way(place: str) -> str:
     return ""
 
 
-def named(tool: str, given: Any) -> list[str]:
-    """The names of the files that have no record. Ends the tool, before anything is sent, where one can have none."""
+def named(tool: str, given: Any, left: Left) -> list[str]:
+    """The names of the files that have no record and can have one. Those that can have none are left out: where the record of one has the place
+    of the folder of another's, that other one."""
     records, fit = records_in(given.into, given.folder), Names(given.into)
-    names, faults, kept = list[str](), 0, 0
+    names, kept = list[str](), 0
     for name in files_of(tool, given):
         place = os.path.join(given.into, name + ENDING)
         fault, lacking = fit.fault(name), records.lacking(place)
@@ -86,74 +102,124 @@ def named(tool: str, given: Any) -> list[str]:
         if not fault:
             fault = in_the_way(place) if lacking == NOTHING else f"in the place of its record is {lacking}"
         if fault:
-            faults += 1
-            tell(tool, f"{shown(os.path.join(given.folder, name))}: it can have no record: {fault}")
+            left.put(name, f"it can have no record: {fault}")
         else:
             names.append(name)
-    for name in fit.clashing(names):
-        faults += 1
-        tell(tool, f"{shown(os.path.join(given.folder, name))}: it can have no record: a folder is in its place")
+    for name, other in fit.hindered(names):
+        where = shown(os.path.join(given.folder, other))
+        left.put(name, f"it can have no record: that of {where} is in the place of its record's folder")
     if kept:
         tell(tool, f"{kept} files have a record already, which is not looked at")
-    if faults:
-        raise Stop(REFUSED, f"{faults} files can have no record: nothing was sent")
-    return names
+    return [name for name in names if name not in left.names]
 
 
-def summed_all(tool: str, given: Any, top: int, sums: Sums, names: Sequence[str]) -> int:
-    """Computes the digests that are not known, and answers how many files could not be read, which are named."""
-    due, faults = sums.due(top, names), 0
+def lost(_: str, by: int = 0) -> Summed:
+    """What is said of a file whose worker was ended."""
+    return Summed("", False, b"", f"its worker was ended by signal {by}" if by else "its worker ended")
+
+
+def sum_elsewhere(tool: str, given: Any, top: int, sums: Sums, names: Sequence[str]) -> list[str]:
+    """Has the workers of Dask compute digests, and answers the names of the files that must be read here. What is kept of a file is how this machine
+    saw it before its name was handed out, and only if the worker that read it saw the same, but for the device, which differs by machine."""
+    handing, seen, here = module("handing"), dict[str, Summed](), list[str]()
+    progress = Progress(tool, len(names), given.progress)
+
+    def look(some: list[str]) -> None:
+        seen.update((name, summing.seen_below(top, name)) for name in some)
+
+    folder, versions = os.path.abspath(given.folder), module("versions").versions_text()
+    terms = summing.Terms(hashlib.sha256(b"").hexdigest(), versions, folder, given.alg)
+    with handing.Cluster(tool, given.dask, handing.Each(b"", terms, lost, look)) as others:
+        for name, one in zip(names, (one for several in others.batches(names) for one in several)):
+            own = seen.pop(name)
+            if is_summed := not one.fault and seen_here(one.mark, own.mark) != "":
+                sums.put(name, own._replace(digest=one.digest))
+            else:
+                here.append(name)
+            progress.steps(["summed" if is_summed else "not summed"])
+    progress.end()
+    if here:
+        tell(tool, f"{len(here)} files are read here, which no worker read as they are here")
+    return here
+
+
+def sum_here(tool: str, given: Any, top: int, sums: Sums, due: list[str], left: Left) -> None:
+    """Computes digests. A file that cannot be read is left out."""
     progress = Progress(tool, len(due), given.progress)
-
-    def lost(_: str, by: int) -> Summed:
-        return Summed("", False, b"", f"its worker was ended by signal {by}")
-
-    due_names = module("names").kept(due) if due else due
+    names = module("names").kept(due) if due else due
     with Workers(min(given.jobs, len(due)), lambda name: summing.summed(top, given.alg, name)) as workers:
-        for name, one in zip(due_names, workers.results(due_names, lost)):
+        for name, one in zip(names, workers.results(names, lost)):
             if one.fault:
-                faults += 1
                 progress.put("")
-                tell(tool, f"{shown(os.path.join(given.folder, name))}: {one.fault}")
+                left.put(name, one.fault)
             else:
                 sums.put(name, one)
             progress.steps(["unread" if one.fault else "summed"])
     progress.end()
+
+
+def sum_all(tool: str, given: Any, top: int, sums: Sums, names: Sequence[str], left: Left) -> None:
+    """Computes the digests that are not known."""
+    due = sums.due(top, names)
+    if given.dask is not None and due:
+        due = sum_elsewhere(tool, given, top, sums, due)
+    if given.dask is None or due:
+        sum_here(tool, given, top, sums, due, left)
     with told(sums.path):
         sums.commit()
-    return faults
 
 
-def write_sums(tool: str, given: Any, batch: Batch, top: int, sums: Sums, names: Sequence[str]) -> None:
-    """Writes the digests of all files, each of which is as it was when its digest was computed. Ends the tool where one is not."""
-    changed = 0
+def write_sums(batch: Batch, top: int, sums: Sums, names: Sequence[str], left: Left) -> int:
+    """Writes the digests of all files that are not left out, and answers how many they are. One that is not as it was when its digest was computed
+    is left out too."""
+    count = 0
     try:
-        with written(batch.place(SUMS), Started.descriptors) as file:
+        with written(batch.place(SUMS + NEW), Started.descriptors) as file:
             for name in names:
+                if name in left.names:
+                    continue
                 kept = sums.of_file(name)
                 if kept is None or kept.mark != summing.mark_below(top, name):
-                    changed += 1
-                    tell(tool, f"{shown(os.path.join(given.folder, name))}: it was changed while the others were read")
+                    left.put(name, "it was changed while the others were read")
                 else:
                     file.write(summing.line_of(name, kept.digest))
-            if changed:
-                raise Stop(FAILED, f"{changed} files were changed: nothing was sent; run this again")
+                    count += 1
     except OSError as error:
         raise Stop(FAILED, f"failed write {shown(batch.place(SUMS))}: {error.strerror}") from error
-    sync(batch.path)
+    return count
 
 
-def begin(tool: str, given: Any, batch: Batch, top: int) -> bool:
-    """Writes the digests of the files that have no record, and answers whether there is one."""
-    names = named(tool, given)
-    if not names:
-        return False
-    check_writable(given.into)
-    with Sums(os.path.join(given.state, "sums.db"), given.alg) as sums:
-        if faults := summed_all(tool, given, top, sums, names):
-            raise Stop(FAILED, f"{faults} files could not be read: nothing was sent; run this again")
-        write_sums(tool, given, batch, top, sums, names)
-    return True
+def begin(tool: str, given: Any, batch: Batch, top: int) -> int:
+    """Begins a batch of the files that have no record, if there are any that are not left out, and answers how many are."""
+    left = Left(tool, given.folder)
+    names, count = named(tool, given, left), 0
+    if names:
+        check_writable(given.into)
+        with Sums(os.path.join(given.state, "sums.db"), given.alg) as sums:
+            sum_all(tool, given, top, sums, names, left)
+            count = write_sums(batch, top, sums, names, left)
+    if count:
+        batch.put(LEFT, "".join(line + "\n" for line in left.lines).encode())
+        put_in_place(batch, SUMS)
+    else:
+        batch.remove(SUMS + NEW)
+    tell_left(tool, len(left.lines))
+    return len(left.lines)
+
+
+def tell_left(tool: str, count: int) -> None:
+    """Says how many files are left out, if there are any."""
+    if count:
+        tell(tool, f"{count} files without a record are left out")
+
+
+def left_before(tool: str, batch: Batch) -> int:
+    """Says again which files were left out when a batch was begun, and answers how many they are."""
+    lines = batch.read(LEFT).decode("utf-8", "backslashreplace").split("\n")[:-1] if batch.has(LEFT) else []
+    for line in lines:
+        tell(tool, line)
+    tell_left(tool, len(lines))
+    return len(lines)
 
 
 def ask(given: Any, batch: Batch) -> None:
@@ -249,9 +315,11 @@ def run(tool: str, given: Any, address: SplitResult) -> int:
             raise Stop(FAILED, f"failed open {shown(given.folder)}: {error.strerror}") from error
         stack.callback(os.close, top)
         batch = batch_in(given)
-        if batch.has(SUMS) or begin(tool, given, batch, top):
+        left = left_before(tool, batch) if batch.has(SUMS) else begin(tool, given, batch, top)
+        if batch.has(SUMS):
             status = finish(tool, given, batch, top, address, trust)
         else:
-            write("-", f"{shown(given.folder)}: no file is without a record\n".encode())
+            nothing = f"nothing was sent: all {left} files without a record are left out"
+            write("-", f"{shown(given.folder)}: {nothing if left else 'no file is without a record'}\n".encode())
             status = DONE
-    return status
+    return max(status, REFUSED) if left else status

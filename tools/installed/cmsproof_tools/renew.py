@@ -5,7 +5,7 @@ import argparse
 import os
 from typing import Any
 
-from cmsproof_tools.archive_words import jobs_of
+from cmsproof_tools.archive_words import add_dask, jobs_of
 from cmsproof_tools.due import add_moment, moment_by
 from cmsproof_tools.running import Words, module
 from cmsproof_tools.stamp import add_authority, is_within
@@ -42,6 +42,7 @@ def parser_of(tool: str) -> Words:
     add_authority(parser)
     jobs = "records that are judged at a time; as many as there are processors by default"
     parser.add_argument("--jobs", type=jobs_of, default=len(os.sched_getaffinity(0)), metavar="N", help=jobs)
+    add_dask(parser, "judge the records")
     return parser
 
 

@@ -16,8 +16,9 @@ import resource
 import time
 from array import array
 from collections import Counter
+from contextlib import ExitStack, contextmanager
 from functools import partial
-from typing import Any, Iterator, NamedTuple, Optional, Sequence
+from typing import Any, Callable, Iterable, Iterator, NamedTuple, Optional, Sequence
 from urllib.parse import SplitResult
 
 import cmsproof
@@ -175,7 +176,7 @@ def hindrance(by: By, now: str, one: Standing) -> str:
 
 class Looked(NamedTuple):
     """By what records are looked at: as `due` does, the moment of the run, the folder as it is named and as it is, what in it is no regular file,
-    and how long a name can be there."""
+    how long a name can be there, and the folder of relative names."""
 
     by: By
     now: str
@@ -183,6 +184,7 @@ class Looked(NamedTuple):
     real: str
     unfit: dict[str, str]
     longest: int
+    folder: str = ""
 
     def path_of(self, name: str) -> str:
         """The path of a record by which the program gets it."""
@@ -194,26 +196,68 @@ def left(name: str, at: str, reason: str, status: int = REFUSED) -> Judged:
     return Judged("left", status, due.line_of(name, status, at, reason, False))
 
 
-def judged(looked: Looked, name: str) -> Judged:
-    """What is said of a record."""
+def seen(looked: Looked, name: str) -> Judged:
+    """What is said of a record, wherever it is looked at."""
     try:
-        if name not in looked.unfit and os.lstat(name).st_size > COPIED:
+        if name not in looked.unfit and os.lstat(os.path.join(looked.folder, name)).st_size > COPIED:
             return left(name, "now", f"it has more than {COPIED} octets")
     except OSError:
         pass  # (which is said where it is opened)
     try:
-        one = due.said_of(looked.unfit, name, partial(standing_of, looked.by))
+        one = due.said_of(looked.unfit, name, partial(standing_of, looked.by), looked.folder)
     except Unjudged as error:
         return left(name, "now", str(error), error.status)
     if not one.algorithm:
         return Judged("lasting")
-    reason = hindrance(looked.by, looked.now, one) or not_replaced(looked.path_of(name), looked.longest)
+    reason = hindrance(looked.by, looked.now, one)
     return left(name, one.until, reason) if reason else Judged("due", standing=one)
 
 
-def lost(name: str, by: int) -> Judged:
+def seen_here(looked: Looked, name: str, one: Judged) -> Judged:
+    """What is said of a record of which this was said, by this machine, where the program is to replace it."""
+    reason = not_replaced(looked.path_of(name), looked.longest) if one.word == "due" else ""
+    return left(name, one.standing.until, reason) if reason else one
+
+
+def judged(looked: Looked, name: str) -> Judged:
+    """What is said of a record."""
+    return seen_here(looked, name, seen(looked, name))
+
+
+def lost(name: str, by: int = 0) -> Judged:
     """What is said of a record whose worker was ended."""
-    return left(name, "now", f"failed worker: it was ended by signal {by}", FAILED)
+    return left(name, "now", f"failed worker: it was ended by signal {by}" if by else "failed worker: it ended", FAILED)
+
+
+class Terms(NamedTuple):
+    """By what workers elsewhere look at records (handing.py): as those of `due`, and the moment of the run."""
+
+    trust: str
+    versions: str
+    of_due: due.Terms
+    now: str
+
+    @contextmanager
+    def task(self, trusted: bytes, unfit: dict[str, str]) -> Iterator[Callable[[str], Judged]]:
+        """What is done for a name."""
+        yield partial(seen, Looked(self.of_due.by(trusted), self.now, "", "", unfit, 0, self.of_due.folder))
+
+    def is_said(self, one: Any) -> bool:
+        """Whether a worker can say this of a record."""
+        return isinstance(one, Judged) and isinstance(one.standing, Standing)
+
+
+def all_judged(tool: str, given: Any, looked: Looked, names: Sequence[str], stack: ExitStack) -> Iterable[Judged]:
+    """What is said of all records, by workers of this machine or of others."""
+    if given.dask is None or not names:
+        workers = stack.enter_context(Workers(min(given.jobs, len(names)), partial(judged, looked)))
+        return workers.results(names, lost)
+    handing, terms = module("handing"), due.terms_of(looked.by)
+    of_names = partial(due.unfit_among, looked.unfit)
+    task = handing.Each(looked.by.trust.text, Terms(terms.trust, terms.versions, terms, looked.now), lost, of_names)
+    others = stack.enter_context(handing.Cluster(tool, given.dask, task))
+    said = (one for several in others.batches(names) for one in several)
+    return (seen_here(looked, name, one) for name, one in zip(names, said))
 
 
 def words_room() -> int:
@@ -253,8 +297,8 @@ def planned(tool: str, given: Any, by: By) -> Plan:
     for name in ("checking", "verifying"):
         module(name)
     progress, groups = Progress(tool, len(names), given.progress), Groups(words_room())
-    with Workers(min(given.jobs, len(names)), partial(judged, looked)) as workers:
-        for number, (name, one) in enumerate(zip(names, workers.results(names, lost))):
+    with ExitStack() as stack:
+        for number, (name, one) in enumerate(zip(names, all_judged(tool, given, looked, names, stack))):
             counts[one.word] += 1
             worst = max(worst, one.status)
             if one.line:

@@ -5,7 +5,7 @@ import argparse
 import os
 from typing import Any
 
-from cmsproof_tools.archive_words import add_ends, jobs_of
+from cmsproof_tools.archive_words import add_dask, add_ends, jobs_of
 from cmsproof_tools.running import Words, module
 
 ABOUT = """Has an authority stamp all files under a folder that have no evidence record (RFC 4998), by one time-stamp, and makes their records.
@@ -21,9 +21,10 @@ must hold, nobody looks whose it is, and a line says so.
 
 The folder STATE has all that was done, so that a run that was stopped is gone on with by the same words: the digests are not computed again,
 and a request that may have been sent is sent again. A file that was changed since its digest was computed is named: its record is of what
-it was. A link, a pipe or a device has no record, and a line says so. A file that can have no record is named before anything is sent.
+it was. A link, a pipe or a device has no record, and a line says so. A file that can have no record, cannot be read, or changes while it is
+read is named and left out, and the others are stamped; a later run stamps it once that is mended.
 
-Exit status: 0 all files have records; 1 a file can have none, was changed, or the answer is refused; 2 the answer is malformed, or the trust
+Exit status: 0 all files have records; 1 a file is left out or was changed, or the answer is refused; 2 the answer is malformed, or the trust
 list is; 3 wrong words; 4 a file, the authority, the program or the library failed.
 """
 
@@ -65,6 +66,7 @@ def parser_of(tool: str) -> Words:
     parser.add_argument("--alg", choices=ALGORITHMS, default="sha256", metavar="NAME", help=digest)
     jobs = "files that are read at a time; as many as there are processors by default"
     parser.add_argument("--jobs", type=jobs_of, default=len(os.sched_getaffinity(0)), metavar="N", help=jobs)
+    add_dask(parser, "read the files")
     parser.add_argument("folder", metavar="FOLDER", help="the folder of the archive")
     return parser
 

@@ -7,10 +7,12 @@ from __future__ import annotations
 
 import hashlib
 import os
+import re
 import sqlite3
 import stat
 import time
-from typing import Iterable, Iterator, NamedTuple, Sequence, Union
+from contextlib import contextmanager
+from typing import Any, Callable, Iterator, NamedTuple, Sequence, Union
 
 from cmsproof_tools import descriptors
 from cmsproof_tools.evidenced import ENDING
@@ -24,6 +26,8 @@ REACHING = os.O_PATH | os.O_NOFOLLOW | os.O_CLOEXEC
 LONGEST_NAME, LONGEST_PATH = 255, 4095
 # what stands behind the name of a record, at most, while the program writes it
 BESIDE = ".new99"
+# what a name is by which the program writes some record
+WRITING = re.compile(r".*\.ers\.new[0-9]{1,2}", re.DOTALL)
 TABLE = (
     "CREATE TABLE IF NOT EXISTS sums (name BLOB PRIMARY KEY, mark TEXT NOT NULL, steady INTEGER NOT NULL, algorithm TEXT NOT NULL,"
     " digest BLOB NOT NULL) WITHOUT ROWID"
@@ -87,17 +91,54 @@ def summed(top: int, algorithm: str, name: str) -> Summed:
     return Summed(mark_of(found), found.st_ctime_ns + STEP <= begun, hashed.digest())
 
 
-def mark_below(top: int, name: str) -> str:
-    """What says that a file below a folder is the same; "" of one that is not there, or no regular file."""
+def seen_below(top: int, name: str) -> Summed:
+    """What says that a file below a folder is the same, as `summed`, without its digest; a mark "" of one that is not there, or no regular
+    file."""
+    begun = time.time_ns()
     try:
         reached = reached_below(top, name)
     except (OSError, ValueError):
-        return ""
+        return Summed("", False, b"")
     try:
         found = os.fstat(reached)
-        return mark_of(found) if stat.S_ISREG(found.st_mode) else ""
     finally:
         os.close(reached)
+    is_file = stat.S_ISREG(found.st_mode)
+    return Summed(mark_of(found), found.st_ctime_ns + STEP <= begun, b"") if is_file else Summed("", False, b"")
+
+
+def mark_below(top: int, name: str) -> str:
+    """What says that a file below a folder is the same; "" of one that is not there, or no regular file."""
+    return seen_below(top, name).mark
+
+
+class Terms(NamedTuple):
+    """By what workers elsewhere read files (handing.py): no list, the versions, the archive's folder, and the digest algorithm."""
+
+    trust: str
+    versions: str
+    folder: str
+    algorithm: str
+
+    @contextmanager
+    def task(self, _shared: bytes, _beside: Any) -> Iterator[Callable[[str], Summed]]:
+        """What is done for a name."""
+        try:
+            top = os.open(self.folder, os.O_RDONLY | os.O_DIRECTORY | os.O_CLOEXEC)
+        except OSError as error:
+            unread = Summed("", False, b"", f"it cannot be read: {error.strerror}")
+            yield lambda _: unread
+            return
+        try:
+            yield lambda name: summed(top, self.algorithm, name)
+        finally:
+            os.close(top)
+
+    def is_said(self, one: Any) -> bool:
+        """Whether a worker can say this of a file: a fault, or a digest as long as one."""
+        if not isinstance(one, Summed) or not isinstance(one.mark, str) or not isinstance(one.fault, str):
+            return False
+        return bool(one.fault) or (isinstance(one.digest, bytes) and len(one.digest) == hashlib.new(self.algorithm).digest_size)
 
 
 def line_of(name: str, digest: bytes) -> bytes:
@@ -120,7 +161,7 @@ class Names:
 
     def __init__(self, records: str) -> None:
         """Of records in this folder."""
-        self.records, self.taken = os.fsencode(os.path.abspath(records)), set[str]()
+        self.records, self.folders = os.fsencode(os.path.abspath(records)), set[str]()
         try:
             self.longest = os.pathconf(records, "PC_NAME_MAX")
         except (OSError, ValueError):
@@ -137,14 +178,24 @@ class Names:
             return f"its name is too long to have {ENDING}{BESIDE} behind it, or that of a folder is"
         if len(self.records) + 1 + len(octets) + len(ENDING + BESIDE) > LONGEST_PATH:
             return "the path of its record would be too long"
+        # (folders of such names, a hundred of which are enough, would hinder the record of another file for ever)
+        if any(map(WRITING.fullmatch, parts[:-1])):
+            return "a folder of it has a name by which a record is written"
         for at, part in enumerate(parts[:-1]):
             if part.endswith(ENDING):
-                self.taken.add("/".join(parts[: at + 1]))
+                self.folders.add("/".join(parts[: at + 1]))
         return ""
 
-    def clashing(self, names: Iterable[str]) -> Iterator[str]:
-        """Those of some names whose record would stand in the place of a folder of records. All were looked at before."""
-        return (name for name in names if name + ENDING in self.taken) if self.taken else iter(())
+    def hindered(self, names: Sequence[str]) -> Iterator[tuple[str, str]]:
+        """Those of some names whose records would be in a folder that has the place of the record of another one, with that one. All were
+        looked at before. (Whoever puts a file beside another one so costs that no record.)"""
+        others = {name + ENDING: name for name in names if name + ENDING in self.folders}
+        for name in names if others else ():
+            at = name.find(ENDING + "/")
+            while at >= 0 and name[: at + len(ENDING)] not in others:
+                at = name.find(ENDING + "/", at + 1)
+            if at >= 0:
+                yield name, others[name[: at + len(ENDING)]]
 
 
 class Sums:

@@ -191,6 +191,32 @@ class Parts(unittest.TestCase):
         with mock.patch.object(folders.os, "listdir", side_effect=lambda at: listed(at) * 2):
             self.assertEqual(list(folders.files_under(str(top), self.fail)), [str(top / "a"), str(top / "b" / "a")])
 
+    def test_what_cannot_be_looked_into(self):
+        """It is left out, whatever record is in its place: files may be in it, as in a folder `d` that comes where a file `d` was. And since it
+        is no file, it hinders none."""
+        top, into, denied = folder_of(self), folder_of(self), PermissionError(errno.EACCES, "Permission denied")
+        for name in ("a", "gone", "d/x", "f/x", "f.ers/y", "z"):
+            (top / name).parent.mkdir(exist_ok=True), (top / name).write_bytes(b"")
+        for name in ("a", "d", "gone"):
+            (into / f"{name}.ers").write_bytes(b"")
+
+        def but(function, *names):
+            def called(name, *rest, **more):
+                if name in names:
+                    raise denied
+                return function(name, *rest, **more)
+
+            return called
+
+        given, left = mock.Mock(folder=str(top), into=str(into)), making.Left("tool", str(top))
+        opened, looked = but(os.open, "d", "f"), but(os.lstat, "gone")
+        with mock.patch.object(folders.os, "open", opened), mock.patch.object(folders.os, "lstat", looked):
+            with mock.patch.object(making, "tell") as tell:
+                self.assertEqual(making.named("tool", given, left), ["f.ers/y", "z"])
+        listed, unread = "it is a folder that cannot be listed", "it cannot be read: Permission denied"
+        self.assertEqual(left.lines, [f"{top}/d: {listed}", f"{top}/f: {listed}", f"{top}/gone: {unread}"])
+        tell.assert_called_with("tool", "1 files have a record already, which is not looked at")
+
     def test_lines_of_the_program(self):
         """A name in one is shown as names are: it is no other line, and has no part of one."""
         for said, line in (

@@ -71,8 +71,8 @@ def files_of(tool: str, given: Any, left: Left) -> Iterator[str]:
         tell(tool, f"{shown(name)}: skipped: it is {kind}")
 
     def unseen(name: str, error: OSError) -> None:
-        is_folder = os.path.isdir(name)
-        left.put(name[len(top) :], "it is a folder that cannot be listed" if is_folder else f"it cannot be read: {error.strerror}")
+        listed = "it is a folder that cannot be listed"
+        left.put(name[len(top) :], listed if os.path.isdir(name) else f"it cannot be read: {error.strerror}")
 
     for name in files_under(top, skip, unseen):
         if name == top or not name.startswith(top):

@@ -116,6 +116,7 @@ class Future:
 
     def __init__(self, worker, part):
         self.key, self.worker, self.part = object(), worker, part
+        self.status = "error" if isinstance(part, BaseException) else "finished"
 
     def result(self, timeout):
         """The answer."""
@@ -248,7 +249,7 @@ class StandIns(unittest.TestCase):
 
     def test_a_worker_that_dies(self):
         """Alone at a name, that is read here; with others, they are handed out once more. What it raises ends this process by no status."""
-        for error in (ValueError(), SystemExit(0), GeneratorExit()):
+        for error in (ValueError(), SystemExit(0), GeneratorExit(), TimeoutError()):
             for most, count in ((1, 0), (0, 20)):
                 engine = Engine(one=lambda part, most=most, error=error: part if len(part.said[0].said) <= most else error)
                 self.assert_digests(self.summed(engine, self.names[:20], read_here=count))

@@ -183,7 +183,8 @@ class Cluster:
             except KeyboardInterrupt:
                 raise
             except BaseException as error:  # of the engine, or a worker's, by whose SystemExit this process would end
-                is_late = type(error).__name__ == "TimeoutError"
+                # (a worker can raise this too, as where a file system does not answer it, and would do so for ever)
+                is_late = type(error).__name__ == "TimeoutError" and future.status != "error"
                 if is_late and set(self.workers) & set(self.client.scheduler_info()["workers"]):
                     continue
                 self.client.cancel([future])

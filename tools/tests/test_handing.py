@@ -429,6 +429,15 @@ class Due(WithWorkers):
         json.loads(there[1].splitlines()[-1])
 
 
+    def test_addresses_that_are_none(self):
+        """The run ends, also where Dask knows that before it asks."""
+        (self.folder / "list").write_bytes(LIST), (self.folder / "a.ers").write_bytes(GOOD)
+        for address in ("x", "tls://127.0.0.1:1"):
+            status, out, err = self.due("a.ers", dask=["--dask", address])
+            self.assertEqual((status, out), (4, b""), err)
+            self.assertIn(f"cmsproof-archive: failed open {address}: no scheduler of Dask answers: ", err)
+
+
 @unittest.skipUnless(THERE and knows_renewing(), "there is no python3-distributed, or the program renews no records")
 class Renewed(WithWorkers, WithRecords):
     """Records of which workers say which are due."""

@@ -123,9 +123,10 @@ def client_of(address: str) -> Any:
     except ImportError as error:
         raise Stop(FAILED, f"Dask is missing ({error}): install Debian's python3-distributed, and run its Python") from error
     try:
-        found: Any = client
+        # (one that is not made, as by an address without a port, would wait for ever in its own `__del__`; each other one is closed)
+        found: Any = type("Client", (client,), {"__del__": lambda _: None})
         return found(address, timeout=20, set_as_default=False)
-    except (OSError, ValueError, TimeoutError) as error:
+    except (OSError, ValueError, TypeError, TimeoutError) as error:
         raise Stop(FAILED, f"failed open {shown(address)}: no scheduler of Dask answers: {error}") from error
 
 

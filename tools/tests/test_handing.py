@@ -3,6 +3,7 @@ machine says; those that are killed, of another version, or that see other files
 import contextlib
 import hashlib
 import json
+import math
 import os
 import shutil
 import sqlite3
@@ -81,14 +82,33 @@ class Answers(unittest.TestCase):
         terms = due.Terms("t", "v", "/", (), BY)
         of_renew = renewing.Terms("t", "v", terms, LATER)
         last = due.Told(["lasting"], 0, b"")
+        now, unread = due.Told(["due"], 1, b"due 2\n"), due.Told(["unjudged"], 4, b"due now\n")
+        standing = renewing.Standing("sha256", LATER, BY, bytes(renewing.KEPT))
+        renewed, left = renewing.Judged("due", standing=standing), renewing.Judged("left", 2, b"due now\n")
+        wrong = [last._replace(status=status) for status in (1, 4, "0", None, 0.0, False)]
+        wrong += [now._replace(status=status) for status in (0, 2, 4, True)]
+        wrong += [unread._replace(status=status) for status in (0, 3, 5, "4")]
+        wrong += [now._replace(words=words) for words in (["other"], [["due"]], ["due", "due"], [], None, "due", [None], [""])]
+        wrong += [now._replace(lines=lines) for lines in (b"", b"due 2", b"due 1\ndue 2\n", "due 2\n", None)]
+        wrong += [last._replace(lines=b"due 2\n"), last._replace(words=["lasting"] * 2), None, renewing.Standing("", "", "")]
+        wrong += [renewed._replace(standing=one) for one in (None, renewing.Standing("", "", ""), ("sha256", LATER, BY, b""))]
+        for name, values in (("algorithm", ("md5", [""])), ("after", ("now", None)), ("until", ("",)), ("stamp", (b"", None))):
+            wrong += [renewed._replace(standing=standing._replace(**{name: value})) for value in values]
+        wrong += [renewed._replace(status=1), renewed._replace(line=b"due 2\n"), renewed._replace(word="other")]
+        wrong += [left._replace(line=b""), left._replace(line=None), left._replace(status=0), left._replace(status=None)]
         for one, of_due, is_renewed in (
-            (last, True, False),
-            (last._replace(words=["lasting"] * 2), False, False),
-            (renewing.Judged("lasting"), False, True),
-            (renewing.Judged("due", standing=None), False, False),
-            (None, False, False),
+            *((one, True, False) for one in (last, now, unread, unread._replace(status=1), unread._replace(status=2))),
+            *((one, False, True) for one in (renewing.Judged("lasting"), renewed, left)),
+            *((one, False, False) for one in wrong),
         ):
-            self.assertEqual((terms.is_said(one), of_renew.is_said(one)), (of_due, is_renewed), one)
+            self.assertEqual((self.is_said(terms, one), self.is_said(of_renew, one)), (of_due, is_renewed), one)
+
+    def is_said(self, terms, one):
+        """Whether a worker's answer about one name, which is this, is one."""
+        task = handing.Each(b"", terms, making.lost)
+        cluster = mock.Mock(task=task)
+        part = handing.Part("t", "v", [handing.Several(handing.sum_of(["a"]), [one])])
+        return handing.Cluster.fitting(cluster, part, ["a"]) == 1
 
 
 class Future:
@@ -96,10 +116,11 @@ class Future:
 
     def __init__(self, worker, part):
         self.key, self.worker, self.part = object(), worker, part
+        self.status = "error" if isinstance(part, BaseException) else "finished"
 
     def result(self, timeout):
         """The answer."""
-        if isinstance(self.part, Exception):
+        if isinstance(self.part, BaseException):
             raise self.part
         return self.part
 
@@ -185,6 +206,9 @@ class StandIns(unittest.TestCase):
             (with_said(lambda one: one._replace(digest=one.digest[:-1])), nobodys),
             (with_said(lambda one: one._replace(digest=b"")), nobodys),
             (lambda _: "no answer", nobodys),
+            (lambda part: part._replace(said=None), nobodys),
+            (lambda part: part._replace(said=[part.said[0]._replace(said=None)]), nobodys),
+            *((lambda part, took=took: part._replace(seconds=took), nobodys) for took in (math.nan, math.inf, -1.0, None, "1")),
         ):
             self.told = []
             engine = Engine(bad=change, good=lambda part: part)
@@ -224,10 +248,13 @@ class StandIns(unittest.TestCase):
             self.assert_digests(self.summed(Engine(one=with_said(change)), read_here=count))
 
     def test_a_worker_that_dies(self):
-        """Alone at a name, that is read here; with others, they are handed out once more."""
-        for most, count in ((1, 0), (0, 20)):
-            engine = Engine(one=lambda part, most=most: part if len(part.said[0].said) <= most else ValueError())
-            self.assert_digests(self.summed(engine, self.names[:20], read_here=count))
+        """Alone at a name, that is read here; with others, they are handed out once more. What it raises ends this process by no status."""
+        for error in (ValueError(), SystemExit(0), GeneratorExit(), TimeoutError()):
+            for most, count in ((1, 0), (0, 20)):
+                engine = Engine(one=lambda part, most=most, error=error: part if len(part.said[0].said) <= most else error)
+                self.assert_digests(self.summed(engine, self.names[:20], read_here=count))
+        with self.assertRaises(KeyboardInterrupt):
+            self.summed(Engine(one=lambda _: KeyboardInterrupt()))
 
     def test_what_is_kept_is_what_this_machine_saw_before(self):
         """A file that is changed once its name is handed out has another mark by then, whatever the worker read."""
@@ -261,7 +288,7 @@ class StandIns(unittest.TestCase):
         (self.folder / "r: x").mkdir()
         for number, octets in enumerate((GOOD, TWICE, STRANGE, b"none")):
             (self.folder / "r: x" / f"{number}.ers").write_bytes(octets)
-        names = [f"r: x/{number}.ers" for number in range(5)] + [str(self.folder / "r: x" / "9.ers"), "unfit.ers"]
+        names = [f"r: x/{number}.ers" for number in range(5)] + [str(self.folder / "r: x" / "9.ers"), "unfit.ers", ""]
         unfit, ends = {"unfit.ers": "a link"}, {"sha1": LATER}
         before = os.getcwd()
         self.addCleanup(os.chdir, before)
@@ -277,7 +304,7 @@ class StandIns(unittest.TestCase):
             self.assertEqual(part.said, [handing.Several(handing.sum_of(names), expected)])
             other = handing.said_by(handing.pickle.dumps(names), LIST + b"# other\n", these, beside)
             self.assertEqual((other.said, other.is_by(these)), ([], False))
-        self.assertEqual([one.word for one in seen], ["due", "lasting", *["left"] * 5])
+        self.assertEqual([one.word for one in seen], ["due", "lasting", *["left"] * 6])
 
     def test_each_thread_has_what_it_goes_by(self):
         found = {due.by_of(LIST, (), BY, thread) for thread in (1, 2, 1)}
@@ -400,6 +427,15 @@ class Due(WithWorkers):
             self.assertEqual((here[0], here[1].count(b"\n") > 400), (4, True))
         self.assertEqual(self.due("re: cords/0/0.ers", "/dev/stdin", dask=dask)[:2], (3, b""))
         json.loads(there[1].splitlines()[-1])
+
+
+    def test_addresses_that_are_none(self):
+        """The run ends, also where Dask knows that before it asks."""
+        (self.folder / "list").write_bytes(LIST), (self.folder / "a.ers").write_bytes(GOOD)
+        for address in ("x", "tls://127.0.0.1:1"):
+            status, out, err = self.due("a.ers", dask=["--dask", address])
+            self.assertEqual((status, out), (4, b""), err)
+            self.assertIn(f"cmsproof-archive: failed open {address}: no scheduler of Dask answers: ", err)
 
 
 @unittest.skipUnless(THERE and knows_renewing(), "there is no python3-distributed, or the program renews no records")

@@ -191,6 +191,57 @@ class Parts(unittest.TestCase):
         with mock.patch.object(folders.os, "listdir", side_effect=lambda at: listed(at) * 2):
             self.assertEqual(list(folders.files_under(str(top), self.fail)), [str(top / "a"), str(top / "b" / "a")])
 
+    def test_what_is_left_out_is_written_first(self):
+        """Whoever goes on with digests has what was said of the files that are not among them, whenever a run was killed."""
+        top, into, state = folder_of(self), folder_of(self), folder_of(self)
+        (top / "a").write_bytes(b"one"), (top / "x").write_bytes(b""), (top / "x.ers").mkdir(), (top / "x.ers" / "y").write_bytes(b"")
+        at = os.open(top, os.O_RDONLY | os.O_DIRECTORY)
+        self.addCleanup(os.close, at)
+        words = {"jobs": 1, "alg": "sha256", "policy": None, "progress": False, "dask": None}
+        given = mock.Mock(folder=str(top), into=str(into), state=str(state), **words)
+        batch = making.batch_in(given)
+        line = f"{top}/x.ers/y: it can have no record: that of {top}/x is in the place of its record's folder"
+        for name, there in (("put", {"terms.json", "sums.new"}), ("put_in_place", {"terms.json", "sums.new", "left"})):
+            where = making.Batch if name == "put" else making
+            with mock.patch.object(where, name, side_effect=KeyboardInterrupt), mock.patch.object(making, "tell"):
+                with self.assertRaises(KeyboardInterrupt):
+                    making.begin("tool", given, batch, at)
+            self.assertEqual(set(os.listdir(batch.path)), there)
+        self.assertEqual(batch.read("left").decode(), line + "\n")
+        with mock.patch.object(making, "tell") as tell:
+            self.assertEqual((making.begin("tool", given, batch, at), making.left_before("tool", batch)), (1, 1))
+        said = [("tool", line), ("tool", "1 files without a record are left out")]
+        self.assertEqual([one.args for one in tell.call_args_list], said * 2)
+        # (an older version wrote none)
+        batch.remove("left")
+        self.assertEqual(making.left_before("tool", batch), 0)
+
+    def test_what_cannot_be_looked_into(self):
+        """It is left out, whatever record is in its place: files may be in it, as in a folder `d` that comes where a file `d` was. And since it
+        is no file, it hinders none."""
+        top, into, denied = folder_of(self), folder_of(self), PermissionError(errno.EACCES, "Permission denied")
+        for name in ("a", "gone", "d/x", "f/x", "f.ers/y", "z"):
+            (top / name).parent.mkdir(exist_ok=True), (top / name).write_bytes(b"")
+        for name in ("a", "d", "gone"):
+            (into / f"{name}.ers").write_bytes(b"")
+
+        def but(function, *names):
+            def called(name, *rest, **more):
+                if name in names:
+                    raise denied
+                return function(name, *rest, **more)
+
+            return called
+
+        given, left = mock.Mock(folder=str(top), into=str(into)), making.Left("tool", str(top))
+        opened, looked = but(os.open, "d", "f"), but(os.lstat, "gone")
+        with mock.patch.object(folders.os, "open", opened), mock.patch.object(folders.os, "lstat", looked):
+            with mock.patch.object(making, "tell") as tell:
+                self.assertEqual(making.named("tool", given, left), ["f.ers/y", "z"])
+        listed, unread = "it is a folder that cannot be listed", "it cannot be read: Permission denied"
+        self.assertEqual(left.lines, [f"{top}/d: {listed}", f"{top}/f: {listed}", f"{top}/gone: {unread}"])
+        tell.assert_called_with("tool", "1 files have a record already, which is not looked at")
+
     def test_lines_of_the_program(self):
         """A name in one is shown as names are: it is no other line, and has no part of one."""
         for said, line in (

@@ -17,7 +17,7 @@ from cmsproof_tools.evidenced import ENDING, first_ends
 from cmsproof_tools.outcomes import named
 from cmsproof_tools.pairs import is_regular
 from cmsproof_tools.progress import Progress
-from cmsproof_tools.running import DONE, FAILED, REFUSED, Words, module, one_line, shown, tell, write
+from cmsproof_tools.running import DONE, FAILED, MALFORMED, REFUSED, Words, module, one_line, shown, tell, write
 from cmsproof_tools.texts import in_order
 
 if TYPE_CHECKING:
@@ -41,6 +41,8 @@ Exit status: 0 none is due; 1 one is; 2 one is malformed, or the trust list is; 
 """
 # the last year that a moment has
 LAST_YEAR = 9999
+# the statuses of the records that are counted by each word
+STATUSES = {"lasting": (DONE,), "due": (REFUSED,), "unjudged": (REFUSED, MALFORMED, FAILED)}
 Said = TypeVar("Said")
 
 
@@ -155,7 +157,7 @@ def said_of(unfit: dict[str, str], name: str, judge: Callable[[Buffer], Said], f
     try:
         if name in unfit:
             raise lasting.Unjudged(FAILED, f"it is {unfit[name]}, and is not read")
-        with checking.opened(os.path.join(folder, name)) as file:
+        with checking.opened(os.path.join(folder, name) if name else name) as file:
             return judge(file.octets)
     except lasting.Unjudged:
         raise
@@ -225,8 +227,21 @@ class Terms(NamedTuple):
         yield partial(judged, self.by(trusted), unfit, self.is_json, folder=self.folder)
 
     def is_said(self, one: Any) -> bool:
-        """Whether a worker can say this of a record."""
-        return isinstance(one, Told) and len(one.words) == 1
+        """Whether a worker can say this of a record: one word, a status that goes with it, and a line unless it lasts."""
+        if not isinstance(one, Told) or not isinstance(one.words, list) or len(one.words) != 1:
+            return False
+        (word,) = one.words
+        return is_status(one.status, STATUSES.get(word, ())) and (one.lines == b"" if word == "lasting" else is_line(one.lines))
+
+
+def is_status(status: Any, some: tuple[int, ...]) -> bool:
+    """Whether this is one of some statuses, whatever a worker says."""
+    return type(status) is int and status in some
+
+
+def is_line(said: Any) -> bool:
+    """Whether this is one line with its end, whatever a worker says."""
+    return isinstance(said, bytes) and said.endswith(b"\n") and said.count(b"\n") == 1
 
 
 def terms_of(by: Any, is_json: bool = False) -> Terms:

@@ -4,7 +4,7 @@ from __future__ import annotations
 import errno
 import os
 import stat
-from typing import Callable, Iterator
+from typing import Callable, Iterator, Optional
 
 # a folder is opened by its name in the one that it stands in, which is open: no link leads out of the folder that was named
 TOP = os.O_RDONLY | os.O_DIRECTORY | os.O_CLOEXEC
@@ -26,9 +26,12 @@ class Open:
             raise
 
 
-def files_under(folder: str, skipped: Callable[[str, str], None]) -> Iterator[str]:
+def files_under(
+    folder: str, skipped: Callable[[str, str], None], unseen: Optional[Callable[[str, OSError], None]] = None
+) -> Iterator[str]:
     """The names of the regular files under a folder, sorted by their octets, those of a folder where its name stands. `skipped` is
-    told the name and the kind of what is none. A folder that cannot be listed is given itself, so that it is reported."""
+    told the name and the kind of what is none. A folder that cannot be listed is given itself, so that it is reported; one below, and
+    what cannot be looked at, is told to `unseen`, if there is that."""
     walked: list[Open] = []
     try:
         walked.append(Open(folder, os.open(folder, TOP)))
@@ -50,6 +53,8 @@ def files_under(folder: str, skipped: Callable[[str, str], None]) -> Iterator[st
             except OSError as error:
                 if error.errno in NO_FOLDER:
                     skipped(name, "no folder any more")
+                elif unseen is not None:
+                    unseen(name, error)
                 else:
                     yield name
                 continue

@@ -3,6 +3,7 @@ the same names, and are believed as this machine is: nothing counts that one of 
 from __future__ import annotations
 
 import hashlib
+import math
 import pickle
 import time
 from collections import deque
@@ -122,9 +123,10 @@ def client_of(address: str) -> Any:
     except ImportError as error:
         raise Stop(FAILED, f"Dask is missing ({error}): install Debian's python3-distributed, and run its Python") from error
     try:
-        found: Any = client
+        # (one that is not made, as by an address without a port, would wait for ever in its own `__del__`; each other one is closed)
+        found: Any = type("Client", (client,), {"__del__": lambda _: None})
         return found(address, timeout=20, set_as_default=False)
-    except (OSError, ValueError, TimeoutError) as error:
+    except (OSError, ValueError, TypeError, TimeoutError) as error:
         raise Stop(FAILED, f"failed open {shown(address)}: no scheduler of Dask answers: {error}") from error
 
 
@@ -179,8 +181,11 @@ class Cluster:
         while True:
             try:
                 part = future.result(timeout=2)
-            except Exception as error:  # of the engine: it has an exception of its own for each of its troubles
-                is_late = type(error).__name__ == "TimeoutError"
+            except KeyboardInterrupt:
+                raise
+            except BaseException as error:  # of the engine, or a worker's, by whose SystemExit this process would end
+                # (a worker can raise this too, as where a file system does not answer it, and would do so for ever)
+                is_late = type(error).__name__ == "TimeoutError" and future.status != "error"
                 if is_late and set(self.workers) & set(self.client.scheduler_info()["workers"]):
                     continue
                 self.client.cancel([future])
@@ -188,12 +193,20 @@ class Cluster:
                 if not is_late and len(names) == 1:
                     return iter([self.task.lost(names[0])])
                 return self.again(names, LARGEST if is_late else 1)
-            if count := self.task.fitting(part, names):
+            if count := self.fitting(part, names):
                 self.size = int(min(max(count * LONG / max(part.seconds, 1e-3), 1), LARGEST))
                 return chain(part.said, chain.from_iterable(self.parts(names[count:])))
             is_by_others = isinstance(part, Part) and not part.is_by(self.task.terms)
             self.refuse_holders(future, "judges by another list or version" if is_by_others else "answers what nobody asked")
             return self.again(names, LARGEST)
+
+    def fitting(self, part: Any, names: list[str]) -> int:
+        """Of how many of these names a worker's answer is one; 0 if it is none, as where it is of another form than the task looks for."""
+        try:
+            count = self.task.fitting(part, names)
+            return count if isinstance(part.seconds, float) and 0 <= part.seconds < math.inf else 0
+        except Exception:  # whatever is in the place of what is looked for
+            return 0
 
     def refuse_holders(self, future: Any, why: str) -> None:
         """Refuses the workers that have this answer. Raises Stop if there is none."""

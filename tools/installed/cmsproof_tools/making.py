@@ -62,14 +62,19 @@ def batch_in(given: Any) -> Batch:
     return last
 
 
-def files_of(tool: str, given: Any) -> Iterator[str]:
-    """The names of the regular files under the archive's folder, below that. What is none has a line."""
+def files_of(tool: str, given: Any, left: Left) -> Iterator[str]:
+    """The names of the regular files under the archive's folder, below that. What is none has a line. What cannot be looked into is left
+    out, also where a record is in its place: files may be in it."""
     top = os.path.join(given.folder, "")
 
     def skip(name: str, kind: str) -> None:
         tell(tool, f"{shown(name)}: skipped: it is {kind}")
 
-    for name in files_under(top, skip):
+    def unseen(name: str, error: OSError) -> None:
+        listed = "it is a folder that cannot be listed"
+        left.put(name[len(top) :], listed if os.path.isdir(name) else f"it cannot be read: {error.strerror}")
+
+    for name in files_under(top, skip, unseen):
         if name == top or not name.startswith(top):
             raise Stop(FAILED, f"failed open {shown(given.folder)}")
         yield name[len(top) :]
@@ -93,7 +98,7 @@ def named(tool: str, given: Any, left: Left) -> list[str]:
     of the folder of another's, that other one."""
     records, fit = records_in(given.into, given.folder), Names(given.into)
     names, kept = list[str](), 0
-    for name in files_of(tool, given):
+    for name in files_of(tool, given, left):
         place = os.path.join(given.into, name + ENDING)
         fault, lacking = fit.fault(name), records.lacking(place)
         if lacking == "":

@@ -243,8 +243,19 @@ class Terms(NamedTuple):
         yield partial(seen, Looked(self.of_due.by(trusted), self.now, "", "", unfit, 0, self.of_due.folder))
 
     def is_said(self, one: Any) -> bool:
-        """Whether a worker can say this of a record."""
-        return isinstance(one, Judged) and isinstance(one.standing, Standing)
+        """Whether a worker can say this of a record: that it lasts, what its renewal stands on, or a status and a line."""
+        if not isinstance(one, Judged) or not isinstance(one.standing, Standing):
+            return False
+        if one.word == "left":
+            return due.is_status(one.status, due.STATUSES["unjudged"]) and due.is_line(one.line)
+        is_whole = one.word == "lasting" or (one.word == "due" and is_standing(one.standing))
+        return is_whole and due.is_status(one.status, (DONE,)) and one.line == b""
+
+
+def is_standing(one: Standing) -> bool:
+    """Whether a batch can stand on this, whatever a worker says."""
+    is_stamp = isinstance(one.stamp, bytes) and len(one.stamp) == KEPT
+    return is_stamp and one.algorithm in NAMES.values() and is_moment(one.after) and is_moment(one.until)
 
 
 def all_judged(tool: str, given: Any, looked: Looked, names: Sequence[str], stack: ExitStack) -> Iterable[Judged]:

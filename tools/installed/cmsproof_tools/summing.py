@@ -69,8 +69,6 @@ def summed(top: int, algorithm: str, name: str) -> Summed:
         reached = reached_below(top, name)
         try:
             found = os.fstat(reached)
-            if stat.S_ISDIR(found.st_mode):
-                return Summed("", False, b"", "it is a folder that cannot be listed")
             if not stat.S_ISREG(found.st_mode):
                 return Summed("", False, b"", "it is no regular file any more")
             reading = os.open(descriptors.path_of(reached), descriptors.READING)

@@ -273,6 +273,30 @@ class Renewed(WithRecords):
         status, out, _ = run_tool("cmsproof-archive", "renew", "--trust", "list", cwd=self.folder)
         self.assertEqual((status, out), (4, b"renew: failed open renew\n"))
 
+    def test_a_state_beside_the_records(self):
+        """Without a word the state stands beside the records, by their name."""
+        words = self.words()
+        at = words.index("--state")
+        del words[at : at + 2]
+        env = {name: value for name, value in os.environ.items() if not name.lower().endswith("_proxy")}
+        for records in ("records", "records//"):
+            words[words.index("--records") + 1] = records
+            status, out, err = run_tool("cmsproof-archive", *words, cwd=self.folder, env=env)
+            self.assertEqual((status, len(self.authority.asked)), (0, 1), err)
+            self.assertTrue((self.folder / "records.renewals" / "1" / "done").exists())
+        self.assertFalse((self.folder / "state").exists())
+        self.assert_renewed("a", "b/c.tif", "b/d"), self.assert_renewed("e", old=OTHER)
+        for records in (".", "..", "/"):
+            words[words.index("--records") + 1] = records
+            status, out, err = run_tool("cmsproof-archive", *words, cwd=self.folder / "records", env=env)
+            self.assertEqual((status, out), (3, b""), err)
+            self.assertIn(f"cmsproof-archive: --state must be given where --records ends in no name, as {records} (", err)
+        # it is looked at as one that is named
+        shutil.rmtree(self.folder / "records.renewals"), os.symlink("records/b", self.folder / "records.renewals")
+        words[words.index("--records") + 1] = "records"
+        status, out, err = run_tool("cmsproof-archive", *words, cwd=self.folder, env=env)
+        self.assertEqual((status, out, "--state is in --records, or it in that" in err), (3, b"", True), err)
+
     def test_no_records(self):
         shutil.rmtree(self.folder / "records"), (self.folder / "records").mkdir()
         status, lines, err = self.renew()

@@ -399,6 +399,57 @@ class Stamped(WithAuthority):
         status, out, _ = run_tool("cmsproof-archive", "stamp", "--trust", "list", cwd=self.folder)
         self.assertEqual((status, out), (4, b"stamp: failed open stamp\n"))
 
+    def beside(self, folder, *words, into, state, status=0, cwd="", count=4):
+        """A run without words for the places of what is made, or with some, has it in these."""
+        more = ["--trust", self.folder / "list", "--program", PROGRAM, *words]
+        env = {name: value for name, value in os.environ.items() if not name.lower().endswith("_proxy")}
+        words = ["stamp", folder, "--tsa", self.authority.address, *more]
+        found, out, err = run_tool("cmsproof-archive", *words, cwd=self.folder / cwd, env=env)
+        self.assertEqual((found, out.endswith(b"Z\n")), (status, status == 0), err)
+        made = {path.name: path for path in self.folder.iterdir() if path.name not in self.usual}
+        self.assertEqual(set(made), {name for name in (into, state) if name}, folder)
+        if status == 0:
+            self.assertEqual(sum(path.suffix == ".ers" for path in made[into].rglob("*")), count, folder)
+            self.assertTrue((made[state] / "1" / "done").exists(), folder)
+        for path in made.values():
+            shutil.rmtree(path)
+        return err
+
+    def test_folders_beside_the_archive(self):
+        """Without words what is made stands beside FOLDER, by its name."""
+        self.put("-/x"), self.put("odd name.tar/x"), os.symlink("files", self.folder / "link")
+        self.usual = {path.name for path in self.folder.iterdir()}
+        for folder in ("files", "files/", "files//", "./files", str(self.folder / "files") + "/", "files/b/../../files"):
+            self.beside(folder, into="files.records", state="files.stamps")
+        self.beside("link/", into="link.records", state="link.stamps")
+        self.beside("./-", into="-.records", state="-.stamps", count=1)
+        self.beside("odd name.tar", into="odd name.tar.records", state="odd name.tar.stamps", count=1)
+        self.beside("files", "--into", "records", into="records", state="files.stamps")
+        self.beside("files", "--state", "state", into="files.records", state="state")
+        # where nothing stands beside it, the words that lack are named
+        asked = len(self.authority.asked)
+        both, into = "--into and --state must be given where FOLDER ends in no name, as ", ["--into", "../records"]
+        for folder in (".", "..", "./", "/", "//", "b/..", "b/."):
+            self.assertIn(f"{both}{folder} (", self.beside(folder, into="", state="", status=3, cwd="files"))
+            said = self.beside(folder, *into, into="", state="", status=3, cwd="files")
+            self.assertIn(f"cmsproof-archive: {both[len('--into and ') :]}{folder} (", said)
+        self.assertEqual(len(self.authority.asked), asked)
+        self.beside(".", *into, "--state", "../state", into="records", state="state", cwd="files")
+
+    def test_folders_beside_the_archive_that_lead_into_it(self):
+        """They are looked at as those that are named."""
+        for name, word in ((".records", "--into"), (".stamps", "--state")):
+            for to, reason in (("files/b", f"{word} is in FOLDER"), (".", f"FOLDER is in that of {word}")):
+                os.symlink(to, self.folder / f"files{name}")
+                words = ["stamp", "files", "--tsa", self.authority.address, "--program", PROGRAM]
+                status, out, err = run_tool("cmsproof-archive", *words, cwd=self.folder)
+                self.assertEqual((status, out, reason in err), (3, b"", True), err)
+                os.remove(self.folder / f"files{name}")
+        os.symlink("files.stamps", self.folder / "files.records"), (self.folder / "files.stamps").mkdir()
+        status, out, err = run_tool("cmsproof-archive", *words, cwd=self.folder)
+        self.assertEqual((status, out, "--state is in --into, or it in that" in err), (3, b"", True), err)
+        self.assertEqual(len(self.authority.asked), 0)
+
     def test_other_words_of_a_batch(self):
         self.authority.answer = lambda request, _: (503, {}, b"")
         self.assertEqual(self.stamp()[0], 4)

@@ -576,8 +576,8 @@ class Answers(WithAuthority):
 
     def test_answers_to_something_else(self):
         for answer, line, status in (
-            (lambda _: self.authority.reply(ASKED), "refused P", 1),
-            (lambda request: self.authority.reply(other_nonce(request)), "refused P", 1),
+            (lambda _: self.authority.reply(ASKED), "refused P4 Imprint\n", 1),
+            (lambda request: self.authority.reply(other_nonce(request)), "refused P5 Nonce\n", 1),
             (lambda _: b"no response", "malformed response M6 Tag at 0\n", 2),
             (lambda request: self.authority.reply(request) + b"\0", "malformed response M7 ", 2),
         ):
@@ -758,31 +758,44 @@ class GoneOn(WithAuthority):
         self.assertFalse((self.folder / "state" / "1" / ".sums.left").exists())
 
     def test_killed_at_random_moments(self):
-        """Twenty runs are killed: each file has its record at the end, by one request, and no record is half."""
+        """Of twenty runs some are killed, and no record is half at any moment. Once one finishes each file has its record, by the one request
+        of all that were sent; and then it begins anew."""
         chance = random.Random(3161)
         for number in range(60):
             self.put(f"files/many/{number:03}", str(number).encode() * 1000)
         tool = [sys.executable, INSTALLED / "cmsproof-archive", *map(str, self.words())]
         begun = time.monotonic()
         self.assertEqual(self.stamp("--state", "first", "--into", "others")[0], 0)
-        took, finished = time.monotonic() - begun, 0
+        took, statuses = time.monotonic() - begun, []
         self.authority.asked = []
         for _ in range(20):
-            pipes = {"stdout": subprocess.PIPE, "stderr": subprocess.DEVNULL}
+            pipes = {"stdout": subprocess.DEVNULL, "stderr": subprocess.DEVNULL}
             run = subprocess.Popen(tool, cwd=self.folder, start_new_session=True, **pipes)
             time.sleep(chance.random() * took * 1.2)
             os.killpg(run.pid, signal.SIGKILL)
-            out, _ = run.communicate()
-            finished += b"records of" in out
+            statuses.append(run.wait())
+            if (self.folder / "state" / "1" / "done").exists():
+                self.assert_all_by_one()
             for name in self.records():
                 if name.endswith(b".ers"):
                     octets = (self.folder / "records" / os.fsdecode(name)).read_bytes()
                     self.assertIsNone(cmsproof.evidence.questions(octets, trust=cmsproof.TrustList(self.authority.list)).code)
-        status, lines, err = self.stamp()
+        # (how many came to their end goes by the clock; one that was begun just before was killed)
+        self.assertLessEqual(set(statuses), {0, -signal.SIGKILL})
+        self.assertIn(-signal.SIGKILL, statuses)
+        status, _, err = self.stamp()
         self.assertEqual(status, 0, err)
-        self.assertEqual(len({request for _, _, request in self.authority.asked}), 1)
+        self.assert_all_by_one()
+
+    def assert_all_by_one(self):
+        """All files have their records, by one request, and nothing is left to do. Removes what was made."""
         self.assert_records(64)
+        self.assertEqual(len({request for _, _, request in self.authority.asked}), 1)
+        self.assertEqual(self.stamp()[:2], (0, ["files: no file is without a record"]))
         self.assertFalse((self.folder / "state" / "2" / "request.tsq").exists())
+        for name in ("records", "state"):
+            shutil.rmtree(self.folder / name)
+        self.authority.asked = []
 
     def test_signals_while_it_waits(self):
         """The next run sends the same request."""

@@ -45,7 +45,11 @@ class Made:
 
     def token(self, stamped, at, by):
         """A token over these octets, of this authority."""
-        imprint = sequence(sequence(oid(DIGEST_OIDS["sha256"])), string(sha(stamped)))
+        return self.token_over(sha(stamped), at, by)
+
+    def token_over(self, digest, at, by):
+        """A token over what has this digest, of this authority, whose clock says this time."""
+        imprint = sequence(sequence(oid(DIGEST_OIDS["sha256"])), string(digest))
         info = sequence(number(1), oid("2.999.3"), imprint, number(9), element(0x18, at.encode()))
         signer = h.signed_by(by, [type_attribute(TST_INFO), digest_attribute(sha(info)), names_2(sha(by.octets))])
         return signed_data([signer.stamped()], info, TST_INFO, by.octets, 3)

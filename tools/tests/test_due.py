@@ -386,20 +386,51 @@ class Held(unittest.TestCase):
             lasting.end_of(record, lasting.By(trust, {}, BY))
 
 
+def calls_of(done):
+    """How many functions are called, and generators gone on with, while this is done."""
+    count = 0
+
+    def counted(_, event, __):
+        nonlocal count
+        count += event in ("call", "c_call")
+
+    before = sys.getprofile()
+    sys.setprofile(counted)
+    try:
+        done()
+    finally:
+        sys.setprofile(before)
+    return count
+
+
+def seconds_of(done):
+    """The time of this processor that this takes."""
+    begun = time.process_time()
+    done()
+    return time.process_time() - begun
+
+
 class Large(WithRecords):
     """Records that a stranger made long."""
 
     def test_many_stamps(self):
-        """The time that a record takes grows with its octets."""
-        token = sequence(MADE.token(FILE, BEGUN, MADE.clock))
-        taken = []
-        for count in (200, 2000):
-            record, begun = record_with(*[token] * count), time.process_time()
-            with self.assertRaises(lasting.Unjudged):
-                lasting.end_of(record[:-1], lasting.By(cmsproof.TrustList(MADE.list), {}, BY))
-            lasting.end_of(record, lasting.By(cmsproof.TrustList(MADE.list), {}, BY))
-            taken.append(time.process_time() - begun)
-        self.assertLess(taken[1], 40 * taken[0] + 2)
+        """What a record takes grows with its octets: the calls, which are counted, and the time, of which quadratic would be 400 times as
+        much."""
+        token, few, many = sequence(MADE.token(FILE, BEGUN, MADE.clock)), 2000, 40000
+        calls, times = [], []
+        for count in (few, many):
+            record = record_with(*[token] * count)
+            calls.append(calls_of(lambda record=record: self.look_at(record)))
+            times.append(min(seconds_of(lambda record=record: self.look_at(record)) for _ in range(3)))
+        self.assertGreater(calls[0], few)
+        self.assertLessEqual(calls[1], many // few * calls[0])
+        self.assertLess(times[1], 4 * many // few * times[0])
+
+    def look_at(self, record):
+        """Looks until when a record serves, and the same without its last octet."""
+        with self.assertRaises(lasting.Unjudged):
+            lasting.end_of(record[:-1], lasting.By(cmsproof.TrustList(MADE.list), {}, BY))
+        lasting.end_of(record, lasting.By(cmsproof.TrustList(MADE.list), {}, BY))
 
     def test_one_that_is_mapped(self):
         values = element(0x30, *[string(bytes(32))] * (COPIED // 34 + 1000))

@@ -23,8 +23,8 @@ from cmsproof_tools.running import Stop  # noqa: E402
 from test_archive_records import MADE  # noqa: E402
 from test_cluster import PYTHON, THERE, WithWorkers  # noqa: E402
 from test_due import BY, GOOD, LATER, STRANGE, TWICE, list_of, tsa  # noqa: E402
-from test_renewing import LIST, OTHER, WithRecords, knows_renewing  # noqa: E402
-from test_stamping import WithAuthority, knows_making  # noqa: E402
+from renewing_world import LIST, OTHER, WithRecords, knows_renewing  # noqa: E402
+from stamping_world import WithAuthority, knows_making  # noqa: E402
 
 NOTHING = hashlib.sha256(b"").hexdigest()
 

@@ -8,10 +8,12 @@ import tempfile
 import time
 import unittest
 
-from making import TOP, folder_of, lacking_tools, needs
-from oracle import forms, records
+from making import TOP, folder_of, lacking_tools, needs, run_tool
+from oracle import forms, records, renewals
 from oracle.identifiers import DIGEST_OIDS
+from recorded_world import AGAIN, BEGUN, FILE, MADE, RENEWED
 from samples.authority import STAMPING, certificate, configure, make_certificate, openssl
+from samples.building import sha
 from test_made_records import JARS, NO_BOUNCY_CASTLE, document, run
 
 # the files that one time-stamp is made for, by the name of their folder: trees of one, two, three and five leaves
@@ -221,6 +223,64 @@ class PutBack(Folder):
             for one, other in zip(names, names[1:] + names[:1]):
                 said = self.check(f"{where}/{other}.ers", one)
                 self.assertEqual(said, "refused chain 1 stamp 1 W3 NotCovered", (where, one, other))
+
+
+@unittest.skipIf(lacking_tools(), lacking_tools())
+class Behind(unittest.TestCase):
+    """Time-stamps over the right root, of an authority whose clock is behind the last time-stamp of a record: all that is wrong is their order."""
+
+    # what is no later than the last time-stamp of `one.ers`, BEGUN, and than that of `two.ers`, RENEWED
+    BEFORE_ONE = ("20200101000000Z", "20210501095959.999Z", BEGUN)
+    BEFORE_TWO = (*BEFORE_ONE, "20210501100000.001Z", "20230502100000Z", RENEWED)
+
+    def setUp(self):
+        self.folder = folder_of(self)
+        self.old = {"one.ers": MADE.record(), "two.ers": MADE.record(times=(BEGUN, RENEWED))}
+        for name, octets in {**self.old, "trust": MADE.list, "file": FILE}.items():
+            (self.folder / name).write_bytes(octets)
+
+    def said_of(self, record):
+        """What the check says of a record."""
+        (self.folder / "record").write_bytes(record)
+        asked = run(self.folder, "evidence", "questions", "--trust", "trust", "record")[1]
+        (self.folder / "asked").write_bytes(asked)
+        self.assertEqual(run_tool("cmsproof-verify", "asked", "answers", cwd=self.folder)[0], 0)
+        return run(self.folder, "evidence", "check", "--trust", "trust", "--answers", "answers", "record", "file")[1].decode()
+
+    def test_renew(self):
+        """No record is renewed, also not the one whose last time-stamp is earlier; by a later one both are."""
+        asked = run(self.folder, "evidence", "renew", *self.old, "--request", "request")
+        self.assertEqual(asked, (0, b"", b""))
+        digest = bytes.fromhex(run(self.folder, "show", "request", "request")[1].split()[4].decode())
+        for at in (*self.BEFORE_TWO, "20230502100000.501Z"):
+            (self.folder / "token").write_bytes(MADE.token_over(digest, at, MADE.second))
+            found = run(self.folder, "evidence", "renew", *self.old, "--token", "token")
+            there = {path.name: path.read_bytes() for path in self.folder.glob("*.ers*")}
+            if at in self.BEFORE_TWO:
+                self.assertEqual((found, there), ((1, b"refused U9 Order\n", b""), self.old), at)
+        self.assertEqual((found, sorted(there)), ((0, b"", b""), sorted(self.old)))
+        for name, octets in there.items():
+            self.assertNotEqual(octets, self.old[name])
+            self.assertEqual(self.said_of(octets), f"accepted {BEGUN}\n", name)
+
+    def test_put_together(self):
+        """A record that somebody else put together by such a token is refused for its order, in a chain and in a new one."""
+        for name, early in (("one.ers", self.BEFORE_ONE), ("two.ers", self.BEFORE_TWO)):
+            octets, last = self.old[name], len(self.stamps_in(self.old[name]))
+            self.assertEqual(self.said_of(octets), f"accepted {BEGUN}\n")
+            record = renewals.record_in(octets)
+            for is_chain in (False, True):
+                standing = renewals.rehash_of(record, None, sha(FILE)) if is_chain else renewals.renewal_of(record, None)
+                place = "chain 2 stamp 1" if is_chain else f"chain 1 stamp {last + 1}"
+                for at in (*early, AGAIN):
+                    new = renewals.renewed(octets, standing, MADE.token_over(standing.leaf, at, MADE.second), is_chain)
+                    said = f"accepted {BEGUN}\n" if at == AGAIN else f"refused {place} W5 Order\n"
+                    self.assertEqual(self.said_of(new), said, (name, is_chain, at))
+
+    def stamps_in(self, octets):
+        """The archive time-stamps in the only chain of a record."""
+        (chain,) = forms.whole(octets, records.evidence_record).chains
+        return chain
 
 
 if __name__ == "__main__":

@@ -17,7 +17,7 @@ need_tools()
 import cmsproof  # noqa: E402
 from cmsproof_tools import authority, batches, folders, making, summing  # noqa: E402
 from cmsproof_tools.running import Stop  # noqa: E402
-from test_stamping import ASKED, Authority  # noqa: E402
+from stamping_world import ASKED, Authority  # noqa: E402
 
 
 def answer_of(begin, then):

@@ -23,7 +23,7 @@ from cmsproof_tools.trees import (
 )  # noqa: E402
 from samples.building import Token  # noqa: E402
 from samples.recorded import archive_stamp, record_of  # noqa: E402
-from test_stamping import WithAuthority  # noqa: E402
+from stamping_world import WithAuthority  # noqa: E402
 
 
 def digest(*values):

@@ -8,12 +8,12 @@ from typing import Any
 from cmsproof_tools.archive_words import add_dask, jobs_of
 from cmsproof_tools.due import add_moment, moment_by
 from cmsproof_tools.running import Words, module
-from cmsproof_tools.stamp import add_authority, is_within
+from cmsproof_tools.stamp import add_authority, is_within, put_beside
 
 ABOUT = """Renews the evidence records under a folder that are due by a moment, by one time-stamp for very many (RFC 4998 5.2), before the last one of each no
 longer serves. Which are due `cmsproof-archive due` says.
 
-    cmsproof-archive renew --records records --months 12 --trust trust.txt --tsa http://tsa.example/stamp --state renewals
+    cmsproof-archive renew --records records --months 12 --trust trust.txt --tsa http://tsa.example/stamp
 
 The program is asked for a request of the root of the tree over their last time-stamps (`cmsproof evidence renew --request`), the authority for a
 time-stamp of that (RFC 3161 3.4), and once its answer is judged the program renews the records (`cmsproof evidence renew --token`), each in its place,
@@ -26,12 +26,15 @@ and serve itself until that moment: else its records would be due again at once.
 A record that is due and stays as it is has a line, `due TIME NAME: REASON`: nobody can judge it; it ended before now, which no time-stamp mends; its
 digest algorithm ends, and it needs another chain; or it cannot be replaced.
 
-The folder STATE has all that was done, so that a run that was stopped is gone on with by the same words: a request that may have been sent is sent
-again, as long as its records are as they were, and a token that is there is used.
+The folder RECORDS.renewals, or that of --state, has all that was done, so that a run that was stopped is gone on with by the same words: a request
+that may have been sent is sent again, as long as its records are as they were, and a token that is there is used.
 
 Exit status: 0 all that were due are renewed; 1 one is not, or the answer is refused; 2 one is malformed, or the answer or the trust list is; 3 wrong
 words; 4 a file, the authority, the program or the library failed.
 """
+
+# what stands behind the name of the records' folder in that of the state
+RENEWALS = ".renewals"
 
 
 def parser_of(tool: str) -> Words:
@@ -39,7 +42,7 @@ def parser_of(tool: str) -> Words:
     parser = Words(tool, description=ABOUT)
     parser.add_argument("--records", required=True, metavar="DIR", help="the folder of the records, which end in .ers")
     add_moment(parser)
-    add_authority(parser)
+    add_authority(parser, f"that of --records with {RENEWALS} behind it")
     jobs = "records that are judged at a time; as many as there are processors by default"
     parser.add_argument("--jobs", type=jobs_of, default=len(os.sched_getaffinity(0)), metavar="N", help=jobs)
     add_dask(parser, "judge the records")
@@ -65,6 +68,7 @@ def main(tool: str, words: list[str]) -> int:
     parser = parser_of(tool)
     given: Any = parser.parse_args(words)
     given.by = moment_by(parser, given)
+    put_beside(parser, given, "--records", given.records, state=RENEWALS)
     check_words(parser, given)
     address = module("authority").address_of(given.tsa)
     return int(module("renewing").run(tool, given, address))

@@ -6,23 +6,23 @@ import os
 from typing import Any
 
 from cmsproof_tools.archive_words import add_dask, add_ends, jobs_of
-from cmsproof_tools.running import Words, module
+from cmsproof_tools.running import Words, module, shown
 
 ABOUT = """Has an authority stamp all files under a folder that have no evidence record (RFC 4998), by one time-stamp, and makes their records.
 
-    cmsproof-archive stamp letters --tsa http://tsa.example/stamp --trust trust.txt --into records --state letters.stamp
+    cmsproof-archive stamp letters --tsa http://tsa.example/stamp --trust trust.txt
 
 The digest of each file is computed, the program asked for a request of the root of the tree over them (`cmsproof evidence request`), the
 authority for a time-stamp of that (RFC 3161 3.4), and once its answer is judged the program makes the records (`cmsproof evidence make`):
-that of FOLDER/NAME is RECORDS/NAME.ers. The authority gets only the root over them.
+that of FOLDER/NAME is FOLDER.records/NAME.ers, or below the folder of --into. The authority gets only the root over them.
 
 The answer must be to the very request, and by --trust the token must count under an authority of the list now. Without --trust its signature
 must hold, nobody looks whose it is, and a line says so.
 
-The folder STATE has all that was done, so that a run that was stopped is gone on with by the same words: the digests are not computed again,
-and a request that may have been sent is sent again. A file that was changed since its digest was computed is named: its record is of what
-it was. A link, a pipe or a device has no record, and a line says so. A file that can have no record, cannot be read, or changes while it is
-read is named and left out, and the others are stamped; a later run stamps it once that is mended.
+The folder FOLDER.stamps, or that of --state, has all that was done, so that a run that was stopped is gone on with by the same words: the
+digests are not computed again, and a request that may have been sent is sent again. A file that was changed since its digest was computed is
+named: its record is of what it was. A link, a pipe or a device has no record, and a line says so. A file that can have no record, cannot be
+read, or changes while it is read is named and left out, and the others are stamped; a later run stamps it once that is mended.
 
 Exit status: 0 all files have records; 1 a file is left out or was changed, or the answer is refused; 2 the answer is malformed, or the trust
 list is; 3 wrong words; 4 a file, the authority, the program or the library failed.
@@ -31,6 +31,8 @@ list is; 3 wrong words; 4 a file, the authority, the program or the library fail
 
 # the digest algorithms (docs/FORMAT.md, section 5) that a tree is made by: those that hold for long
 ALGORITHMS = ("sha256", "sha384", "sha512")
+# what stands behind the name of the archive's folder in the names of those that are made for it
+RECORDS, STAMPS = ".records", ".stamps"
 
 
 def seconds_of(text: str) -> float:
@@ -40,11 +42,11 @@ def seconds_of(text: str) -> float:
     return float(text)
 
 
-def add_authority(parser: Words) -> None:
-    """The words that say which authority is asked, and how, and where is kept what was done."""
+def add_authority(parser: Words, beside: str) -> None:
+    """The words that say which authority is asked, and how, and where is kept what was done, by default in a folder of this name."""
     parser.add_argument("--tsa", required=True, metavar="URL", help="the address of the authority, http or https")
-    state = "a folder with what was done so far, which is made if it is not there"
-    parser.add_argument("--state", required=True, metavar="DIR", help=state)
+    state = f"a folder with what was done so far, {beside} by default, which is made if it is not there"
+    parser.add_argument("--state", metavar="DIR", help=state)
     parser.add_argument("--policy", metavar="OID", help="the policy under which the authority is asked to stamp")
     took = "how many seconds the authority may take, 60 by default"
     parser.add_argument("--timeout", type=seconds_of, default=60.0, metavar="N", help=took)
@@ -57,9 +59,9 @@ def add_authority(parser: Words) -> None:
 def parser_of(tool: str) -> Words:
     """The parser of the words."""
     parser = Words(tool, description=ABOUT)
-    into = "the folder of the records, which is made if it is not there"
-    parser.add_argument("--into", required=True, metavar="DIR", help=into)
-    add_authority(parser)
+    into = f"the folder of the records, FOLDER{RECORDS} by default, which is made if it is not there"
+    parser.add_argument("--into", metavar="DIR", help=into)
+    add_authority(parser, f"FOLDER{STAMPS}")
     parser.add_argument("--trust", metavar="LIST", help="the trust list that has the authority")
     add_ends(parser, ", with --trust")
     digest = "the digest algorithm, sha256 by default"
@@ -75,6 +77,18 @@ def is_within(path: str, folder: str) -> bool:
     """Whether a path leads into a folder, or is it."""
     inner, outer = os.path.realpath(path), os.path.realpath(folder)
     return inner == outer or inner.startswith(outer.rstrip("/") + "/")
+
+
+def put_beside(parser: Words, given: Any, called: str, folder: str, **endings: str) -> None:
+    """Has what is made stand beside a folder, by its name with one of these endings, where no word says where. Ends the tool where the folder
+    has no name."""
+    path = folder.rstrip("/")
+    lacking = [word for word in endings if getattr(given, word) is None]
+    if lacking and os.path.basename(path) in ("", os.curdir, os.pardir):
+        words = " and ".join(f"--{word}" for word in lacking)
+        parser.error(f"{words} must be given where {called} ends in no name, as {shown(folder)}")
+    for word in lacking:
+        setattr(given, word, path + endings[word])
 
 
 def check_folders(parser: Words, given: Any) -> None:
@@ -102,6 +116,7 @@ def main(tool: str, words: list[str]) -> int:
     """Runs the tool with these words and answers its exit status."""
     parser = parser_of(tool)
     given = parser.parse_args(words)
+    put_beside(parser, given, "FOLDER", given.folder, into=RECORDS, state=STAMPS)
     check_folders(parser, given)
     address = module("authority").address_of(given.tsa)
     return int(module("making").run(tool, given, address))

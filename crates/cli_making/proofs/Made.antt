@@ -1,6 +1,6 @@
 -- How making records fails, and what was made.
 use Rattle.std.proofs.Common.{◌≡◌, ◌⊎◌, ℕ, List, Option, None, Result, Ok, Err, inl, inr, subst}
-use Rattle.std.specs.Prelude.{IfErr, OnOk}
+use Rattle.std.specs.Prelude.{IfErr, OnOk, option_copied}
 use Rattle.digests.specs.declared.algorithm.Alg.{Alg}
 use Rattle.digests.specs.declared.value.Digest.{Digest}
 use Rattle.evidence_trees.specs.HashTrees.{HashTree}
@@ -118,11 +118,12 @@ module _ {F : Type 0} (holds : F → Option (List ℕ)) (words : MakeWords) wher
   abbrev Fails : Alg → (text token : List ℕ) → Failure → Type 0
   Fails alg text token f = IsUnmade (system_ways holds) None None words.into.now alg text token f
 
-  pub none_given : (f : Failure) → GivesNot holds words.alg.now words.sums words.token (λ _ _ _ _. ⊥) f
-      → MakesNoRecords holds words f
-  none_given f why = gives_not holds words.alg.now words.sums words.token Fails f why
+  pub none_given : (f : Failure)
+      → GivesNot holds (option_copied words.alg) words.sums words.token (λ _ _ _ _. ⊥) f → MakesNoRecords holds words f
+  none_given f why = gives_not holds (option_copied words.alg) words.sums words.token Fails f why
 
-  pub none_made : (f : Failure) (alg : Alg) (text token : List ℕ) → AreGiven holds words.alg.now alg text token
-      → Fails alg text token f → MakesNoRecords holds words f
+  pub none_made : (f : Failure) (alg : Alg) (text token : List ℕ)
+      → AreGiven holds (option_copied words.alg) alg text token → Fails alg text token f
+      → MakesNoRecords holds words f
   none_made f alg text token are why =
-      given_fails holds words.alg.now words.sums words.token Fails f alg text token are why
+      given_fails holds (option_copied words.alg) words.sums words.token Fails f alg text token are why

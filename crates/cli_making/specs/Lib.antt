@@ -6,4 +6,5 @@ pub mod Making
 pub mod Unmade
 pub mod Leaves
 pub mod Stamps
+pub mod Algorithm
 pub mod Given

@@ -1,7 +1,7 @@
 -- What `evidence make` writes: for each line of a text of sums the evidence record of its digest (RFC 4998, 4.2), below
 -- a folder and by the line's name. `holds` is what an open file holds, and `contents` what it has taken, if that is
 -- known. Begin here.
-use Rattle.std.specs.Prelude.{◌≡◌, ⊤, ℕ, List, [], ◌∷◌, Option, None}
+use Rattle.std.specs.Prelude.{◌≡◌, ⊤, ℕ, List, [], ◌∷◌, Option, None, option_copied}
 use Rattle.std.specs.List.{AllByRecursion}
 use Rattle.digests.specs.declared.algorithm.Alg.{Alg}
 use Rattle.digests.specs.declared.value.Digest.{Digest}
@@ -85,10 +85,10 @@ pub record AreMade (ways : Ways) (Did : Placed → Type 0) (before after : Optio
   pub ready : AreTested ways folder alg text token
   pub written : ArePut Did before after folder ready.tree token ready.sums
 
--- so it is of the text of a file, by the algorithm that the words name, and of the token that a file holds
+-- so it is of the text of a file, by the algorithm that the words or the token name, and of the token that a file holds
 pub record AreRecordsWritten {F : Type 0} (holds contents : F → Option (List ℕ)) (words : MakeWords) : Type 0 where
   pub alg : Alg
   pub text : List ℕ
   pub token : List ℕ
-  pub given : AreGiven holds words.alg.now alg text token
+  pub given : AreGiven holds (option_copied words.alg) alg text token
   pub made : AreMade (system_ways holds) (SystemPut holds contents) None None words.into.now alg text token

@@ -1,6 +1,7 @@
 -- Why `evidence make` makes no records, or not all: the first reason of these, in this order. `holds` is what an open
 -- file holds, if that is known.
 use Rattle.std.specs.Prelude.{◌≡◌, ◌≤◌, ◌^◌, ◌⊎◌, ℕ, List, [], ◌∷◌, ◌++◌, length, Option, None}
+use Rattle.std.specs.Prelude.{option_copied}
 use Rattle.std.specs.List.{AllByRecursion}
 use Rattle.digests.specs.declared.algorithm.Alg.{Alg}
 use Rattle.digests.specs.declared.value.Digest.{Digest}
@@ -83,5 +84,5 @@ IsUnmade ways before after folder alg text token f = (IsRefused ways folder alg 
 -- the first of these: no algorithm has the name; the file of the sums can't be read; the token's can't; or what they
 -- hold is refused, or a record can't be put
 abbrev pub MakesNoRecords : {F : Type 0} → (holds : F → Option (List ℕ)) → MakeWords → Failure → Type 0
-MakesNoRecords holds words f = GivesNot holds words.alg.now words.sums words.token
+MakesNoRecords holds words f = GivesNot holds (option_copied words.alg) words.sums words.token
     (λ alg text token g. IsUnmade (system_ways holds) None None words.into.now alg text token g) f

@@ -2,6 +2,7 @@
 //! that they write (RFC 4998 4.2), and how they fail. Begin with `specs/Making.antt`.
 #![tactic(auto)]
 
+mod algorithm;
 mod given;
 mod lines;
 mod make;

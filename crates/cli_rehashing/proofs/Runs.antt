@@ -48,11 +48,11 @@ module _ {F : Type 0} (holds contents : F → Option (List ℕ)) (words : Rehash
   abbrev Fails : Alg → (text token : List ℕ) → Failure → Type 0
   Fails alg text token f = AreNotAnew (system_ways holds contents) None None words.into.now alg text token f
 
-  pub none_given : (f : Failure) → GivesNot holds words.alg.now words.sums words.token (λ _ _ _ _. ⊥) f
+  pub none_given : (f : Failure) → GivesNot holds (Some words.alg.now) words.sums words.token (λ _ _ _ _. ⊥) f
       → RehashesNot holds contents words f
-  none_given f why = gives_not holds words.alg.now words.sums words.token Fails f why
+  none_given f why = gives_not holds (Some words.alg.now) words.sums words.token Fails f why
 
-  pub none_anew : (f : Failure) (alg : Alg) (text token : List ℕ) → AreGiven holds words.alg.now alg text token
+  pub none_anew : (f : Failure) (alg : Alg) (text token : List ℕ) → AreGiven holds (Some words.alg.now) alg text token
       → Fails alg text token f → RehashesNot holds contents words f
   none_anew f alg text token are why =
-      given_fails holds words.alg.now words.sums words.token Fails f alg text token are why
+      given_fails holds (Some words.alg.now) words.sums words.token Fails f alg text token are why

@@ -152,5 +152,5 @@ pub record AreRecordsAnew {F : Type 0} (holds contents : F → Option (List ℕ)
   pub alg : Alg
   pub text : List ℕ
   pub token : List ℕ
-  pub given : AreGiven holds words.alg.now alg text token
+  pub given : AreGiven holds (Some words.alg.now) alg text token
   pub are : AreAnew (system_ways holds contents) None None words.into.now alg text token

@@ -22,7 +22,7 @@ use Rattle.cli_renewing.specs.declared.footing.Footing.{Footing}
 use Rattle.cli_renewing.specs.Keeping.{Kept, Ways, kept, system_ways}
 use Rattle.cli_renewing.specs.Runs.{AreNotDone}
 use Rattle.cli_rehashing.specs.Footings.{AreLineFootings, AreLines}
-use Rattle.cli_rehashing.specs.Rehashing.{rehashing}
+use Rattle.cli_rehashing.specs.Rehashing.{IsRehashRequest, rehashing}
 use Rattle.cli_rehashing.specs.Standing.{HasNoLeaf}
 
 -- ---- a record has no leaf
@@ -60,12 +60,21 @@ AreNotRequested holds contents words f = RefusesAlg words.alg.now f
     ⊎ ((text : List ℕ) × IsHeld holds text
     × HaveNoTree (system_ways holds contents) None words.into.now alg text f)))
 
--- the file that should take it is the one of the sums or of a record, memory ran out, the request can't be made, or
--- that file can't be made or written
+-- the text of a file has the request, by the algorithm of the words
+pub record IsRequested {F : Type 0} (holds contents : F → Option (List ℕ)) (words : RehashRequestWords) : Type 0 where
+  pub alg : Alg
+  pub named : words.alg.now ≡ name_of alg
+  pub text : List ℕ
+  pub held : IsHeld holds text
+  pub octets : List ℕ
+  pub made : IsRehashRequest (system_ways holds contents) words.into.now alg text octets
+
+-- the file that should take it is the one of the sums or of a record; memory ran out; the request can't be made; or
+-- that file can't be made or written, once the request is there
 abbrev pub MakesNoRehashRequest : {F : Type 0} → (holds contents : F → Option (List ℕ)) → RehashRequestWords
     → Failure → Type 0
 MakesNoRehashRequest holds contents words f = Names (codes "request") f ⊎ ((f ≡ failure.Memory)
-    ⊎ (AreNotRequested holds contents words f ⊎ (f ≡ failure.Write words.out)))
+    ⊎ (AreNotRequested holds contents words f ⊎ (IsRequested holds contents words × (f ≡ failure.Write words.out))))
 
 -- ---- the records
 
@@ -86,5 +95,5 @@ AreNotAnew ways before after folder alg text token f = (RefusesSums alg text f �
 -- no algorithm has the name, the file of the sums or then that of the token can't be read, or the records of the lines
 -- are not all renewed
 abbrev pub RehashesNot : {F : Type 0} → (holds contents : F → Option (List ℕ)) → RehashWords → Failure → Type 0
-RehashesNot holds contents words f = GivesNot holds words.alg.now words.sums words.token
+RehashesNot holds contents words f = GivesNot holds (Some words.alg.now) words.sums words.token
     (λ alg text token g. AreNotAnew (system_ways holds contents) None None words.into.now alg text token g) f

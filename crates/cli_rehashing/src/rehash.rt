@@ -37,7 +37,7 @@ pub fn rehash_records<'a, R: Files + AllocGlobal>(
     // what such a file holds.
     ensures renewed { OnOk result (AreRecordsAnew R.File.remaining R.File.contents words.now) }
 {
-    let given = given_by(rt, words.alg, words.sums, words.token)?;
+    let given = given_by(rt, Some(words.alg), words.sums, words.token)?;
     let (text, token) = (given.text.as_slice(), given.token.as_slice());
     let mut keeps = System::new(rt);
     rehash_all(rt.alloc(), &mut keeps, words.into, given.alg, text, token)?;

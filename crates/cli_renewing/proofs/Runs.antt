@@ -86,12 +86,12 @@ module _ {A : Type 0} (ways : Ways) (NoTree : Failure → Type 0) (Are : List Fo
       its : StampsTree tree token s.moment
       its = as_of s tree token has (λ t octets. StampsTree t octets s.moment) stamps.0
 
-      pub untested : (put : Option (List Kept)) (f : Failure)
+      pub untested : ComesAfter s.moment footings → (put : Option (List Kept)) (f : Failure)
           → IsUntested ways (renewal s.tree.now s.token.now s.moment) xs f
           → AreNotDone ways put put NoTree Are renewal xs token f
-      untested put f why =
+      untested later put f why =
           let there = as_of s tree token has (λ t octets. IsUntested ways (renewal t octets s.moment) xs f) why in
-          refused put f (inr (footings, tree, its.0, are, over its.0 its.1, inr (s.moment, its.2, inr there)))
+          refused put f (inr (footings, tree, its.0, are, over its.0 its.1, inr (s.moment, its.2, inr (later, there))))
 
       module _ (later : ComesAfter s.moment footings)
           (tested : AreTested ways (renewal s.tree.now s.token.now s.moment) xs) (before after : Option (List Kept))

@@ -59,14 +59,14 @@ abbrev pub IsNotLater : HashTree → List Footing → (token : List ℕ) → Fai
 IsNotLater tree footings token f = StampsNoTree tree token f
     ⊎ ((m : ℕ) × StampsTree tree token m × IsTooEarly m footings f)
 
--- Why nothing is put, in this order: the records have no tree; U7, U8; U9; or a test found of one that it can't be
--- renewed.
+-- Why nothing is put, in this order: the records have no tree; U7, U8; U9; or, if none of these is so, a test found of
+-- one that it can't be renewed.
 abbrev pub AreRefused : {A : Type 0} → Ways → (NoTree : Failure → Type 0) → (Are : List Footing → Type 0)
     → (renewal : HashTree → (token : List ℕ) → (m : ℕ) → Renewal A) → List A → (token : List ℕ) → Failure → Type 0
 AreRefused ways NoTree Are renewal xs token f = NoTree f
     ⊎ ((footings : List Footing) × (tree : HashTree) × (root : Digest) × Are footings × IsTreeOn footings tree root
     × (StampsNot token root f ⊎ ((m : ℕ) × StampsRoot token root m
-    × (IsTooEarly m footings f ⊎ IsUntested ways (renewal tree token m) xs f))))
+    × (IsTooEarly m footings f ⊎ (ComesAfter m footings × IsUntested ways (renewal tree token m) xs f)))))
 
 -- Nothing was refused, and a test found that all can be renewed; then the records before one were renewed, and put, and
 -- no others, and that one failed.

@@ -13,7 +13,7 @@ use Rattle.cli_failures.specs.Files.{IsFailureToRead, IsHeld}
 use Rattle.cli_renewing.specs.declared.footing.Footing.{Footing}
 use Rattle.cli_renewing.specs.Footings.{AreBy, AreFootings, IsFootingRead}
 use Rattle.cli_renewing.specs.Keeping.{Kept, Ways, kept, system_ways}
-use Rattle.cli_renewing.specs.Renewing.{renewal}
+use Rattle.cli_renewing.specs.Renewing.{IsRenewalRequest, renewal}
 use Rattle.cli_renewing.specs.Runs.{AreNotDone}
 use Rattle.cli_renewing.specs.Standing.{HasNoFooting}
 
@@ -53,12 +53,14 @@ HaveNoTree ways token paths f = ((paths ≡ []) × Names (codes "RECORD") f) ⊎
 
 -- ---- the request
 
--- the file that should take it is the one of a record, memory ran out, the records have no tree, or that file can't be
--- made or written
+-- the file that should take it is the one of a record; memory ran out; the records have no tree; or that file can't be
+-- made or written, once the request is there
 abbrev pub MakesNoRenewalRequest : {F : Type 0} → (holds contents : F → Option (List ℕ)) → RenewalRequestWords
     → Failure → Type 0
 MakesNoRenewalRequest holds contents words f = Names (codes "request") f
-    ⊎ (HaveNoTree (system_ways holds contents) None words.records.items f ⊎ (f ≡ failure.Write words.out))
+    ⊎ (HaveNoTree (system_ways holds contents) None words.records.items f
+    ⊎ ((octets : List ℕ) × IsRenewalRequest (system_ways holds contents) words.records.items octets
+    × (f ≡ failure.Write words.out)))
 
 -- ---- the records
 

@@ -273,8 +273,8 @@ pub struct RootRequestWords<'a> {
 /// the folder that the records go into.
 #[derive(Clone, Copy, Debug)]
 pub struct MakeWords<'a> {
-    /// The algorithm of the digests, by its name.
-    pub alg: &'a str,
+    /// The algorithm of the digests, by its name. `None` for that of the token.
+    pub alg: Option<&'a str>,
     /// The path of the file that holds the token of the stamp.
     pub token: &'a str,
     /// The path of the folder that the records go into.

@@ -58,7 +58,7 @@ pub record IsRootRequestIn (given : Found) (words : RootRequestWords) : Type 0 w
 
 -- the same for records that are made by such a stamp
 pub record IsMakeIn (given : Found) (words : MakeWords) : Type 0 where
-  pub alg : first_value given (codes "alg") ≡ Some words.alg.now
+  pub alg : option_map (λ s. s.now) words.alg ≡ first_value given (codes "alg")
   pub token : first_value given (codes "token") ≡ Some words.token.now
   pub into : first_value given (codes "into") ≡ Some words.into.now
   pub sums : first_value given (codes "SUMS") ≡ Some words.sums.now

@@ -478,8 +478,10 @@ request.tsq";
 
 /// What `evidence make` writes and prints.
 pub const EVIDENCE_MAKE_LINES: &str = "\
-SUMS and --alg are those of the request, as the help of `evidence request` says. TOKEN is the token
-of the answer to it, a CMS SignedData that holds a TSTInfo (RFC 3161 2.4.2), as `match` writes it.
+SUMS are those of the request, as the help of `evidence request` says. TOKEN is the token of the
+answer to it, a CMS SignedData that holds a TSTInfo (RFC 3161 2.4.2), as `match` writes it. Without
+--alg SUMS are by the algorithm of its imprint; or by SHA-256, if that is none of those that --alg
+may name, or line 1 of SUMS is none by it.
 
 For each line of SUMS, in their order, FOLDER/NAME.ers is made, with the NAME of that line: the
 evidence record (RFC 4998, DER) of the octets that have this digest. It has the hash values which
@@ -495,7 +497,7 @@ Otherwise the first rule that fails is printed, and no record is made:
   refused U6 NameTwice       two lines have one name
   refused U7 TokenMalformed  TOKEN isn't a CMS SignedData whose content is a TSTInfo, in DER
   refused U8 ImprintDiffers  the token isn't for the root: SUMS has other digests than those of the
-                             request, or --alg is another
+                             request, or their algorithm is another
   refused U10 TooLong        a length would pass 4,294,967,295
 SUMS and TOKEN are read before either is judged. No record is replaced by another: one that is there
 with the same octets stays as it is, so a run that was cut off can be run again; one with others, as
@@ -511,7 +513,7 @@ No signature is checked: `evidence check` says whether a record is accepted.
 Examples:
   cmsproof match request.tsq response.tsr token.tok
   cmsproof evidence make --token token.tok --into records SHA256SUMS
-  sha512sum *.pdf | cmsproof evidence make --alg sha512 --token token.tok --into records -";
+  sha512sum *.pdf | cmsproof evidence make --token token.tok --into records -";
 
 /// What `evidence renew` writes and prints.
 pub const EVIDENCE_RENEW_LINES: &str = "\

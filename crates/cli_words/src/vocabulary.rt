@@ -116,7 +116,7 @@ const FILES: Word = Word {
     help: "The files to read, as signed.p7s (no default)",
 };
 
-/// The algorithm of digests, of `request`, `evidence request` and `evidence make`.
+/// The algorithm of digests, of `request` and `evidence request`.
 const ALGORITHM: Word = Word {
     name: "alg",
     takes: Takes::Algorithm,
@@ -482,7 +482,12 @@ pub static EVIDENCE_REQUEST: [Word; 6] = [ALGORITHM, POLICY, NONCE, CERT, SUMS, 
 
 /// The words of `evidence make`, in the order of its help.
 pub static EVIDENCE_MAKE: [Word; 4] = [
-    ALGORITHM,
+    Word {
+        name: "alg",
+        takes: Takes::NamedAlgorithm,
+        required: false,
+        help: "The digest algorithm of SUMS, as --alg sha512 (by default that of TOKEN)",
+    },
     Word {
         name: "token",
         takes: Takes::Text("TOKEN"),

@@ -311,7 +311,7 @@ pub fn make_words<'a>(given: &ArgMatches<'a>) -> Result<MakeWords<'a>, Failure<'
 {
     let (token, sums) = (value(given, "token")?, value(given, "SUMS")?);
     Ok(MakeWords {
-        alg: value(given, "alg")?,
+        alg: given.get_str("alg"),
         token,
         into: value(given, "into")?,
         sums,

@@ -38,8 +38,8 @@ returns-in_err-test_lines-clause-failed g c =
     c.args.sums.now c.args.token.now
     c.as_slice-footings.result.now
     (stand_as _ _ _ _ _ _ c.as_slice-footings.ensures.value c.in_ok-found.ensures.found)
-    c.in_ok-tree.tree c.in_ok-tree.ensures.found c.in_ok-by.by c.in_ok-by.ensures.has c.in_ok-by.ensures.stamps _ _
-    c.in_err-test_lines.ensures.failed)
+    c.in_ok-tree.tree c.in_ok-tree.ensures.found c.in_ok-by.by c.in_ok-by.ensures.has c.in_ok-by.ensures.stamps
+    c.in_ok-by.ensures.later _ _ c.in_err-test_lines.ensures.failed)
 
 pub returns : goal.returns
 returns g c =

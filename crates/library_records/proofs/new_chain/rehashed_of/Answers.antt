@@ -3,6 +3,11 @@ use Rattle.std.proofs.lemmas.Result.{err_from_is_err_and}
 use Rattle.library_records.proofs.NewChains.{found_leaf, is_new_chain, not_rehashed, stands_anew}
 use Rattle.library_records.proofs.new_chain.rehashed_of.Goals as goal
 
+pub returns-in_err-standing-clause-refused : goal.returns-in_err-standing-clause-refused
+returns-in_err-standing-clause-refused c =
+    let p = err_from_is_err_and c.from_residual-in_err-standing.result c.from_residual-in_err-standing.ensures.1 in
+    rw (p.1, p.2) (inr (inl (c.in-Some.its, c.in-Some.ensures.is, c.in_err-standing.ensures.refused)))
+
 pub returns-in_err-values-clause-refused : goal.returns-in_err-values-clause-refused
 returns-in_err-values-clause-refused c =
     let p = err_from_is_err_and c.from_residual-in_err-values.result c.from_residual-in_err-values.ensures.1 in

@@ -1,5 +1,6 @@
 //! By which algorithm the sums of a command are.
-ghost use Rattle.std.specs.Prelude.{◌≡◌, ◌↔◌, Some, IfErr, IfOk, IfSome, IsTrue, MatchOption, option_map, option_copied};
+ghost use Rattle.std.specs.Prelude.{◌≡◌, ◌↔◌, Some, IfErr, IfOk, IfSome, IsTrue, MatchOption, option_copied};
+ghost use Rattle.std.specs.Prelude.{option_map};
 ghost use Rattle.digests.specs.Algorithms.{name_of};
 ghost use Rattle.cli_making.specs.Algorithm.{FailsAtOnce, ImprintNames, IsByImprint, RefusesName};
 

@@ -112,9 +112,9 @@ pub record IsTooLongAnew (tree : HashTree) (given token octets : List ℕ) (f : 
   pub told : f ≡ failure.Unmade make.TooLong
   pub long : IsTooLongNew rehashed tree (octets_of leaf) token octets
 
--- The first of these: the digest isn't as long as one by the algorithm of the tree; it is, and the renewal of the record
--- for it stands on nothing, or memory was refused; its leaf is none of the tree, or the token doesn't stamp the root
--- after the last time-stamp; and the new record would be too long.
+-- The first of these: the digest isn't as long as one by the algorithm of the tree; it is, but the renewal of the
+-- record for it stands on nothing, or memory was refused; its leaf is none of the tree, or the token doesn't stamp the
+-- root after the last time-stamp; and the new record would be too long.
 abbrev pub RehashesNot : HashTree → (given token octets : List ℕ) → Failure → Type 0
 RehashesNot tree given token octets f = (Names (codes "digest") f × (length given ≡ length_of tree.algorithm → ⊥))
     ⊎ (((digest : Digest) × IsDigestBy tree given digest × StandsAnewOnNothing octets f)

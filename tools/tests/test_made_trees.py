@@ -63,7 +63,7 @@ class Trees(unittest.TestCase):
     @needs("openssl")
     def test_lists(self):
         """By a token of `openssl ts` over each root, the record of each leaf has one list for each value that is due, in this order; and it
-        is what `show evidence` says."""
+        is what `show evidence` says. Every second tree is made with `--alg`, the others by the algorithm of the token."""
         make_certificate(self.folder, "tsa", STAMPING)
         configure(self.folder, "tsa.cnf", "tsa", digests="sha256, sha512", more="ess_cert_id_alg = sha256\n")
         for place, (alg, count, root, _, leaves) in enumerate(trees()):
@@ -72,7 +72,8 @@ class Trees(unittest.TestCase):
             token, into = (self.folder / "answer").read_bytes(), f"records-{place}"
             self.assertEqual(records.stated(token).imprint.digest, root)
             (self.folder / into).mkdir()
-            self.run_all("evidence", "make", "--alg", alg, "--token", "answer", "--into", into, "sums")
+            named = ("--alg", alg) if place % 2 else ()
+            self.run_all("evidence", "make", *named, "--token", "answer", "--into", into, "sums")
             self.assertEqual(len(list((self.folder / into).iterdir())), count)
             for number, values in leaves.items():
                 path = self.folder / into / f"d{number:03}.ers"

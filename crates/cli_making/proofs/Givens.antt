@@ -5,7 +5,7 @@ use Rattle.digests.specs.declared.algorithm.Alg.{Alg}
 use Rattle.cli_failures.specs.declared.failure.Failure.{Failure}
 use Rattle.cli_failures.specs.Files.{IsHeld}
 use Rattle.cli_making.specs.Given.{AreGiven, GivesNot}
-use Rattle.cli_making.proofs.Algorithm.{by_lent, may_name_by}
+use Rattle.cli_making.proofs.ByImprint.{by_lent, may_name_by}
 
 module _ {F : Type 0} (holds : F → Option (List ℕ)) (name : Option (List ℕ)) where
   -- what is lent of it is the same

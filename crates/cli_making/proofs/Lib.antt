@@ -5,6 +5,6 @@ pub mod Walked
 pub mod Records
 pub mod Requested
 pub mod Stamps
-pub mod Algorithm
+pub mod ByImprint
 pub mod Givens
 pub mod Made

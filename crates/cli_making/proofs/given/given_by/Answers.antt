@@ -1,6 +1,6 @@
-use Rattle.std.proofs.Common.{inl, inr, sym}
+use Rattle.std.proofs.Common.{inl, inr}
 use Rattle.std.proofs.lemmas.Result.{err_from_is_err_and}
-use Rattle.cli_making.proofs.Algorithm.{by_lent, may_name, named_or_by}
+use Rattle.cli_making.proofs.ByImprint.{may_name}
 use Rattle.cli_making.proofs.given.given_by.Goals as goal
 
 pub returns-in_err-text-clause-refused : goal.returns-in_err-text-clause-refused
@@ -16,11 +16,3 @@ returns-in_err-token-clause-refused g c =
       may_name _ c.in_ok-named.named c.in_ok-named.ensures.found,
       inr (c.in_ok-text.text.items, c.in_ok-text.ensures.whole, inl c.in_err-token.ensures.failure),
     ))
-
-pub returns-clause-found : goal.returns-clause-found
-returns-clause-found g c = record {
-  by = by_lent _ _ _ _ _ _ (sym c.as_slice.ensures.value) (sym c.as_slice-2.ensures.value)
-      (named_or_by _ c.in_ok-named.named _ _ _ c.in_ok-named.ensures.found c.alg_by-alg.ensures);
-  text_held = c.in_ok-text.ensures.whole;
-  token_held = c.in_ok-token.ensures.whole;
-}

@@ -1,0 +1,46 @@
+-- By which algorithm the sums of a command are.
+use Rattle.std.proofs.Common.{◌≡◌, ℕ, List, Option, Some, None, refl, sym, subst}
+use Rattle.std.specs.Prelude.{IfSome, option_map}
+use Rattle.digests.specs.declared.algorithm.Alg.{Alg}
+use Rattle.digests.specs.Algorithms.{Names, name_of}
+use Rattle.tsp_types.specs.TstValue.{TstValue}
+use Rattle.check_evidence.proofs.States.{one_stated}
+use Rattle.evidence_stamps.specs.StateValue.{IsStateOf, StateValue}
+use Rattle.cli_making.specs.Algorithm.{ImprintNames, IsAlgBy, MayName}
+
+-- ---- a name
+
+pub may_name : (name : Option (List ℕ)) (found : Option Alg) → name ≡ option_map name_of found → MayName name
+may_name name None is = subst (λ (n : Option (List ℕ)). MayName n) (sym is) tt
+may_name name (Some alg) is = subst (λ (n : Option (List ℕ)). MayName n) (sym is) (alg, refl)
+
+pub may_name_by : (name : Option (List ℕ)) (text token : List ℕ) (alg : Alg) → IsAlgBy name text token alg
+    → MayName name
+may_name_by None text token alg by = tt
+may_name_by (Some name) text token alg by = (alg, by)
+
+-- what is lent of text and token is the same
+pub by_lent : (name : Option (List ℕ)) (alg : Alg) (text token lent lent_token : List ℕ) → lent ≡ text
+    → lent_token ≡ token → IsAlgBy name text token alg → IsAlgBy name lent lent_token alg
+by_lent name alg text token lent lent_token same same_token by =
+    subst (λ (octets : List ℕ). IsAlgBy name octets lent_token alg) (sym same)
+    (subst (λ (octets : List ℕ). IsAlgBy name text octets alg) (sym same_token) by)
+
+-- ---- the imprint
+
+module _ (token : List ℕ) where
+  -- a token states one thing
+  pub imprint_named : (s : StateValue) → IsStateOf token (Some s) → (alg : Alg) → ImprintNames token alg
+      → Names s.stated.imprint.algorithm.oid s.stated.imprint.algorithm.parameters alg
+  imprint_named s is alg h =
+      subst (λ (x : TstValue). Names x.imprint.algorithm.oid x.imprint.algorithm.parameters alg)
+      (one_stated token h.stated s.stated h.states is.states) h.names
+
+  pub names_imprint : (s : StateValue) → IsStateOf token (Some s) → (found : Option Alg)
+      → IfSome found (Names s.stated.imprint.algorithm.oid s.stated.imprint.algorithm.parameters)
+      → IfSome found (ImprintNames token)
+  names_imprint s is None names = tt
+  names_imprint s is (Some alg) names = record { stated = s.stated; states = is.states; names = names }
+
+  pub nothing_named : IsStateOf token None → (alg : Alg) → ImprintNames token alg → ⊥
+  nothing_named none alg h = none h.stated h.states

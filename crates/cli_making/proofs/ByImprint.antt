@@ -1,12 +1,13 @@
 -- By which algorithm the sums of a command are.
-use Rattle.std.proofs.Common.{◌≡◌, ℕ, List, Option, Some, None, refl, sym, subst}
+use Rattle.std.proofs.Common.{◌≡◌, ℕ, List, Option, Some, None, inl, inr, refl, sym, subst}
 use Rattle.std.specs.Prelude.{IfSome, option_map}
 use Rattle.digests.specs.declared.algorithm.Alg.{Alg}
+use Rattle.digests.specs.declared.algorithm.Alg.TheVariants.{Sha256}
 use Rattle.digests.specs.Algorithms.{Names, name_of}
 use Rattle.tsp_types.specs.TstValue.{TstValue}
 use Rattle.check_evidence.proofs.States.{one_stated}
 use Rattle.evidence_stamps.specs.StateValue.{IsStateOf, StateValue}
-use Rattle.cli_making.specs.Algorithm.{ImprintNames, IsAlgBy, MayName}
+use Rattle.cli_making.specs.Algorithm.{FailsAtOnce, ImprintNames, IsAlgBy, IsByImprint, MayName}
 
 -- ---- a name
 
@@ -44,3 +45,20 @@ module _ (token : List ℕ) where
 
   pub nothing_named : IsStateOf token None → (alg : Alg) → ImprintNames token alg → ⊥
   nothing_named none alg h = none h.stated h.states
+
+-- ---- the algorithm of the sums
+
+module _ (text token : List ℕ) where
+  pub unnamed : ((alg : Alg) → ImprintNames token alg → ⊥) → IsByImprint text token Sha256
+  unnamed none = inr (refl, λ other o. none other o.named)
+
+  -- line 1 is no sum by the algorithm of the imprint
+  pub unfit : (alg : Alg) → ((other : Alg) → ImprintNames token other → Some alg ≡ Some other) → FailsAtOnce alg text
+      → IsByImprint text token Sha256
+  unfit alg only fails = inr (refl, λ other o.
+      let named = only other o.named in
+      let same : alg ≡ other = cc in
+      o.first (subst (λ (a : Alg). FailsAtOnce a text) same fails))
+
+  pub fit : (alg : Alg) → ImprintNames token alg → (FailsAtOnce alg text → ⊥) → IsByImprint text token alg
+  fit alg named first = inl (record { named = named; first = first })

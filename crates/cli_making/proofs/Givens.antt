@@ -24,7 +24,7 @@ module _ {F : Type 0} (holds : F → Option (List ℕ)) (name : Option (List ℕ
     gives_not (inl alg) = inl alg
     gives_not (inr (may, inl unread)) = inr (may, inl unread)
     gives_not (inr (may, inr (text, held, inl unread))) = inr (may, inr (text, held, inl unread))
-    gives_not (inr (may, inr (text, held, inr (token, token_held, alg, by, none)))) = absurd none
+    gives_not (inr (may, inr (text, held, inr (token, token_held, (alg, by, none))))) = absurd none
 
     -- it is given, and fails so
     pub given_fails : (alg : Alg) (text token : List ℕ) → AreGiven holds name alg text token → Fails alg text token f
@@ -32,5 +32,5 @@ module _ {F : Type 0} (holds : F → Option (List ℕ)) (name : Option (List ℕ
     given_fails alg text token are why =
         inr (
           may_name_by name text token alg are.by,
-          inr (text, are.text_held, inr (token, are.token_held, alg, are.by, why)),
+          inr (text, are.text_held, inr (token, are.token_held, (alg, are.by, why))),
         )

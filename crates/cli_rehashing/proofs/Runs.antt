@@ -16,7 +16,7 @@ use Rattle.cli_renewing.specs.Keeping.{system_ways}
 use Rattle.cli_renewing.specs.Runs.{IsRequestOn}
 use Rattle.cli_rehashing.specs.Footings.{AreLineFootings, AreLines}
 use Rattle.cli_rehashing.specs.Rehashing.{IsApart, IsRehashRequest}
-use Rattle.cli_rehashing.specs.Unrehashed.{AreNotAnew, HaveNoTree, MakesNoRehashRequest}
+use Rattle.cli_rehashing.specs.Unrehashed.{AreNotAnew, HaveNoTree, IsRequested, MakesNoRehashRequest}
 use Rattle.cli_rehashing.specs.Unrehashed.{RehashesNot}
 
 -- ---- the request
@@ -40,6 +40,12 @@ module _ {F : Type 0} (holds contents : F → Option (List ℕ)) (words : Rehash
     octets_refused text held f (inl names) = inl names
     octets_refused text held f (inr (inl m)) = inr (inl m)
     octets_refused text held f (inr (inr none)) = inr (inr (inl (inr (alg, named, inr (text, held, none)))))
+
+  -- it is there, and could not be written
+  pub unwritten : (f : Failure) → IsRequested holds contents words
+      → (f ≡ failure.Memory) ⊎ (f ≡ failure.Write words.out) → MakesNoRehashRequest holds contents words f
+  unwritten f made (inl m) = inr (inl m)
+  unwritten f made (inr lost) = inr (inr (inr (made, lost)))
 
 -- ---- the records
 

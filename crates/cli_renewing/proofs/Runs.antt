@@ -8,6 +8,7 @@ use Rattle.digests.specs.declared.value.Digest.{Digest}
 use Rattle.tsp_types.specs.Asked.{asked}
 use Rattle.tsp_types.specs.RequestValue.{EncodesRequest, request_parts}
 use Rattle.evidence_trees.specs.HashTrees.{HashTree}
+use Rattle.cli_tasks.specs.declared.task.RenewalRequestWords.{RenewalRequestWords}
 use Rattle.cli_failures.specs.declared.failure.Failure.{Failure}
 use Rattle.cli_failures.specs.declared.failure.Failure.TheVariants as failure
 use Rattle.cli_failures.specs.Causes.{Names}
@@ -18,10 +19,11 @@ use Rattle.cli_making.proofs.Adding.{adds_none}
 use Rattle.cli_making.proofs.Stamps.{as_of}
 use Rattle.cli_renewing.specs.declared.footing.Footing.{Footing}
 use Rattle.cli_renewing.specs.Footings.{AreFootings, ComesAfter, IsFootingRead, IsTreeOn}
-use Rattle.cli_renewing.specs.Keeping.{Kept, Ways}
+use Rattle.cli_renewing.specs.Keeping.{Kept, Ways, system_ways}
 use Rattle.cli_renewing.specs.Records.{ArePut, AreTested, IsUntested, Renewal, StopsAtPut}
 use Rattle.cli_renewing.specs.Runs.{AreDone, AreNotDone, AreRefused, AreStamped, IsNotLater, IsRequestOn}
-use Rattle.cli_renewing.specs.Unrenewed.{HaveNoTree, StopsAt}
+use Rattle.cli_renewing.specs.Renewing.{IsRenewalRequest}
+use Rattle.cli_renewing.specs.Unrenewed.{HaveNoTree, MakesNoRenewalRequest, StopsAt}
 
 -- no footing is only of no path
 none_of_none : {A B : Type 0} (R : A → B → Type 0) (xs : List A) (ys : List B) → AllZip R xs ys → ys ≡ [] → xs ≡ []
@@ -60,6 +62,13 @@ pub asks_not : {O : Type 0} (P : Failure → Type 0) → P failure.Memory → (r
 asks_not P lacks root short (Ok o) why = tt
 asks_not P lacks root short (Err f) (inl m) = rw m lacks
 asks_not P lacks root short (Err f) (inr (named, long)) = absurd (omega (arith, short, long))
+
+-- it is there, and could not be written
+pub unwritten : {F : Type 0} (holds contents : F → Option (List ℕ)) (words : RenewalRequestWords) (octets : List ℕ)
+    (f : Failure) → IsRenewalRequest (system_ways holds contents) words.records.items octets
+    → (f ≡ failure.Memory) ⊎ (f ≡ failure.Write words.out) → MakesNoRenewalRequest holds contents words f
+unwritten holds contents words octets f made (inl m) = inr (inl (inr (inl m)))
+unwritten holds contents words octets f made (inr lost) = inr (inr (octets, made, lost))
 
 -- ---- the records
 

@@ -1,7 +1,7 @@
-use Rattle.std.proofs.Common.{inl, inr}
 use Rattle.std.proofs.lemmas.Result.{err_from_is_err_and}
 use Rattle.cli_values.proofs.Held.{held_as}
-use Rattle.cli_rehashing.proofs.Runs.{octets_refused}
+use Rattle.cli_rehashing.proofs.Runs.{octets_refused, unwritten}
+use Rattle.cli_rehashing.specs.Unrehashed.{IsRequested}
 use Rattle.cli_rehashing.proofs.request.request_rehash.Goals as goal
 
 pub returns-in_err-octets-clause-failed : goal.returns-in_err-octets-clause-failed
@@ -16,7 +16,7 @@ pub returns-in_err-write_whole-clause-failed : goal.returns-in_err-write_whole-c
 returns-in_err-write_whole-clause-failed g c =
     let p = err_from_is_err_and c.from_residual-in_err-write_whole.result
     c.from_residual-in_err-write_whole.ensures.1 in
-    let there = record {
+    let there : IsRequested g.R.File.Read.remaining g.R.File.Write.contents c.args.words.now = record {
       alg = c.in_ok-alg.alg;
       named = c.in_ok-alg.ensures.found;
       text = c.as_slice.result.now;
@@ -24,7 +24,9 @@ returns-in_err-write_whole-clause-failed g c =
       octets = c.in_ok-octets.octets.items;
       made = c.in_ok-octets.ensures.made.0;
     } in
-    rw (p.1, p.2) (inr (inr (inr (there, c.in_err-write_whole.ensures.failure))))
+    rw (p.1, p.2)
+    (unwritten g.R.File.Read.remaining g.R.File.Write.contents c.args.words.now _ there
+    c.in_err-write_whole.ensures.failure)
 
 pub returns-clause-made : goal.returns-clause-made
 returns-clause-made g c = record {

@@ -1,5 +1,5 @@
 -- How a run ends: which records have a new chain, which request is made, and why not.
-use Rattle.std.proofs.Common.{◌≡◌, ◌⊎◌, ℕ, List, Option, None, Result, Ok, Err, inl, inr}
+use Rattle.std.proofs.Common.{◌≡◌, ◌⊎◌, ℕ, List, Option, Some, None, Result, Ok, Err, inl, inr}
 use Rattle.std.specs.Prelude.{IfOk, codes}
 use Rattle.digests.specs.Algorithms.{name_of}
 use Rattle.digests.specs.declared.algorithm.Alg.{Alg}

@@ -63,8 +63,8 @@ module _ (tree : HashTree) (given token octets : List ℕ) (digest : Digest) (is
 
   not_so : (f : Failure) → IsNoNewRecord rehashed tree (octets_of leaf) token octets f
       → RehashesNot tree given token octets f
-  not_so f (inl (inl memory)) = inr (inl (inl memory))
-  not_so f (inl (inr malformed)) = inr (inl (inr (inl malformed)))
+  not_so f (inl (inl memory)) = inr (inl (digest, is_given, inl memory))
+  not_so f (inl (inr malformed)) = inr (inl (digest, is_given, inr (inl malformed)))
   not_so f (inr long) = inr (inr (inr (record {
     digest = digest;
     is_given = is_given;

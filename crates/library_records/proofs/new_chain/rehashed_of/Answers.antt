@@ -5,7 +5,7 @@ use Rattle.library_records.proofs.new_chain.rehashed_of.Goals as goal
 
 pub returns-in_err-standing-clause-refused : goal.returns-in_err-standing-clause-refused
 returns-in_err-standing-clause-refused c =
-    let p = err_from_is_err_and c.from_residual-in_err-standing.result c.from_residual-in_err-standing.ensures.1 in
+    let p = err_from_is_err_and c.from_residual.result c.from_residual.ensures.1 in
     rw (p.1, p.2) (inr (inl (c.in-Some.its, c.in-Some.ensures.is, c.in_err-standing.ensures.refused)))
 
 pub returns-in_err-values-clause-refused : goal.returns-in_err-values-clause-refused

@@ -55,10 +55,13 @@ module _ (text token : List ℕ) where
   -- line 1 is no sum by the algorithm of the imprint
   pub unfit : (alg : Alg) → ((other : Alg) → ImprintNames token other → Some alg ≡ Some other) → FailsAtOnce alg text
       → IsByImprint text token Sha256
-  unfit alg only fails = inr (refl, λ other o.
-      let named = only other o.named in
-      let same : alg ≡ other = cc in
-      o.first (subst (λ (a : Alg). FailsAtOnce a text) same fails))
+  unfit alg only fails = inr (
+    refl,
+    λ other o.
+        let named = only other o.named in
+        let same : alg ≡ other = cc in
+        o.first (subst (λ (a : Alg). FailsAtOnce a text) same fails),
+  )
 
   pub fit : (alg : Alg) → ImprintNames token alg → (FailsAtOnce alg text → ⊥) → IsByImprint text token alg
   fit alg named first = inl (record { named = named; first = first })

@@ -1,5 +1,6 @@
 -- By which algorithm the sums of a command are.
-use Rattle.std.proofs.Common.{◌≡◌, ℕ, List, Option, Some, None, inl, inr, refl, sym, subst}
+use Rattle.std.proofs.Common.{◌≡◌, ◌⊎◌, ◌∙◌, ℕ, zero, suc, List, Option, Some, None, Ok, Err, inl, inr, refl, sym, ap}
+use Rattle.std.proofs.Common.{subst}
 use Rattle.std.specs.Prelude.{IfSome, option_map}
 use Rattle.digests.specs.declared.algorithm.Alg.{Alg}
 use Rattle.digests.specs.declared.algorithm.Alg.TheVariants.{Sha256}
@@ -7,6 +8,10 @@ use Rattle.digests.specs.Algorithms.{Names, name_of}
 use Rattle.tsp_types.specs.TstValue.{TstValue}
 use Rattle.check_evidence.proofs.States.{one_stated}
 use Rattle.evidence_stamps.specs.StateValue.{IsStateOf, StateValue}
+use Rattle.evidence_sums.specs.Sums.{Answer, sums_of}
+use Rattle.evidence_sums.specs.declared.sums_fault.SumsFault.{SumsFault}
+use Rattle.evidence_sums.specs.declared.sums_fault.SumsRule.{SumsRule}
+use Rattle.evidence_sums.specs.declared.sums_fault.SumsRule.TheVariants as rule
 use Rattle.cli_making.specs.Algorithm.{FailsAtOnce, ImprintNames, IsAlgBy, IsByImprint, MayName}
 
 -- ---- a name
@@ -46,6 +51,33 @@ module _ (token : List ℕ) where
   pub nothing_named : IsStateOf token None → (alg : Alg) → ImprintNames token alg → ⊥
   nothing_named none alg h = none h.stated h.states
 
+-- ---- line 1
+
+abbrev told : SumsRule → ℕ → Answer
+told r n = Err (record { rule = r; line = n })
+
+abbrev no_sum : Answer
+no_sum = told rule.Line 1
+
+by_parts : (a : Answer) (f : SumsFault) → a ≡ Err f → (r : SumsRule) → f.rule ≡ r → (n : ℕ) → f.line ≡ n
+    → (a ≡ no_sum) ⊎ (a ≡ no_sum → ⊥)
+by_parts a f of rule.Line is zero at = inr (λ e. let no : ⊥ = cc in no)
+by_parts a f of rule.Line is (suc zero) at =
+    inl (of ∙ (ap (λ (r : SumsRule). told r f.line) is ∙ ap (told rule.Line) at))
+by_parts a f of rule.Line is (suc (suc n)) at = inr (λ e. let no : ⊥ = cc in no)
+by_parts a f of rule.Empty is n at = inr (λ e. let no : ⊥ = cc in no)
+by_parts a f of rule.Name is n at = inr (λ e. let no : ⊥ = cc in no)
+by_parts a f of rule.NameTwice is n at = inr (λ e. let no : ⊥ = cc in no)
+by_parts a f of rule.OutOfMemory is n at = inr (λ e. let no : ⊥ = cc in no)
+
+is_or_not : (a b : Answer) → a ≡ b → (a ≡ no_sum) ⊎ (a ≡ no_sum → ⊥)
+is_or_not a (Ok sums) of = inr (λ e. let no : ⊥ = cc in no)
+is_or_not a (Err f) of = by_parts a f of f.rule refl f.line refl
+
+-- it is no sum by an algorithm, or is one
+fails_or : (alg : Alg) (text : List ℕ) → FailsAtOnce alg text ⊎ (FailsAtOnce alg text → ⊥)
+fails_or alg text = is_or_not (sums_of alg text) (sums_of alg text) refl
+
 -- ---- the algorithm of the sums
 
 module _ (text token : List ℕ) where
@@ -65,3 +97,12 @@ module _ (text token : List ℕ) where
 
   pub fit : (alg : Alg) → ImprintNames token alg → (FailsAtOnce alg text → ⊥) → IsByImprint text token alg
   fit alg named first = inl (record { named = named; first = first })
+
+  -- if it is SHA-256, it is that whatever line 1 is
+  pub either : (alg : Alg) → alg ≡ Sha256 → ImprintNames token alg
+      → ((other : Alg) → ImprintNames token other → Some alg ≡ Some other) → IsByImprint text token alg
+  either alg is named only = by_case (fails_or alg text)
+    where
+      by_case : FailsAtOnce alg text ⊎ (FailsAtOnce alg text → ⊥) → IsByImprint text token alg
+      by_case (inl fails) = subst (λ (a : Alg). IsByImprint text token a) (sym is) (unfit alg only fails)
+      by_case (inr first) = fit alg named first

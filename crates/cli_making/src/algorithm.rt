@@ -56,6 +56,10 @@ fn alg_by_imprint(alloc: Global, text: &[u8], token: &[u8]) -> Alg
     let Some(alg) = imprint_alg(token) else {
         return Alg::Sha256;
     };
+    // (so the sums need not be read for it)
+    if alg == Alg::Sha256 {
+        return alg;
+    }
     if fails_at_once(alloc, alg, text) {
         return Alg::Sha256;
     }

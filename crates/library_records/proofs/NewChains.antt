@@ -21,6 +21,9 @@ use Rattle.library_records.specs.Renewals.{IsStampedAfter, failure_of_renewal, t
 use Rattle.library_records.specs.Trees.{IsDigestBy}
 use Rattle.library_records.proofs.NewRecords.{IsNoNewRecord, no_new_record}
 
+pub not_both : false ≡ true → ⊥
+not_both e = let no : ⊥ = cc in no
+
 -- ---- what a renewal stands on
 
 -- what is found is what the renewal stands on

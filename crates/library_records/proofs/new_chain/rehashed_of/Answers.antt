@@ -1,7 +1,10 @@
-use Rattle.std.proofs.Common.{◌∙◌, ℕ, Vec, Global, inl, inr}
+use Rattle.std.proofs.Common.{◌∙◌, ℕ, Vec, Global, inl, inr, refl}
 use Rattle.std.proofs.lemmas.Result.{err_from_is_err_and}
-use Rattle.library_records.proofs.NewChains.{found_leaf, is_new_chain, not_rehashed, stands_anew}
+use Rattle.library_records.proofs.NewChains.{found_leaf, is_new_chain, not_both, not_rehashed, stands_anew}
 use Rattle.library_records.proofs.new_chain.rehashed_of.Goals as goal
+
+pub returns-in_default-clause-refused : goal.returns-in_default-clause-refused
+returns-in_default-clause-refused c = inl (refl, λ same. not_both (c.in_default.ensures.some.1 same))
 
 pub returns-in_err-standing-clause-refused : goal.returns-in_err-standing-clause-refused
 returns-in_err-standing-clause-refused c =

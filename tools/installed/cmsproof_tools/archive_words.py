@@ -125,6 +125,8 @@ def add_records(parser: Words) -> None:
     under = "the archive's folder, with --records: by default the one where the tool runs"
     parser.add_argument("--under", metavar="DIR", help=under)
     add_judging(parser, "--records")
+    by_records = "with --records: what is signed is judged as `cmsproof check --evidence` does, at the moment that its record shows"
+    parser.add_argument("--by-records", action="store_true", help=by_records)
 
 
 def add_dask(parser: Words, done: str) -> None:
@@ -186,6 +188,10 @@ def check_words(parser: Words, given: argparse.Namespace) -> None:
         parser.error("--since, --only, --recheck and --known need --state")
     if given.records is None and (given.end or given.whole or {given.under, given.at} != {None}):
         parser.error("--under, --end, --at and --whole need --records")
+    if given.by_records and given.records is None:
+        parser.error("--by-records needs --records")
+    if given.by_records and (given.sha1 or given.whole):
+        parser.error("--by-records goes with none of --sha1 and --whole: `check --evidence` has neither, and SHA-1 goes by --end")
     if given.dask is not None and (given.content is not None or given.pairs_from):
         parser.error("--content and --pairs-from cannot be said with --dask")
 

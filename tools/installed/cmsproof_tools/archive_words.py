@@ -125,8 +125,8 @@ def add_records(parser: Words) -> None:
     under = "the archive's folder, with --records: by default the one where the tool runs"
     parser.add_argument("--under", metavar="DIR", help=under)
     add_judging(parser, "--records")
-    by_records = "with --records: what is signed is judged as `cmsproof check --evidence` does, at the moment that its record shows"
-    parser.add_argument("--by-records", action="store_true", help=by_records)
+    shown = "judge what is signed at the moment that its record shows, with --records: as `cmsproof check --evidence` does"
+    parser.add_argument("--by-records", action="store_true", help=shown)
 
 
 def add_dask(parser: Words, done: str) -> None:

@@ -349,8 +349,8 @@ def outcome_of(work: Work, reading: Reading, found: Union[Found, Unfound], name:
         return outcome_of(work, reading, Unfound(found.part, "F14", reason, found.container), name)
     # (a record is over the octets of a file, and not over what is found in a container)
     if reading.under is not None and found.kind == "signed" and not found.container:
-        said: Outcome = module("evidencing").outcome_under(work, reading, reading.under, found, name)
-        return said
+        by_record: Outcome = module("evidencing").outcome_under(work, reading, reading.under, found, name)
+        return by_record
     judge, content = Judge(found.kind == RECORD), found.content if beside is None else beside.octets
     return outcome_by(work, reading, found, judge, verdict_of(work, found, content, judge), name)
 

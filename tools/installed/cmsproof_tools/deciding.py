@@ -16,7 +16,7 @@ from cmsproof_tools.chains import links_of
 from cmsproof_tools.found import Found
 from cmsproof_tools.rows import Decided, Linked, Listed, Noting, digest_of, grounds_text, is_of_token, keys_of
 from cmsproof_tools.signed_parts import Token, parts_of, signers_of, token_of
-from cmsproof_tools.texts import PLACE, Question, TrustEntry, fields_of, numbered_lines, question_of, trust_entries
+from cmsproof_tools.texts import PLACE, Question, TrustEntry, fields_of, in_order, numbered_lines, question_of, trust_entries
 
 # id-aa-timeStampToken (RFC 3161 appendix A) as an element, and in how many octets it is searched
 TOKEN, SEARCHED = bytes.fromhex("060b2a864886f70d010910020e"), 1 << 20
@@ -137,7 +137,8 @@ class Stamp(NamedTuple):
 def stamps_of(
     octets: Buffer, vouched: Sequence[Question], trust: cmsproof.TrustList, noting: Noting, sha1: bool
 ) -> Iterator[Stamp]:
-    """The valid tokens of the signers of a SignedData, as the library says. Raises ValueError if they are too many to be looked at."""
+    """The valid tokens of the signers of a SignedData, as the library says, but those later than what is noted counts until. Raises
+    ValueError if they are too many to be looked at."""
     asked: dict[bytes, list[Question]] = {}
     for question in vouched:
         asked.setdefault(question.signature, []).append(question)
@@ -148,7 +149,7 @@ def stamps_of(
             sid, signature = signer_in(token)
             good = asked.get(signature, [])
             time = token_time(token.octets, token.stamped, trust=trust, vouched=good, sha1=sha1) if good else None
-            if time is not None:
+            if time is not None and (not noting.until or in_order(time, noting.until)):
                 by = held("signer", signer.sid, asked.get(token.stamped, []), noting)
                 yield Stamp(number, place, time, held("tsa", sid, good, noting), by)
 

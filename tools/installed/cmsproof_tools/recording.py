@@ -46,7 +46,8 @@ def as_shown(work: Work, noting: Noting, moment: str) -> tuple[Work, Noting]:
         return work, noting
     trust, keys = list_as_of(work.trust.text, moment)
     last = dict(work.records.ends).get("sha1")
-    return work._replace(trust=trust, sha1=last is not None and in_order(moment, last)), noting._replace(keys=keys, usual={})
+    sha1 = last is not None and in_order(moment, last)
+    return work._replace(trust=trust, sha1=sha1), noting._replace(keys=keys, usual={}, until=moment)
 
 
 def record_of_usual(work: Work, noting: Noting, outcome: Outcome, usual: Usual) -> Record:

@@ -127,7 +127,10 @@ def records_in(
     whole: bool = False,
     signed: bool = False,
 ) -> Records:
-    """The records in a folder, of the files in the folder of an archive, or where that is "" of those in the folder of this process."""
+    """The records in a folder, of the files in the folder of an archive, or where that is "" of those in the folder of this process. Raises
+    ValueError for both `whole` and `signed`: what judges signed files by records lets these cover more."""
+    if whole and signed:
+        raise ValueError("a record by which a signed file is judged may cover more than that: whole and signed do not go together")
     here = os.getcwd()
     folders, archives = (os.path.normpath(os.path.join(here, one)) for one in (folder, archive))
     return Records(folder, archive, (folders, archives), here, first_ends(ends), at, whole, signed)

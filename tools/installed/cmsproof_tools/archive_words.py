@@ -127,7 +127,7 @@ def add_records(parser: Words) -> None:
     under = "the archive's folder, with --records: by default the one where the tool runs"
     parser.add_argument("--under", metavar="DIR", help=under)
     add_judging(parser, "--records")
-    shown = "judge a signed file in DER at the moment that its record shows, with --records: as `cmsproof check --evidence` does"
+    shown = "judge a signed file in DER at the moment that its record shows, with --records: as `check --evidence` does"
     parser.add_argument("--by-records", action="store_true", help=shown)
 
 

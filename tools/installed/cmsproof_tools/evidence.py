@@ -319,8 +319,9 @@ def main(tool: str, words: list[str]) -> int:
     if given.verify is None and (None in making or given.trust is None):
         parser.error("--trust LIST FILE --to ZIP makes a bundle, and --verify ZIP asks what one says")
     if given.verify is not None and (making != [None, None] or given.part is not None or given.without_content):
-        others = "--content, --sha1, --end, --at, --whole and --by-records"
-        parser.error(f"with --verify only --trust or --list-of-the-bundle, {others} may be there")
+        parser.error(
+            "with --verify only --trust or --list-of-the-bundle, --content, --sha1, --end, --at and --whole may be there"
+        )
     if given.verify is not None and (given.trust is None) is not given.list_of_the_bundle:
         parser.error(
             "whom do you trust? --trust LIST names your list, --list-of-the-bundle goes by its maker's: say one of both"
@@ -332,7 +333,7 @@ def main(tool: str, words: list[str]) -> int:
         parser.error("--by-records goes with --record or --verify, and with none of --sha1 and --whole")
     content = None if given.by_records else given.content
     if given.record is not None and (given.verify is not None or given.sha1 or {content, given.part} != {None}):
-        parser.error("--record goes with none of --verify, --sha1 and --part, and with --content only beside --by-records")
+        parser.error("--record goes with none of --verify, --content, --sha1 and --part")
     if given.verify is None and given.list_of_the_bundle:
         parser.error("--list-of-the-bundle goes with --verify")
     if given.to == "-":

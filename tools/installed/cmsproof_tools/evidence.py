@@ -210,8 +210,8 @@ def unlike(bundle: Bundle, given: Any) -> str:
         return "--sha1, which you did not say" if manifest["sha1"] and not given.sha1 else ""
     of_records = module("evidence_of_records")
     policy, mine = of_records.policy_of(manifest), of_records.policy_by(given)
-    # (who goes by the maker's list and says no word goes by the maker's words too, but not for what is signed)
-    if policy == mine or (given.list_of_the_bundle and not mine.words() and not policy.signed):
+    # (who goes by the maker's list and says no word goes by the maker's words too)
+    if policy.words() == mine.words() or (given.list_of_the_bundle and not mine.words()):
         return ""
     return f"{policy.words().strip() or 'no word'}, and you said another"
 

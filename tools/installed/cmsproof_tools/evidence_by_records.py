@@ -83,9 +83,8 @@ def make(given: Any) -> tuple[int, str]:
             "content": None if content is None else {**summed(content), "member": not given.without_content},
             "made": time.strftime("%Y%m%d%H%M%SZ", time.gmtime()),
         }
-        members: dict[str, Any] = {SIGNED: found.signed, RECORD: record.octets, TRUST: trusted}
-        members.update({QUESTIONS: said.questions, ANSWERS: said.answers, VERDICT: line.encode() + b"\n"})
-        members[VERIFY] = how(manifest).encode()
+        members = {SIGNED: found.signed, RECORD: record.octets, TRUST: trusted, QUESTIONS: said.questions, ANSWERS: said.answers}
+        members.update({VERDICT: line.encode() + b"\n", VERIFY: how(manifest).encode()})
         if content is not None and not given.without_content:
             members[CONTENT] = content
         manifest["members"] = {name: summed(octets) for name, octets in members.items()}

@@ -78,7 +78,6 @@ complete -c cmsproof-archive -n '__cmsproof_archive_at evidence' -l record -r -F
 complete -c cmsproof-archive -n '__cmsproof_archive_at evidence' -l end -x -d 'The last moment at which a digest algorithm holds, with --record or --verify'
 complete -c cmsproof-archive -n '__cmsproof_archive_at evidence' -l at -x -d 'Until when the last time-stamp of a record must serve, with --record or --verify'
 complete -c cmsproof-archive -n '__cmsproof_archive_at evidence' -l whole -d 'A record may cover nothing else than its file, with --record or --verify'
-complete -c cmsproof-archive -n '__cmsproof_archive_at evidence' -l by-records -d 'Judge a signed file by its record, with --record or --verify'
 complete -c cmsproof-archive -n '__cmsproof_archive_at evidence' -l part -x -d 'Which signature of the file'
 complete -c cmsproof-archive -n '__cmsproof_archive_at evidence' -l without-content -d 'Put only the SHA-256 of a content into the bundle'
 complete -c cmsproof-archive -n '__cmsproof_archive_at evidence' -l to -r -F -d 'The bundle that is made'

@@ -22,7 +22,7 @@ _cmsproof_options() {
     'cmsproof-trust') echo '--help --version --signer --tsa --issuer --tsa-issuer --intermediate --crl --crl-dir --ocsp --trusted-list --scheme-operator --from-files --files-from --null --sha1 --explain --diff --merge --all --from --until' ;;
     'cmsproof-verify') echo '--help --version' ;;
     'cmsproof-archive report') echo '--help --version --html --csv --json --known --records --under --only' ;;
-    'cmsproof-archive evidence') echo '--help --version --trust --content --sha1 --record --end --at --whole --by-records --part --without-content --to --verify --list-of-the-bundle' ;;
+    'cmsproof-archive evidence') echo '--help --version --trust --content --sha1 --record --end --at --whole --part --without-content --to --verify --list-of-the-bundle' ;;
     'cmsproof-archive due') echo '--help --version --trust --months --by --end --jobs --dask --json --files-from --null --progress' ;;
     'cmsproof-archive stamp') echo '--help --version --into --tsa --state --policy --timeout --program --progress --trust --end --alg --jobs --dask' ;;
     'cmsproof-archive renew') echo '--help --version --records --trust --months --by --end --tsa --state --policy --timeout --program --progress --jobs --dask' ;;

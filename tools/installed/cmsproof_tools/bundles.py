@@ -8,16 +8,16 @@ import json
 import struct
 import zipfile
 import zlib
-from typing import Any, Collection, NamedTuple, Union
+from typing import Any, NamedTuple, Union
 
 from cmsproof_tools.running import FAILED, Started, Stop, shown
 from cmsproof_tools.writing import written
 
 MANIFEST, SIGNED, RECORD, CONTENT = "MANIFEST.json", "signed.p7s", "record.ers", "content.bin"
 TRUST, QUESTIONS, ANSWERS, VERDICT, VERIFY = "trust.txt", "questions.txt", "answers.txt", "verdict.txt", "VERIFY.txt"
-# the members in their order: one of the first two, or both, and only the content may be missing else
+# the members in their order: one of the first two, and only the content may be missing else
 MEMBERS = (SIGNED, RECORD, CONTENT, TRUST, QUESTIONS, ANSWERS, VERDICT, VERIFY, MANIFEST)
-FORM, RECORD_FORM, UNDER_FORM = "cmsproof evidence 2", "cmsproof evidence record 1", "cmsproof evidence by record 1"
+FORM, RECORD_FORM = "cmsproof evidence 2", "cmsproof evidence record 1"
 # what a manifest has: a name, and what its value is
 KEYS: dict[str, Any] = {
     "form": str,
@@ -41,8 +41,6 @@ RECORD_KEYS: dict[str, Any] = {
     "at": str,
     "whole": bool,
 }
-# that of a bundle of a signed file that is judged by its evidence record
-UNDER_KEYS: dict[str, Any] = {name: kind for name, kind in RECORD_KEYS.items() if name != "whole"}
 LONGEST_MANIFEST, LONGEST_DIRECTORY = 1 << 20, 1 << 12
 # a local header of a zip file (APPNOTE.TXT 4.3.7), and its first octets
 HEADER, LOCAL = struct.Struct("<4s5H3I2H"), b"PK\x03\x04"
@@ -149,7 +147,7 @@ def members_in(whole: Any) -> dict[str, memoryview]:
     if (
         names != [name for name in MEMBERS if name in names]
         or not always <= set(names)
-        or not {SIGNED, RECORD}.intersection(names)
+        or (SIGNED in names) is (RECORD in names)
     ):
         raise Malformed("its members are not those of a bundle, each once and in their order")
     at, members = 0, {}
@@ -171,16 +169,9 @@ def once(pairs: list[tuple[str, Any]]) -> dict[str, Any]:
     return found
 
 
-def form_of(members: Collection[str]) -> tuple[str, dict[str, Any]]:
-    """The form of a bundle with these members, and what its manifest has."""
-    if RECORD not in members:
-        return FORM, KEYS
-    return (UNDER_FORM, UNDER_KEYS) if SIGNED in members else (RECORD_FORM, RECORD_KEYS)
-
-
-def manifest_in(octets: memoryview, members: Collection[str]) -> dict[str, Any]:
-    """The manifest of a bundle with these members. Raises Malformed if it is none."""
-    form, keys = form_of(members)
+def manifest_in(octets: memoryview, is_of_record: bool) -> dict[str, Any]:
+    """The manifest, of a bundle of a signed file, or of an evidence record. Raises Malformed if it is none."""
+    form, keys = (RECORD_FORM, RECORD_KEYS) if is_of_record else (FORM, KEYS)
     if len(octets) > LONGEST_MANIFEST:
         raise Malformed(f"{MANIFEST} is too long")
     try:
@@ -198,7 +189,7 @@ def read_bundle(whole: Any) -> Bundle:
     """The bundle that these octets are, or a mapping of them. Raises Malformed if they are none, or have something else than the
     manifest says."""
     members = members_in(whole)
-    manifest = manifest_in(members.pop(MANIFEST), members)
+    manifest = manifest_in(members.pop(MANIFEST), RECORD in members)
     said = {name: summed(octets) for name, octets in members.items()}
     if manifest["members"] != said:
         differ = [name for name in MEMBERS if manifest["members"].get(name) != said.get(name)]

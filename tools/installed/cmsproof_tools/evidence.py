@@ -15,6 +15,7 @@ from cmsproof_tools.bundles import Bundle, Malformed, summed
 from cmsproof.octets import File
 from cmsproof.verdicts import Said
 from cmsproof_tools.checking import STATUSES, Unread, check_unchanged, opened
+from cmsproof_tools.evidenced import first_ends
 from cmsproof_tools.finding import again_in_der, as_one, found_apart
 from cmsproof_tools.found import Found, Unfound
 from cmsproof_tools.outcomes import lost
@@ -31,10 +32,9 @@ list, questions, answers, the line, versions, the SHA-256 of each, and how to ve
     cmsproof-archive evidence --trust trust.txt letter.p7s --to letter.zip
     cmsproof-archive evidence --verify letter.zip --trust trust.txt
 
-With --record the bundle is of an evidence record and of its file, or with --by-records of a signed file that is judged by its record:
+With --record the bundle is of an evidence record and of its file:
 
     cmsproof-archive evidence --trust trust.txt --record records/map.tif.ers map.tif --to map.zip
-    cmsproof-archive evidence --trust trust.txt --record records/a.p7s.ers --by-records a.p7s --to a.zip
 
 The answers of a bundle are not believed: its signatures are verified anew. Its trust list says whom its maker trusts: --trust
 names yours, which must be the same. Only --list-of-the-bundle goes by its maker's, which anybody can write: look at it first.
@@ -194,22 +194,16 @@ def judged_again(bundle: Bundle, beside: Optional[File], trust: cmsproof.TrustLi
     return said, differences(bundle, said, how)
 
 
-def by_record(is_signed: bool) -> str:
-    """The module for bundles with an evidence record: of a signed file that is judged by it, or of the record and its file."""
-    return "evidence_by_records" if is_signed else "evidence_of_records"
-
-
 def unlike(bundle: Bundle, given: Any) -> str:
     """What the user did not say by which the verdict of a bundle was found; no text if there is nothing."""
     manifest = bundle.manifest
     if RECORD not in bundle.members:
         if given.end or given.at or given.whole:
             return "none of --end, --at and --whole, for it is no evidence record's"
-        if given.by_records:
-            return "no --by-records, for it has no evidence record"
         return "--sha1, which you did not say" if manifest["sha1"] and not given.sha1 else ""
     of_records = module("evidence_of_records")
-    policy, mine = of_records.policy_of(manifest), of_records.policy_by(given)
+    policy = of_records.policy_of(manifest)
+    mine = of_records.Policy(first_ends(given.end), given.at or "", given.whole)
     # (who goes by the maker's list and says no word goes by the maker's words too)
     if policy.words() == mine.words() or (given.list_of_the_bundle and not mine.words()):
         return ""
@@ -224,9 +218,10 @@ def unshown(bundle: Bundle, given: Any) -> Iterator[str]:
         yield f"its trust list is its maker's, with the SHA-256 {sum_of}: anybody can write one"
     if RECORD in bundle.members:
         words = module("evidence_of_records").policy_of(manifest).words()
-        if words and not module("evidence_of_records").policy_by(given).words():
+        if words and not (given.end or given.at or given.whole):
             yield f"its maker says{words}, and you did not"
-    if SIGNED in bundle.members and {"size": manifest["size"], "sha256": manifest["sha256"]} != summed(bundle.members[SIGNED]):
+        return
+    if {"size": manifest["size"], "sha256": manifest["sha256"]} != summed(bundle.members[SIGNED]):
         named = f"{shown(manifest['file'])}, with the SHA-256 {shown(manifest['sha256'])}"
         yield f"nothing shows that its signature is in {named}: its maker says so, and the bundle does not have that file"
 
@@ -238,19 +233,18 @@ def verify(tool: str, given: Any) -> tuple[int, str]:
         beside = None if given.content is None else stack.enter_context(opened(given.content))
         bundle = bundles.read_bundle(file.octets)
         # (a bundle is a zip file that is not packed)
-        for octets in (bundle.members[name] for name in (SIGNED, RECORD) if name in bundle.members):
-            one = as_one(given.verify, Found("", octets, container="asic"), b"")
-            if isinstance(one, Unfound):
-                return REFUSED, f"differs: {one.line}: {one.reason}"
+        is_of_record = RECORD in bundle.members
+        one = as_one(given.verify, Found("", bundle.members[RECORD if is_of_record else SIGNED], container="asic"), b"")
+        if isinstance(one, Unfound):
+            return REFUSED, f"differs: {one.line}: {one.reason}"
         trusted = bytes(bundle.members[TRUST])
         if given.trust is not None and bytes(stack.enter_context(opened(given.trust)).octets) != trusted:
             return REFUSED, "differs: the trust list is another one than yours"
         if words := unlike(bundle, given):
             return REFUSED, f"differs: its verdict is one with {words}"
-        is_of_record = RECORD in bundle.members
-        again = module(by_record(SIGNED in bundle.members)).judged_again if is_of_record else judged_again
+        again = module("evidence_of_records").judged_again if is_of_record else judged_again
         said, differ = again(bundle, beside, trust_of(trusted, f"{given.verify}, {TRUST}"))
-    told = said.verdict.line if SIGNED in bundle.members else module("evidence_of_records").told(said.verdict.line)
+    told = module("evidence_of_records").told(said.verdict.line) if is_of_record else said.verdict.line
     if differ:
         return REFUSED, f"differs: {', '.join(differ)}; it is now: {told}"
     for line in unshown(bundle, given):
@@ -269,8 +263,6 @@ def parser_of(tool: str) -> Words:
         "--record", metavar="FILE", help="make a bundle of this evidence record (RFC 4998), which is of the file"
     )
     add_judging(parser, "--record or --verify")
-    by_records = "judge a signed file by its record, with --record or --verify: as `cmsproof check --evidence` does"
-    parser.add_argument("--by-records", action="store_true", help=by_records)
     parser.add_argument("--part", metavar="PART", help="which signature of the file, as it is shown behind its name")
     parser.add_argument("--without-content", action="store_true", help="put only the SHA-256 of a content into the bundle")
     parser.add_argument("--to", metavar="ZIP", help="the bundle that is made")
@@ -290,7 +282,7 @@ def outcome_of(tool: str, given: Any, name: str) -> tuple[int, str]:
         if given.verify is not None:
             status, line = verify(tool, given)
         else:
-            status, line = make(tool, given) if given.record is None else module(by_record(given.by_records)).make(given)
+            status, line = make(tool, given) if given.record is None else module("evidence_of_records").make(given)
         write("-", f"{shown(name)}: {one_line(line)}\n".encode())
         return max(status, FAILED if Started.lost else DONE), ""
     except Stop as stop:
@@ -329,10 +321,7 @@ def main(tool: str, words: list[str]) -> int:
     of_record = given.end or given.at is not None or given.whole
     if given.verify is None and given.record is None and of_record:
         parser.error("--end, --at and --whole go with --record, or with --verify")
-    if given.by_records and (given.sha1 or given.whole or (given.record is None and given.verify is None)):
-        parser.error("--by-records goes with --record or --verify, and with none of --sha1 and --whole")
-    content = None if given.by_records else given.content
-    if given.record is not None and (given.verify is not None or given.sha1 or {content, given.part} != {None}):
+    if given.record is not None and (given.verify is not None or given.sha1 or {given.content, given.part} != {None}):
         parser.error("--record goes with none of --verify, --content, --sha1 and --part")
     if given.verify is None and given.list_of_the_bundle:
         parser.error("--list-of-the-bundle goes with --verify")

@@ -41,33 +41,22 @@ up to when the last time-stamp must serve, `--at`. What is accepted existed at t
 
 
 class Policy(NamedTuple):
-    """By what a record is judged beside the trust list: ends of algorithms, the moment up to which the last time-stamp must serve or "",
-    whether nothing else may be covered, and whether a signed file is judged by it."""
+    """By what a record is judged beside the trust list: ends of algorithms, the moment up to which the last time-stamp must serve or "", and
+    whether nothing else may be covered."""
 
     ends: tuple[tuple[str, str], ...]
     at: str
     whole: bool
-    signed: bool = False
 
-    def options(self) -> str:
+    def words(self) -> str:
         """The options of the program that say so."""
         ends = "".join(f" --end {name}={last}" for name, last in self.ends)
         return ends + (f" --at {self.at}" if self.at else "") + (" --whole" if self.whole else "")
 
-    def words(self) -> str:
-        """The words of this tool that say so."""
-        return self.options() + (" --by-records" if self.signed else "")
-
-
-def policy_by(given: Any) -> Policy:
-    """By what a user has a record judged."""
-    return Policy(first_ends(given.end), given.at or "", given.whole, given.by_records)
-
 
 def policy_of(manifest: dict[str, Any]) -> Policy:
     """By what the record of a bundle was judged. Raises Malformed where its manifest does not say it."""
-    signed = manifest["form"] == bundles.UNDER_FORM
-    ends, at, whole = manifest["ends"], manifest["at"], not signed and manifest["whole"]
+    ends, at, whole = manifest["ends"], manifest["at"], manifest["whole"]
     if not all(isinstance(end, list) and len(end) == 2 and all(isinstance(part, str) for part in end) for end in ends):
         raise Malformed("its ends of algorithms are none")
     if not all(name in ALGORITHMS and is_moment(last) for name, last in ends) or not (at == "" or is_moment(at)):
@@ -75,7 +64,7 @@ def policy_of(manifest: dict[str, Any]) -> Policy:
     pairs = tuple((name, last) for name, last in ends)
     if pairs != first_ends(pairs):
         raise Malformed("its ends of algorithms are none")
-    return Policy(pairs, at, whole, signed)
+    return Policy(pairs, at, whole)
 
 
 def judged(record: Any, data: Any, trust: cmsproof.TrustList, policy: Policy) -> Judged:
@@ -92,7 +81,7 @@ def judged(record: Any, data: Any, trust: cmsproof.TrustList, policy: Policy) ->
 
 def how(manifest: dict[str, Any]) -> str:
     """The text that says how a bundle is verified."""
-    content, options = manifest["content"], policy_of(manifest).options()
+    content, options = manifest["content"], policy_of(manifest).words()
     if content["member"]:
         return HOW.format(options=options, content="", handed="")
     text = f"\n\nThe file is not in the bundle: content.bin is the one of {content['size']} octets with the SHA-256\n"
@@ -106,7 +95,7 @@ def make(given: Any) -> tuple[int, str]:
         trust = trust_of(trusted, given.trust)
         record = stack.enter_context(opened(given.record))
         file = stack.enter_context(opened(given.file))
-        policy = policy_by(given)
+        policy = Policy(first_ends(given.end), given.at or "", given.whole)
         said = judged(record.octets, file.octets, trust, policy)
         line, status = said.verdict.line, STATUSES[said.verdict.verdict]
         if not said.questions:

@@ -46,7 +46,8 @@ With --records each file must have an evidence record of it, in a folder of such
 
     cmsproof-archive --trust trust.txt --records records --end sha1=20160101000000Z letters
 
-With --by-records a signed file in DER is judged by its record, as `cmsproof check --evidence` does, and not what is in PDF, mails and the like.
+With --by-records a signed file in DER is judged by its record, as `cmsproof check --evidence` does, and what is signed in PDF, PEM, mails and
+the like is refused (F16).
 
 Exit status: the worst that a file had: 0 all are accepted, `stamped` or `evidenced`; 1 one is refused; 2 one is malformed, or the trust list is;
 3 wrong words; 4 a file or a library failed; 5 not all are accepted, but with --known nothing is new.

@@ -1,8 +1,8 @@
 """How a file is judged that must have an evidence record (RFC 4998), or is one, in a folder of records.
 
 What a record shows was there, and nothing says whose it is. So a record takes no line away that says something of a signature. Where what is
-signed is judged by records too, no signed file in DER is accepted but by its own; a record is over the octets of its file, and so none is for
-what is signed in a container.
+signed is judged by records too, nothing is accepted but a signed file in DER, by its own. A record is over the octets of its file, and so none
+is of what is signed in a container, which is refused then: whoever sends a file chooses its form.
 """
 from __future__ import annotations
 
@@ -31,6 +31,8 @@ from cmsproof_tools.texts import answers_of
 OF_MOMENT = ("S5", "K5", "K8", "K13")
 # what is said of a record that does not show a file with its content beside it
 OF_BOTH = " The record must be of the file together with its content beside it, as of a group (RFC 4998 4.2)."
+# the forms that no record looks into, as a reader knows them
+FORMS = {"ber": "BER", "pem": "PEM", "base64": "base64", "s/mime": "a mail", "pdf": "a PDF", "asic": "a zip file (ASiC)"}
 
 
 class Under(NamedTuple):
@@ -152,12 +154,19 @@ def by_record(outcome: Outcome, under: Under) -> Outcome:
     return outcome._replace(evidence=under.record.called) if isinstance(under.record, Stamp) else outcome
 
 
-def aside(outcome: Outcome) -> Outcome:
-    """What is said of a signature; of one in a container a note says that no record decided."""
+def by_record_alone(work: Work, reading: Reading, outcome: Outcome) -> Outcome:
+    """What is said of a part of a file, or a refusal where it is accepted and no record decided that: what is signed in another form than DER
+    is in no record, and that would be a way round it."""
     if outcome.evidence or not outcome.line.startswith("accepted "):
         return outcome
-    note = "it is judged by itself: the evidence record is over the octets of the file, and not over what is signed in it"
-    return outcome._replace(notes=(*outcome.notes, note))
+    form = FORMS.get(outcome.container, "another form than DER")
+    reason = (
+        f"no record can be of what is signed in it: it is in {form}, and the record is over the octets of the file; check it without "
+        "--by-records"
+    )
+    refusal = Unfound(outcome.part, "F16", reason)
+    said = outcome._replace(status=refusal.status, line=refusal.line, notes=(*outcome.notes, reason))
+    return with_cure(work, said if work.noting is None else said._replace(record=Draft(reading)), refusal.code)
 
 
 def record_of(work: Work, name: str, records: Records, stack: ExitStack) -> Union[Stamp, str]:
@@ -208,9 +217,10 @@ def outcomes_in(work: Work, records: Records, name: str, reading: Reading) -> li
                 reading = reading._replace(others=(record.file if isinstance(record.file, File) else None,))
             reading = reading._replace(under=Under(records, record) if records.signed else None)
             own, reading = own_outcomes(work, name, reading, stack)
-            own = list(map(aside, own)) if records.signed else own
             said = of_file(work, name, alone_with(work, reading), record)
             outcomes = together(own, said, os.path.basename(name) + ENDING)
+            if records.signed:
+                outcomes = stamps_judged(work, [by_record_alone(work, reading, one) for one in outcomes])
             outcomes = with_others(name, outcomes) if work.stamps else outcomes
         if work.noting is not None:
             outcomes = noted(work, work.noting, outcomes)

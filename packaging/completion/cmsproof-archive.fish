@@ -46,6 +46,7 @@ complete -c cmsproof-archive -n '__cmsproof_archive_at -' -l under -r -F -d 'The
 complete -c cmsproof-archive -n '__cmsproof_archive_at -' -l end -x -d 'The last moment at which a digest algorithm holds, with --records'
 complete -c cmsproof-archive -n '__cmsproof_archive_at -' -l at -x -d 'Until when the last time-stamp of a record must serve, with --records'
 complete -c cmsproof-archive -n '__cmsproof_archive_at -' -l whole -d 'A record may cover nothing else than its file, with --records'
+complete -c cmsproof-archive -n '__cmsproof_archive_at -' -l by-records -d 'Judge a signed file in DER at the moment that its record shows, with --records'
 complete -c cmsproof-archive -n '__cmsproof_archive_at -' -l jobs -x -d 'Files that are checked at a time'
 complete -c cmsproof-archive -n '__cmsproof_archive_at -' -l json -d 'A line of JSON for each file, and a last one about all'
 complete -c cmsproof-archive -n '__cmsproof_archive_at -' -l explain -d 'A second line for each refusal'

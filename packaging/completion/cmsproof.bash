@@ -17,7 +17,7 @@ _cmsproof_options() {
     'cmsproof compare') echo '--first --second --help' ;;
     'cmsproof migrate') echo '--help' ;;
     'cmsproof help') echo '' ;;
-    'cmsproof-archive') echo '--help --version --trust --issuer --tsa-issuer --intermediate --crl --crl-dir --ocsp --trusted-list --scheme-operator --write-trust --content --pair --no-pairs --pairs-from --sha1 --partial --stamps --records --under --end --at --whole --jobs --json --explain --files-from --null --state --since --only --recheck --known --dask --progress --log' ;;
+    'cmsproof-archive') echo '--help --version --trust --issuer --tsa-issuer --intermediate --crl --crl-dir --ocsp --trusted-list --scheme-operator --write-trust --content --pair --no-pairs --pairs-from --sha1 --partial --stamps --records --under --end --at --whole --by-records --jobs --json --explain --files-from --null --state --since --only --recheck --known --dask --progress --log' ;;
     'cmsproof-extract') echo '--help --version --to --partial --mend' ;;
     'cmsproof-trust') echo '--help --version --signer --tsa --issuer --tsa-issuer --intermediate --crl --crl-dir --ocsp --trusted-list --scheme-operator --from-files --files-from --null --sha1 --explain --diff --merge --all --from --until' ;;
     'cmsproof-verify') echo '--help --version' ;;

@@ -162,7 +162,7 @@ def records_of(given: argparse.Namespace) -> Records | None:
     for folder in filter(None.__ne__, (given.records, given.under)):
         if not os.path.isdir(folder):
             raise Stop(FAILED, f"failed open {shown(folder)}: it is no folder")
-    return records_in(given.records, given.under or "", tuple(given.end), given.at or "", given.whole)
+    return records_in(given.records, given.under or "", tuple(given.end), given.at or "", given.whole, given.by_records)
 
 
 def judged_apart(pairs: Pairs, records: Records | None, name: str) -> bool:

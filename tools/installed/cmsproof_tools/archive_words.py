@@ -46,6 +46,9 @@ With --records each file must have an evidence record of it, in a folder of such
 
     cmsproof-archive --trust trust.txt --records records --end sha1=20160101000000Z letters
 
+With --by-records a signed file in DER is judged by its record, as `cmsproof check --evidence` does, and what is signed in PDF, PEM, mails and
+the like is refused (F16).
+
 Exit status: the worst that a file had: 0 all are accepted, `stamped` or `evidenced`; 1 one is refused; 2 one is malformed, or the trust list is;
 3 wrong words; 4 a file or a library failed; 5 not all are accepted, but with --known nothing is new.
 """
@@ -125,6 +128,8 @@ def add_records(parser: Words) -> None:
     under = "the archive's folder, with --records: by default the one where the tool runs"
     parser.add_argument("--under", metavar="DIR", help=under)
     add_judging(parser, "--records")
+    shown = "judge a signed file in DER at the moment that its record shows, with --records: as `check --evidence` does"
+    parser.add_argument("--by-records", action="store_true", help=shown)
 
 
 def add_dask(parser: Words, done: str) -> None:
@@ -186,6 +191,10 @@ def check_words(parser: Words, given: argparse.Namespace) -> None:
         parser.error("--since, --only, --recheck and --known need --state")
     if given.records is None and (given.end or given.whole or {given.under, given.at} != {None}):
         parser.error("--under, --end, --at and --whole need --records")
+    if given.by_records and given.records is None:
+        parser.error("--by-records needs --records")
+    if given.by_records and (given.sha1 or given.whole):
+        parser.error("--by-records goes with none of --sha1 and --whole: `check --evidence` has neither, and SHA-1 goes by --end")
     if given.dask is not None and (given.content is not None or given.pairs_from):
         parser.error("--content and --pairs-from cannot be said with --dask")
 

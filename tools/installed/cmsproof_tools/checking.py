@@ -25,6 +25,7 @@ from cmsproof_tools.stamps import may_have
 from cmsproof_tools.texts import answers_of, lines_asked
 
 if TYPE_CHECKING:
+    from cmsproof_tools.evidencing import Under
     from cmsproof_tools.rows import Noting
 
 STATUSES = {"accepted": DONE, "refused": REFUSED, "malformed": MALFORMED, "failed": FAILED}
@@ -251,6 +252,16 @@ SHORT = 1 << 16
 UNSIGNED = ("refused F1 ", "refused C2 ", "malformed ")
 
 
+def is_of_record(line: str) -> bool:
+    """Whether a line of a signed file is about the evidence record by which it is judged."""
+    return line.split(" ")[1:2] == ["record"]
+
+
+def says_unsigned(line: str) -> bool:
+    """Whether a line says of a file that nothing in it is signed; one about its record does not."""
+    return line.startswith(UNSIGNED) and not is_of_record(line)
+
+
 def verdict_of(work: Work, found: Found, content: Union[Buffer, None], judge: Judge) -> Union[cmsproof.Verdict, Said]:
     """What the library says of a signature, or of a time-stamp or an evidence record over a content."""
     if found.kind == RECORD and content is not None and (records := work.records) is not None:
@@ -264,12 +275,14 @@ def verdict_of(work: Work, found: Found, content: Union[Buffer, None], judge: Ju
 
 class Reading(NamedTuple):
     """A file that is judged, the one beside it that is its content, and when its reading began, in nanoseconds since 1970; and the other
-    files by which it is judged, as stamps, or None for one that cannot be read."""
+    files by which it is judged, as stamps, or None for one that cannot be read; and the evidence record by which what is signed is judged,
+    if it is."""
 
     file: File
     beside: Union[File, None]
     begun: int
     others: tuple[Union[File, None], ...] = ()
+    under: Union["Under", None] = None
 
 
 # what was said of a short file, its octets, and when its reading began
@@ -334,29 +347,39 @@ def outcome_of(work: Work, reading: Reading, found: Union[Found, Unfound], name:
         # (which of the two is meant nobody can know)
         reason = f"the content is in the file, and {shown(beside.name)} is named as the content"
         return outcome_of(work, reading, Unfound(found.part, "F14", reason, found.container), name)
+    # (a record is over the octets of a file, and not over what is found in a container)
+    if reading.under is not None and found.kind == "signed" and not found.container:
+        by_record: Outcome = module("evidencing").outcome_under(work, reading, reading.under, found, name)
+        return by_record
     judge, content = Judge(found.kind == RECORD), found.content if beside is None else beside.octets
     return outcome_by(work, reading, found, judge, verdict_of(work, found, content, judge), name)
 
 
 def outcome_by(
-    work: Work, reading: Reading, found: Found, judge: Judge, verdict: Union[cmsproof.Verdict, Said], name: str
+    work: Work,
+    reading: Reading,
+    found: Found,
+    judge: Judge,
+    verdict: Union[cmsproof.Verdict, Said],
+    name: str,
+    about: Union[Found, None] = None,
 ) -> Outcome:
-    """What this verdict says of what was found in the file of this name."""
+    """What this verdict says of what was found in the file of this name; or of the evidence record that it is about."""
     beside = reading.beside
     content = found.content if beside is None else beside.octets
-    if found.kind != RECORD and (other := again_in_der(found, verdict.code)) is not None:
+    if found.kind != RECORD and about is None and (other := again_in_der(found, verdict.code)) is not None:
         return outcome_of(work, reading, other, name)
     line = verdict.line.replace("accepted ", SAID[found.kind], 1) if found.kind in SAID else verdict.line
     status, faults, named = STATUSES[verdict.verdict], tuple(judge.faults), "" if beside is None else beside.name
     record = None if work.noting is None else Draft(reading, found, content, verdict.line, judge.vouched)
     part, notes, how = found.part, found.notes, (found.container, found.converted, found.covers)
     said = Outcome(name, status, line, judge.asked, faults, "", "", part, notes, *how, named, "", "", record)
-    return said if status == DONE else explained(work, said, found)
+    return said if status == DONE else explained(work, said, about or found)
 
 
 def told(work: Work, name: str, outcomes: list[Outcome]) -> list[Outcome]:
     """The outcomes that have a line: none where the file is the content of one beside it, and is no signed file itself."""
-    if name in work.contents and all(outcome.line.startswith(UNSIGNED) for outcome in outcomes):
+    if name in work.contents and all(says_unsigned(outcome.line) for outcome in outcomes):
         return []
     return outcomes
 

@@ -517,8 +517,9 @@ ROWS = (
     Row(
         "11",
         "F16 NoRecord",
-        "`--records`, and no regular file is in the place of this file's evidence record",
-        "put it there, or make one by `evidence make`; paths count from the folder of `--under`",
+        "`--records`, and no regular file is in the place of this file's evidence record; or `--by-records`, and what is signed is in another "
+        "form than DER",
+        "put it there, or make one by `evidence make`; paths count from the folder of `--under`; else leave `--by-records` out",
     ),
     Row(
         "11",

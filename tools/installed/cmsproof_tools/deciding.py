@@ -4,6 +4,7 @@ The line says the moment alone. Where a file has several tokens, the library is 
 """
 from __future__ import annotations
 
+from functools import lru_cache
 from struct import Struct
 from typing import Iterator, NamedTuple, Sequence
 
@@ -13,9 +14,9 @@ from cmsproof.tokens import token_time
 from cmsproof_tools import der
 from cmsproof_tools.chains import links_of
 from cmsproof_tools.found import Found
-from cmsproof_tools.rows import Decided, Linked, Listed, Noting, digest_of, grounds_text, is_of_token
+from cmsproof_tools.rows import Decided, Linked, Listed, Noting, digest_of, grounds_text, is_of_token, keys_of
 from cmsproof_tools.signed_parts import Token, parts_of, signers_of, token_of
-from cmsproof_tools.texts import PLACE, Question, fields_of, question_of
+from cmsproof_tools.texts import PLACE, Question, TrustEntry, fields_of, in_order, numbered_lines, question_of, trust_entries
 
 # id-aa-timeStampToken (RFC 3161 appendix A) as an element, and in how many octets it is searched
 TOKEN, SEARCHED = bytes.fromhex("060b2a864886f70d010910020e"), 1 << 20
@@ -136,7 +137,8 @@ class Stamp(NamedTuple):
 def stamps_of(
     octets: Buffer, vouched: Sequence[Question], trust: cmsproof.TrustList, noting: Noting, sha1: bool
 ) -> Iterator[Stamp]:
-    """The valid tokens of the signers of a SignedData, as the library says. Raises ValueError if they are too many to be looked at."""
+    """The valid tokens of the signers of a SignedData, as the library says, but those later than what is noted counts until. Raises
+    ValueError if they are too many to be looked at."""
     asked: dict[bytes, list[Question]] = {}
     for question in vouched:
         asked.setdefault(question.signature, []).append(question)
@@ -147,9 +149,28 @@ def stamps_of(
             sid, signature = signer_in(token)
             good = asked.get(signature, [])
             time = token_time(token.octets, token.stamped, trust=trust, vouched=good, sha1=sha1) if good else None
-            if time is not None:
+            if time is not None and (not noting.until or in_order(time, noting.until)):
                 by = held("signer", signer.sid, asked.get(token.stamped, []), noting)
                 yield Stamp(number, place, time, held("tsa", sid, good, noting), by)
+
+
+def is_lapsed(entry: TrustEntry, moment: str) -> bool:
+    """Whether an entry is an authority's that does not hold at a moment."""
+    from cmsproof_tools.certificates import Certificate
+    from cmsproof_tools.explaining import fault_at
+
+    try:
+        return entry.role == "tsa" and fault_at(entry, Certificate(entry.octets), moment) is not None
+    except (ValueError, IndexError):
+        return False  # the library judges lists; here a reader only misses that
+
+
+@lru_cache(maxsize=16)
+def list_as_of(trusted: bytes, moment: str) -> tuple[cmsproof.TrustList, dict[tuple[str, bytes], tuple[Listed, ...]]]:
+    """A trust list without the authorities whose entries do not hold at a moment, and the certificates in it."""
+    lapsed = {entry.number for entry in trust_entries(trusted) if is_lapsed(entry, moment)}
+    text = b"\n".join(line for number, line in numbered_lines(trusted) if number not in lapsed)
+    return cmsproof.TrustList(text), keys_of(text)
 
 
 def grounds_of_record(octets: Buffer, vouched: Sequence[Question], noting: Noting) -> str:

@@ -27,6 +27,7 @@ class Records(NamedTuple):
     ends     until when algorithms hold: pairs of a name and a moment
     at       the moment up to which the last time-stamp of a record serves; "" is its own time
     whole    whether a record may cover nothing else than its file
+    signed   whether what is signed is judged by its record too, at the moment that this shows
     """
 
     folder: str
@@ -36,6 +37,7 @@ class Records(NamedTuple):
     ends: tuple[tuple[str, str], ...] = ()
     at: str = ""
     whole: bool = False
+    signed: bool = False
 
     def path_in(self, top: str, name: str) -> Union[str, None]:
         """The path of a name under a folder, which has no part that leads up, "" for the folder itself; None where the name leads
@@ -105,6 +107,7 @@ class Records(NamedTuple):
         yield from (f"--end {name}={last}" for name, last in self.ends)
         yield from ([f"--at {self.at}"] if self.at else [])
         yield from (["--whole"] if self.whole else [])
+        yield from (["--by-records"] if self.signed else [])
 
 
 def first_ends(ends: Iterable[tuple[str, str]]) -> tuple[tuple[str, str], ...]:
@@ -117,9 +120,17 @@ def first_ends(ends: Iterable[tuple[str, str]]) -> tuple[tuple[str, str], ...]:
 
 
 def records_in(
-    folder: str, archive: str = "", ends: tuple[tuple[str, str], ...] = (), at: str = "", whole: bool = False
+    folder: str,
+    archive: str = "",
+    ends: tuple[tuple[str, str], ...] = (),
+    at: str = "",
+    whole: bool = False,
+    signed: bool = False,
 ) -> Records:
-    """The records in a folder, of the files in the folder of an archive, or where that is "" of those in the folder of this process."""
+    """The records in a folder, of the files in the folder of an archive, or where that is "" of those in the folder of this process. Raises
+    ValueError for both `whole` and `signed`: what judges signed files by records lets these cover more."""
+    if whole and signed:
+        raise ValueError("a record by which a signed file is judged may cover more than that: whole and signed do not go together")
     here = os.getcwd()
     folders, archives = (os.path.normpath(os.path.join(here, one)) for one in (folder, archive))
-    return Records(folder, archive, (folders, archives), here, first_ends(ends), at, whole)
+    return Records(folder, archive, (folders, archives), here, first_ends(ends), at, whole, signed)

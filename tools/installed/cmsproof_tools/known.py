@@ -19,7 +19,7 @@ LINE = re.compile(r"([A-Z][1-9][0-9]*) ((?:[^\\]|\\(?:[\\nrt]|x[0-9a-f]{2}|u[0-9
 KINDS, NEVER = "CFKMPSVW", ("F2", "P3", "P4", "P5", "P6", "P7", "W4")
 # of a time-stamp whose token fails: the rule that fails, since W4 says the same where its authority is in no list and where the file
 # was changed
-OF_TOKEN = re.compile(r"refused chain [0-9]+ stamp [0-9]+ W4 (K[0-9]+)")
+OF_TOKEN = re.compile(r"refused (?:record )?chain [0-9]+ stamp [0-9]+ W4 (K[0-9]+)")
 
 
 def acknowledged(line: str) -> tuple[str, str]:

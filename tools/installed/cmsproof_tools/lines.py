@@ -10,11 +10,11 @@ NUMBER, CODE = "[1-9][0-9]*", "(?P<code>[A-Z][0-9]+)"
 # of which signer, or of which time-stamp of an evidence record, a line is
 SIGNER = rf" signer (?P<signer>{NUMBER})(?: token (?P<token>{NUMBER}))?"
 STAMP = rf" chain (?P<chain>{NUMBER}) stamp (?P<chainstamp>{NUMBER})"
-# what is said of a file with each status
+# what is said of a file with each status; behind `record` of the evidence record under which it is judged
 LINES = {
     DONE: re.compile(rf"(?P<verdict>accepted|stamped|evidenced) (?P<time>{MOMENT})"),
-    REFUSED: re.compile(rf"(?P<verdict>refused)(?:{SIGNER}|{STAMP})? {CODE}(?: [0-9A-Za-z ]+)?"),
-    MALFORMED: re.compile(rf"(?P<verdict>malformed) {CODE} [A-Za-z]+(?: at [0-9]+)?"),
+    REFUSED: re.compile(rf"(?P<verdict>refused)(?:{SIGNER}|(?: record)?{STAMP}| record)? {CODE}(?: [0-9A-Za-z ]+)?"),
+    MALFORMED: re.compile(rf"(?P<verdict>malformed)(?: record)? {CODE} [A-Za-z]+(?: at [0-9]+)?"),
     FAILED: re.compile(rf"(?P<verdict>failed) (?:{CODE}(?: .*)?|.*)"),
 }
 

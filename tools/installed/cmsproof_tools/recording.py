@@ -4,16 +4,17 @@ from __future__ import annotations
 import hashlib
 
 from cmsproof_tools.checking import RECORD, Draft, Usual, Work, reading_of
-from cmsproof_tools.deciding import content_sum, grounds_of, usual_grounds
+from cmsproof_tools.deciding import content_sum, grounds_of, list_as_of, usual_grounds
 from cmsproof_tools.found import Found
 from cmsproof_tools.outcomes import Outcome
 from cmsproof_tools.rows import NOTHING, Noting, Record, joined, steady
-from cmsproof_tools.texts import question_of
+from cmsproof_tools.running import module
+from cmsproof_tools.texts import in_order, question_of
 
 
 def record_of(work: Work, noting: Noting, draft: Draft) -> Record:
     """What a state keeps of a part of a file."""
-    (file, beside, begun, others), found, content, line, lines = draft
+    (file, beside, begun, others, under), found, content, line, lines = draft
     mark = steady(file.found, begun)
     if beside is not None or others:
         of_beside = [] if beside is None or work.content is not None else [beside]
@@ -33,7 +34,20 @@ def record_of(work: Work, noting: Noting, draft: Draft) -> Record:
         summed = b""
     else:
         summed = (is_signed and content_sum(line, vouched)) or hashlib.sha256(content).digest()
+    is_under = under is not None and is_signed and not found.container and line.startswith("accepted ")
+    if under is not None and is_under and not usual:
+        work, noting = as_shown(work, noting, module("evidencing").moment_shown(work, under, found.signed))
     return (*known, summed, usual or grounds_of(found, line, vouched, work.trust, noting, work.sha1))
+
+
+def as_shown(work: Work, noting: Noting, moment: str) -> tuple[Work, Noting]:
+    """By what the stamps of a file are looked at that is judged as of the moment that its evidence record shows, if it shows one."""
+    if not moment or work.records is None:
+        return work, noting
+    trust, keys = list_as_of(work.trust.text, moment)
+    last = dict(work.records.ends).get("sha1")
+    sha1 = last is not None and in_order(moment, last)
+    return work._replace(trust=trust, sha1=sha1), noting._replace(keys=keys, usual={}, until=moment)
 
 
 def record_of_usual(work: Work, noting: Noting, outcome: Outcome, usual: Usual) -> Record:

@@ -65,11 +65,13 @@ Record = tuple[int, int, str, bytes, bytes, str]
 class Noting(NamedTuple):
     """By what it is noted: the certificates of each role and key in the trust list, the SHA-256 of the content that is named for all
     files, and the grounds that were found for keys and algorithms of a signer and its token, behind the fields of both questions that have
-    these: by these fields, and the last ones by texts.PLACE in both lines."""
+    these: by these fields, and the last ones by texts.PLACE in both lines; and of a file that is judged by its evidence record the moment
+    that this shows, behind which no stamp counts, or no text."""
 
     keys: dict[tuple[str, bytes], tuple[Listed, ...]]
     content: bytes
     usual: dict[tuple[bytes, bytes], tuple[bytes, bytes, str]]
+    until: str = ""
 
 
 NOTHING: Record = (0, 0, "", b"", b"", '{"holds": [], "decided": []}')

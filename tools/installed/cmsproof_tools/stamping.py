@@ -10,8 +10,9 @@ from typing import Iterator, NamedTuple, Union
 
 from cmsproof.octets import COPIED, File
 from cmsproof_tools import stamps
-from cmsproof_tools.checking import STAMPED, UNSIGNED, Reading, Work
-from cmsproof_tools.checking import failed, noted, open_file, opened, outcome_of, stamps_judged, told, unopened, with_cure
+from cmsproof_tools.checking import STAMPED, Reading, Work
+from cmsproof_tools.checking import failed, noted, open_file, opened, outcome_of, says_unsigned, stamps_judged, told, unopened
+from cmsproof_tools.checking import with_cure
 from cmsproof_tools.finding import found_in
 from cmsproof_tools.found import Found, Unfound
 from cmsproof_tools.kinds import says_stamp
@@ -60,7 +61,7 @@ def judged(work: Work, name: str, reading: Reading, stamp: Stamp, over: File, pa
 def says_nothing_signed(outcomes: list[Outcome]) -> bool:
     """Whether nothing that is said of a file is about a signature in it."""
     return all(
-        one.line.startswith(UNSIGNED) or (not one.part and one.container in NAMING and one.line.startswith("refused F"))
+        says_unsigned(one.line) or (not one.part and one.container in NAMING and one.line.startswith("refused F"))
         for one in outcomes
     )
 
@@ -73,7 +74,7 @@ def time_of(outcome: Outcome) -> tuple[str, str]:
 
 def unread_of(outcomes: list[Outcome]) -> tuple[str, ...]:
     """What a reader should know of a file that is stamped and whose form is not read, so that nobody knows what is signed in it."""
-    unread = [one for one in outcomes if not one.line.startswith(UNSIGNED)]
+    unread = [one for one in outcomes if not says_unsigned(one.line)]
     return tuple(
         f"no signature in it is looked at: {one.line.partition(' ')[2]}: {note}" for one in unread for note in one.notes
     )

@@ -49,7 +49,7 @@ MOST_GROUNDS = 10_000
 NO_OCTETS = bytearray()
 # how the words of a basis and of grounds look, which a report shows: nobody else's words get there
 SUM, SUM_OR_NONE = re.compile(r"[0-9a-f]{64}"), re.compile(r"(?:[0-9a-f]{64})?")
-WORD = rf"--[a-z0-9]+(?: (?:[a-z0-9-]+=)?{MOMENT})?"
+WORD = rf"--[a-z0-9]+(?:-[a-z0-9]+)*(?: (?:[a-z0-9-]+=)?{MOMENT})?"
 POLICY, OID_OR_NONE = re.compile(rf"(?:{WORD}(?: {WORD})*)?"), re.compile(r"(?:[0-9]+(?:\.[0-9]+)+)?")
 
 

@@ -22,16 +22,6 @@ from samples.authority import STAMPING  # noqa: E402
 HERE = Path(".")
 
 
-def signed_as_it_stands(attributes):
-    """The signature over signed attributes in this order, which should be that of DER (RFC 5652 5.4)."""
-    write("attributes", der.element(0x31, *attributes))
-    run("openssl dgst -sha256 -sign signer.key -out signature attributes")
-    found = read("signature")
-    Path("attributes").unlink()
-    Path("signature").unlink()
-    return der.element(0x04, found)
-
-
 def run(line):
     """Runs a command, which must succeed."""
     done = subprocess.run(line, shell=True, capture_output=True, text=True)
@@ -113,10 +103,7 @@ def make_signed():
 def make_malformed():
     """Signed files that are not in DER."""
     signed, signer = parts_of(read("letter.p7s"))
-    attributes = [part.whole() for part in der.elements(der.only(signer[3]).body())]
     write("long.p7s", file_of(signed, signer, 4))
-    turned = attributes[::-1]
-    write("order.p7s", file_of(signed, [*signer[:3], der.element(0xA0, *turned), signer[4], signed_as_it_stands(turned)]))
     signed, signer = parts_of(read("stamped.p7s"))
     write("empty.p7s", file_of(signed, [*signer[:6], der.element(0xA1)]))
     write("longer.p7s", read("letter.p7s") + b"\0\0\0\0")

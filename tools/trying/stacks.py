@@ -2,7 +2,7 @@
 """How small a stack may be with which each command of the built program runs to its end. Prints for each command the greatest stack,
 in steps of 4 KiB, with which none of 20 runs says what it says with 8 MiB, and the least with which all do. Between these the system
 decides, which puts the stack at another address in each run. The environment is empty: its text and the words are on the stack, too.
-Then it prints the rows of the table of docs/RELIABILITY.md.
+Then it prints both for each row of ROWS; docs/RELIABILITY.md has the second.
 
     python3 tools/trying/stacks.py [PROGRAM] [--runs N] [--only WORD ..] [--most KIB]
 

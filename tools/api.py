@@ -33,6 +33,7 @@ READS += ("cmsproof_check_under", "cmsproof_evidence_check", "cmsproof_stamp_che
 # devices, verifiers for tests, parts of other types, calls that judge nothing, and those of cli_commands that cli_files makes
 LEFT_OUT = ("Sink", "Source", "Puts", "Keeps", "KeepsBelow", "FusedVerifier", "Int", "Oid", "Signers", "print")
 LEFT_OUT += ("answers_in", "ask_by", "check_by", "line_of", "stamp_questions_by", "text_of", "trust_in")
+LEFT_OUT += ("Describes", "limit_of")  # of cli_commands, which judge nothing either
 # and those of cli_making and cli_renewing that cli_rehashing makes
 LEFT_OUT += ("given_by", "later_stamp", "lists_of", "stamp_of", "sums_in", "tree_on", "Unrenewed")
 TEXTS = ("Display", "Debug")  # the traits that print

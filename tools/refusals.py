@@ -16,7 +16,7 @@ from cmsproof_tools.cures import CODE, ROWS  # noqa: E402
 
 PAGE = TOP / "docs" / "REFUSALS.md"
 # A cure of more words stands once in the page: later rows name the code whose cure it is.
-LONG = 12
+LONG = 7
 HEAD = ("| Code | When, and who causes it | Cure |", "|---|---|---|")
 
 

@@ -1,6 +1,6 @@
 #!/usr/bin/env python3
 """Makes the files that the commands of docs/REFUSALS.md are shown on, in the folder where it is run: a letter, certificates,
-signed files of OpenSSL, some whose octets are changed so that each fails one rule, and the letter in other forms.
+signed files of OpenSSL, and some with a token that fails one rule.
 
     python3 tools/samples/docs_samples.py
 
@@ -15,7 +15,6 @@ from pathlib import Path
 sys.path.insert(0, str(Path(__file__).resolve().parent.parent))
 from oracle import der  # noqa: E402
 from oracle.expected import with_token  # noqa: E402
-from oracle.identifiers import SIGNED_DATA  # noqa: E402
 from samples import authority  # noqa: E402
 from samples.authority import STAMPING  # noqa: E402
 
@@ -27,20 +26,6 @@ def run(line):
     done = subprocess.run(line, shell=True, capture_output=True, text=True)
     if done.returncode:
         raise SystemExit("%s\n%s%s" % (line, done.stdout, done.stderr))
-
-
-def parts_of(octets):
-    """The parts of the SignedData in these octets, and those of its one signer, whole."""
-    _kind, explicit = der.elements(der.only(octets).body())
-    signed = der.elements(der.only(explicit.body()).body())
-    return [part.whole() for part in signed], [part.whole() for part in der.elements(der.only(signed[-1].body()).body())]
-
-
-def file_of(signed, signer, length_octets=0):
-    """A file of such parts. The lengths around the SignedData can have more octets than DER allows."""
-    inside = der.element(0x30, *signed[:-1], der.element(0x31, der.sequence(*signer)), length_octets=length_octets)
-    explicit = der.element(0xA0, inside, length_octets=length_octets)
-    return der.element(0x30, der.oid(SIGNED_DATA), explicit, length_octets=length_octets)
 
 
 def write(name, octets):
@@ -95,29 +80,10 @@ def make_signed():
     configure("authority.cnf", "authority")
     configure("sha1.cnf", "authority", "sha1")
     sign("letter.p7s")
+    sign("text.p7s", "-cades")
     stamp("letter")
     run("cmsproof attach --signer 1 --token letter.tok letter.p7s stamped.p7s")
     run("cmsproof-trust --signer signer.pem --tsa authority.pem > trusted.txt")
-
-
-def make_malformed():
-    """Signed files that are not in DER."""
-    signed, signer = parts_of(read("letter.p7s"))
-    write("long.p7s", file_of(signed, signer, 4))
-    signed, signer = parts_of(read("stamped.p7s"))
-    write("empty.p7s", file_of(signed, [*signer[:6], der.element(0xA1)]))
-    write("longer.p7s", read("letter.p7s") + b"\0\0\0\0")
-
-
-def make_forms():
-    """The letter in other forms, and with the line ends of mail; and a file of Bouncy Castle."""
-    write("castle.p7s", read(Path(__file__).resolve().parents[2] / "data" / "real" / "bc_attached_default.p7s"))
-    run("openssl cms -cmsout -inform DER -in letter.p7s -outform PEM -out letter.pem")
-    run("openssl cms -cmsout -inform DER -in letter.p7s -outform SMIME -out letter.eml")
-    run("openssl base64 -in letter.p7s -out letter.b64")
-    run("gzip -k letter.p7s")
-    sign("text.p7s", "-cades")
-    run("openssl cms -encrypt -binary -outform DER -in letter.p7s -out sealed.p7m signer.pem")
 
 
 def make_stamped():
@@ -134,6 +100,4 @@ def make_stamped():
 
 if __name__ == "__main__":
     make_signed()
-    make_malformed()
-    make_forms()
     make_stamped()

@@ -15,8 +15,8 @@ use Rattle.cli_making.proofs.Givens.{given_fails, gives_not}
 use Rattle.cli_renewing.specs.Keeping.{system_ways}
 use Rattle.cli_renewing.specs.Runs.{IsRequestOn}
 use Rattle.cli_rehashing.specs.Footings.{AreLineFootings, AreLines}
-use Rattle.cli_rehashing.specs.Rehashing.{IsApart, IsRehashRequest}
-use Rattle.cli_rehashing.specs.Unrehashed.{AreNotAnew, HaveNoTree, IsRequested, MakesNoRehashRequest}
+use Rattle.cli_rehashing.specs.Rehashing.{IsApart, IsRehashRequest, IsRequested}
+use Rattle.cli_rehashing.specs.Unrehashed.{AreNotAnew, HaveNoTree, MakesNoRehashRequest}
 use Rattle.cli_rehashing.specs.Unrehashed.{RehashesNot}
 
 -- ---- the request
@@ -40,6 +40,18 @@ module _ {F : Type 0} (holds contents : F → Option (List ℕ)) (words : Rehash
     octets_refused text held f (inl names) = inl names
     octets_refused text held f (inr (inl m)) = inr (inl m)
     octets_refused text held f (inr (inr none)) = inr (inr (inl (inr (alg, named, inr (text, held, none)))))
+
+    pub requested : (text : List ℕ) → IsHeld holds text → (octets : List ℕ)
+        → IsRehashRequest (system_ways holds contents) words.into.now alg text octets
+        → IsRequested holds contents words
+    requested text held octets made = record {
+      alg = alg;
+      named = named;
+      text = text;
+      held = held;
+      octets = octets;
+      made = made;
+    }
 
   -- it is there, and could not be written
   pub unwritten : (f : Failure) → IsRequested holds contents words

@@ -45,19 +45,22 @@ pub record IsRehashRequest (ways : Ways) (folder : List ℕ) (alg : Alg) (text o
 abbrev pub IsApart : RehashRequestWords → List SumValue → Type 0
 IsApart words sums = AllByRecursion (λ s. words.out.now ≢ path_below words.into.now s.name) sums
 
--- a file took the octets of that request: of the text of a file, by the algorithm that the words name; and it is
--- neither that file nor one of a record, by their paths
-pub record IsRehashRequestWritten {F : Type 0} (holds contents : F → Option (List ℕ)) (words : RehashRequestWords)
-    : Type 0 where
+-- the text of a file has the request, by the algorithm of the words
+pub record IsRequested {F : Type 0} (holds contents : F → Option (List ℕ)) (words : RehashRequestWords) : Type 0 where
   pub alg : Alg
   pub named : words.alg.now ≡ name_of alg
   pub text : List ℕ
   pub held : IsHeld holds text
   pub octets : List ℕ
   pub made : IsRehashRequest (system_ways holds contents) words.into.now alg text octets
-  pub written : IsTaken contents octets
+
+-- a file took the octets of that request; and it is neither that of the sums nor one of a record, by their paths
+pub record IsRehashRequestWritten {F : Type 0} (holds contents : F → Option (List ℕ)) (words : RehashRequestWords)
+    : Type 0 where
+  pub requested : IsRequested holds contents words
+  pub written : IsTaken contents requested.octets
   pub not_sums : words.out.now ≢ words.sums.now
-  pub apart : IsApart words made.sums
+  pub apart : IsApart words requested.made.sums
 
 -- ---- one record
 

@@ -22,7 +22,7 @@ use Rattle.cli_renewing.specs.declared.footing.Footing.{Footing}
 use Rattle.cli_renewing.specs.Keeping.{Kept, Ways, kept, system_ways}
 use Rattle.cli_renewing.specs.Runs.{AreNotDone}
 use Rattle.cli_rehashing.specs.Footings.{AreLineFootings, AreLines}
-use Rattle.cli_rehashing.specs.Rehashing.{IsRehashRequest, rehashing}
+use Rattle.cli_rehashing.specs.Rehashing.{IsRequested, rehashing}
 use Rattle.cli_rehashing.specs.Standing.{HasNoLeaf}
 
 -- ---- a record has no leaf
@@ -59,15 +59,6 @@ AreNotRequested holds contents words f = RefusesAlg words.alg.now f
     ⊎ ((alg : Alg) × (words.alg.now ≡ name_of alg) × (IsFailureToRead words.sums f
     ⊎ ((text : List ℕ) × IsHeld holds text
     × HaveNoTree (system_ways holds contents) None words.into.now alg text f)))
-
--- the text of a file has the request, by the algorithm of the words
-pub record IsRequested {F : Type 0} (holds contents : F → Option (List ℕ)) (words : RehashRequestWords) : Type 0 where
-  pub alg : Alg
-  pub named : words.alg.now ≡ name_of alg
-  pub text : List ℕ
-  pub held : IsHeld holds text
-  pub octets : List ℕ
-  pub made : IsRehashRequest (system_ways holds contents) words.into.now alg text octets
 
 -- the file that should take it is the one of the sums or of a record; memory ran out; the request can't be made; or
 -- that file can't be made or written, once the request is there

@@ -266,7 +266,8 @@ def wordless(call):
 def exported(top):
     """What cmsproof_api exports: the names, by their crate."""
     names = {}
-    for crate, several, one in EXPORT.findall((top / "crates" / DOOR / "src" / "lib.rt").read_text()):
+    texts = [place.read_text() for place in sorted((top / "crates" / DOOR / "src").glob("*.rt"))]
+    for crate, several, one in EXPORT.findall("\n".join(texts)):
         names.setdefault(crate, set()).update(name.strip() for name in (several or one).split(",") if name.strip())
     return names
 

@@ -13,7 +13,7 @@
 //!
 //! For many files, `check_stream_with` and `check_stream_by` take what serves for one file after another: a `Pass`, the
 //! window through which the files pass, as `questions_stream` does, and a `Checker`, the trust list and the policy with
-//! what is kept of the list.
+//! what is kept of the list; `judge_file` takes a `Checker` for files in memory.
 //!
 //! `check_evidence` judges an evidence record (RFC 4998) by digests of data objects; `wanted_by` says by which
 //! algorithms they must be digested, which `digests_from` does; `questions_of_record` lists what a verifier will be
@@ -21,11 +21,14 @@
 //!
 //! Records are made of `Sums`, the digests and names of files as `sha256sum` and its kin write them. A `Tree` over the
 //! digests has the root to be stamped, and the `LeafLists` of each digest; of these and the token of the stamp
-//! `make_record` makes the record of the digest.
+//! `make_record` makes the record of the digest. `evidence` has the calls that renew records, and `check_under`, which
+//! judges a signed file under one.
 //!
 //! A content and a file come from a `Source`, which `Slice` makes of octets and `FromRead` of a reader; what is written
 //! goes to a `Sink`, which `FromWrite` makes of a writer.
 #![tactic(auto)]
+
+pub mod evidence;
 
 pub use check_evidence::{EvidenceRefused, RecordRule, StampRule};
 pub use check_fit::{
@@ -37,8 +40,8 @@ pub use check_stream::{
     StreamQuestionsFault, check_stream, check_stream_by, check_stream_with, questions_stream,
 };
 pub use check_verdict::{
-    Accepted, Checker, Stamp, check, check_signer, check_stamp, check_token, judge_stamp,
-    judge_stamp_of,
+    Accepted, Checker, Stamp, check, check_signer, check_stamp, check_token, judge_file,
+    judge_stamp, judge_stamp_of,
 };
 pub use cms_compare::{CompareFault, CompareRule, Compared, Which, compare};
 pub use cms_stream::{Pass, listed_algorithms};

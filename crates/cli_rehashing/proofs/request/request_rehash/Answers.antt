@@ -24,9 +24,14 @@ returns-in_err-write_whole-clause-failed g c =
 
 pub returns-clause-made : goal.returns-clause-made
 returns-clause-made g c = record {
-  requested = requested g.R.File.Read.remaining g.R.File.Write.contents c.args.words.now c.in_ok-alg.alg
-      c.in_ok-alg.ensures.found c.as_slice.result.now
-      (held_as _ _ _ c.as_slice.ensures.value c.in_ok-text.ensures.whole) _ c.in_ok-octets.ensures.made.0;
+  requested = record {
+    alg = c.in_ok-alg.alg;
+    named = c.in_ok-alg.ensures.found;
+    text = c.as_slice.result.now;
+    held = held_as _ _ _ c.as_slice.ensures.value c.in_ok-text.ensures.whole;
+    octets = c.in_ok-octets.octets.items;
+    made = c.in_ok-octets.ensures.made.0;
+  };
   written = rw c.as_slice-2.ensures.value at c.in_ok-write_whole.ensures.whole;
   not_sums = c.in_ok-apart.ensures.apart;
   apart = c.in_ok-octets.ensures.made.1;

@@ -2,8 +2,8 @@
 """api.py [--check | --write | --all [CRATE ..] | --laws | --words]: the public calls of the crates, their clauses and their plain words.
 
 The words stand in the code: the lines of `//` directly above a clause. A clause without them takes the first sentence of
-the call's `///`. docs/PROVED.md has lists of calls, between `<!-- api: CRATE -->` and `<!-- end -->`, a line for each clause. A
-list has what a user or an auditor names: the functions that cmsproof_api exports, the methods of VERBS and of traits that its types
+the call's `///`. docs/PROVED.md has lists of calls, between `<!-- api: CRATE .. -->` and `<!-- end -->`, a line for each clause.
+A list has what a user or an auditor names: the functions that cmsproof_api exports, the methods of VERBS and of traits that its types
 have, the crates of WHOLE and the calls of READS. It has no laws, no worked rows, no texts, nothing of LEFT_OUT and no clause of DEVICES.
 A sentence that stands at an earlier clause of this name is told once, and so is what two calls say alike but for one phrase.
 
@@ -33,7 +33,8 @@ READS += ("cmsproof_check_under", "cmsproof_evidence_check", "cmsproof_stamp_che
 # devices, verifiers for tests, parts of other types, calls that judge nothing, and those of cli_commands that cli_files makes
 LEFT_OUT = ("Sink", "Source", "Puts", "Keeps", "KeepsBelow", "FusedVerifier", "Int", "Oid", "Signers", "print")
 LEFT_OUT += ("answers_in", "ask_by", "check_by", "line_of", "stamp_questions_by", "text_of", "trust_in")
-LEFT_OUT += ("Describes", "limit_of")  # of cli_commands, which judge nothing either
+LEFT_OUT += ("Describes", "limit_of", "listed_algorithms")  # which judge nothing either
+LEFT_OUT += ("judge_file",)  # whose clauses are those of `check` and `judge_stamp`, as the document says
 # and those of cli_making and cli_renewing that cli_rehashing makes
 LEFT_OUT += ("given_by", "later_stamp", "lists_of", "stamp_of", "sums_in", "tree_on", "Unrenewed")
 TEXTS = ("Display", "Debug")  # the traits that print
@@ -47,8 +48,8 @@ STRING = re.compile(r'b?"(?:\\.|[^"\\])*"|b?\'(?:\\.|[^\'\\])\'')
 EXPORT = re.compile(r"^pub use ([a-z_0-9]+)::(?:\{([^}]*)\}|([A-Za-z_0-9]+));", re.M)
 MODULE = re.compile(r"^pub mod ([a-z_0-9]+);", re.M)
 TYPE = re.compile(r"^pub (?:struct|enum|trait) ([A-Za-z_0-9]+)", re.M)
-MARK = re.compile(r"<!-- api: ([a-z_0-9]+) -->")
-BLOCK = re.compile(r"<!-- api: ([a-z_0-9]+) -->\n((?:(?!<!-- api: ).)*?)<!-- end -->", re.S)
+MARK = re.compile(r"<!-- api: ([a-z_0-9 ]+) -->")
+BLOCK = re.compile(MARK.pattern + r"\n((?:(?!<!-- api: ).)*?)<!-- end -->", re.S)
 
 
 @dataclass
@@ -304,32 +305,39 @@ def marked(names):
 
 
 def phrases(old, new):
-    """What two sentences have between the words with which both begin and those with which both end."""
+    """By which two sentences may differ: what each has between the words with which both begin and those with which both end;
+    and the first word of that, wherever it stands."""
     old, new = old.rstrip(".").split(), new.rstrip(".").split()
     front = len(os.path.commonprefix([old, new]))
     old, new = old[front:], new[front:]
     back = len(os.path.commonprefix([old[::-1], new[::-1]]))
-    return tuple(" ".join(words[: len(words) - back]) for words in (old, new))
+    whole = tuple(" ".join(words[: len(words) - back]) for words in (old, new))
+    return [pair for pair in (whole, (" ".join(old[:1]), " ".join(new[:1]))) if all(pair)]
 
 
 def exchanged(said, earlier):
-    """The phrase of an earlier call, and the one that stands in its place in several sentences, if a call says the same but for that;
-    else None."""
-    if [names for names, _ in said] != [names for names, _ in earlier]:
+    """The phrase of an earlier call, and the one that stands in its place, if a call says the same but for that; else None. Both
+    are one word if one sentence alone has it."""
+    if [names for names, _ in said] != [names for names, _ in earlier] or len(said) == 1:
         return None
-    pairs = [phrases(old, new) for (_, old), (_, new) in zip(earlier, said) if old != new]
-    return pairs[0] if len(pairs) > 1 and len(set(pairs)) == 1 and all(pairs[0]) else None
+    pairs = [(old, new) for (_, old), (_, new) in zip(earlier, said)]
+    apart = [(old, new) for old, new in pairs if old != new]
+    for phrase, other in phrases(*apart[0]) if apart else ():
+        where = re.compile(rf"(?<!\w){re.escape(phrase)}(?!\w)")
+        if all(other.join(where.split(old)) == new for old, new in pairs) and (len(apart) > 1 or " " not in phrase + other):
+            return phrase.strip("`"), other.strip("`")
+    return None
 
 
 def told_parts(name, said, told):
     """A call's sentences, each with the names of its clauses, and last those that stand at earlier calls, by reference. `told` has the
-    sentences of the calls before it."""
+    sentences of the calls before it, but for those that are told by another's."""
     alike = [(first, pair) for first, sentences in told.items() for pair in [exchanged(said, sentences)] if pair]
     first_at = {sentence: first for first, sentences in reversed(told.items()) for sentence in sentences}
-    told[name] = said
     if alike:
         first, (old, new) = alike[0]
         return [f"as {first}, with `{new}` for `{old}`."]
+    told[name] = said
     parts, earlier = [], {}
     for names, words in said:
         first = first_at.get((names, words), name)
@@ -360,10 +368,15 @@ def told_of(top, crate, names):
     return [call for call in calls if call.clauses]
 
 
+def marked_in(text):
+    """The crates that the marks of the document name, each of which may have several."""
+    return " ".join(MARK.findall(text)).split()
+
+
 def lists_of(top, text):
     """The list of each crate that the document has a mark of, in the order of the document."""
     names, told = exported(top), {}
-    crates = [crate for crate in dict.fromkeys(MARK.findall(text)) if (top / "crates" / crate).is_dir()]
+    crates = [crate for crate in dict.fromkeys(marked_in(text)) if (top / "crates" / crate).is_dir()]
     return {crate: listed(told_of(top, crate, names), told) for crate in crates}
 
 
@@ -381,9 +394,10 @@ def document_of(top, text):
     lists = lists_of(top, text)
 
     def block(found):
-        if found[1] not in lists:
+        if not set(found[1].split()) <= set(lists):
             return found[0]
-        return "\n".join([f"<!-- api: {found[1]} -->", *lists[found[1]], "<!-- end -->"])
+        lines = [line for crate in found[1].split() for line in lists[crate]]
+        return "\n".join([f"<!-- api: {found[1]} -->", *lines, "<!-- end -->"])
 
     return BLOCK.sub(block, text)
 
@@ -396,7 +410,7 @@ def open_lists(text):
 
 def missing_crates(top, text):
     """The crates with calls that are to be told of which the document has no list."""
-    named, names = set(MARK.findall(text)), exported(top)
+    named, names = set(marked_in(text)), exported(top)
     return [crate for crate in crates_of(top) if crate not in named and told_of(top, crate, names)]
 
 
@@ -406,15 +420,16 @@ def checked(top):
     lists = lists_of(top, text)
     wrong = [f"{DOCUMENT} has no list of {crate}" for crate in missing_crates(top, text)]
     wrong += [f"{DOCUMENT} has no end of the list of {crate}: put `<!-- end -->` there" for crate in open_lists(text)]
-    named = MARK.findall(text)
+    named = marked_in(text)
     wrong += [
         f"{DOCUMENT} has {named.count(crate)} lists of {crate}" for crate in dict.fromkeys(named) if named.count(crate) > 1
     ]
     for found in BLOCK.finditer(text):
-        if found[1] not in lists:
-            wrong.append(f"{DOCUMENT} has a list of {found[1]}, which is no crate")
-        elif found[2] != "".join(f"{line}\n" for line in lists[found[1]]):
+        crates = found[1].split()
+        unknown = [f"{DOCUMENT} has a list of {crate}, which is no crate" for crate in crates if crate not in lists]
+        if not unknown and found[2] != "".join(f"{line}\n" for crate in crates for line in lists[crate]):
             wrong.append(f"{STALE}{found[1]} is not what the code says")
+        wrong += unknown
     return wrong
 
 

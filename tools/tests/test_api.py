@@ -103,19 +103,19 @@ LISTS = (
         "".join(
             f"impl Cup {{\n    pub fn {name}(&self) -> u8\n        // It stays as full as it was.\n        ensures full {{ x }}\n"
             "        // It stays as warm as it was.\n        ensures warm { x }\n"
-            f"        // Few words.\n        ensures few {{ x }}\n        // The {name} is said.\n        ensures said {{ x }}\n"
+            f"        // Few words.\n        ensures few {{ x }}\n        // It is {what} to say.\n        ensures said {{ x }}\n"
             + METHOD
-            for name in ("size", "height")
+            for name, what in (("size", "very easy"), ("height", "hard"))
         ),
         [
             "- `Cup::size`:",
             "  - `full`: It stays as full as it was.",
             "  - `warm`: It stays as warm as it was.",
             "  - `few`: Few words.",
-            "  - `said`: The size is said.",
+            "  - `said`: It is very easy to say.",
             "- `Cup::height`:",
             "  - `few`: Few words.",
-            "  - `said`: The height is said.",
+            "  - `said`: It is hard to say.",
             "  - `full`, `warm`: as `Cup::size`.",
         ],
     ),
@@ -133,6 +133,33 @@ LISTS = (
             "  - `good`: It is good.",
             "  - `one`: There is one cup.",
             "- `Cup::height`: as `Cup::size`, with `pot made of tin` for `cup`.",
+        ],
+    ),
+    (
+        "what two calls say alike but for a word, in two places or one",
+        "".join(
+            f"impl Cup {{\n    pub fn {name}(&self) -> u8\n        // The {what} holds tea, or the {what}'s handle is hot.\n"
+            f"        ensures tea {{ x }}\n        // It is in no {other}.\n        ensures pot {{ x }}\n" + METHOD
+            for name, what, other in (
+                ("size", "cup", "`pot`"),
+                ("height", "jug", "`pot`"),
+                ("depth", "cup", "`pan`"),
+                ("width", "jug", "`pan`"),
+                ("weight", "cup", "iron pot"),
+            )
+        ),
+        [
+            "- `Cup::size`:",
+            "  - `tea`: The cup holds tea, or the cup's handle is hot.",
+            "  - `pot`: It is in no `pot`.",
+            "- `Cup::height`: as `Cup::size`, with `jug` for `cup`.",
+            "- `Cup::depth`: as `Cup::size`, with `pan` for `pot`.",
+            "- `Cup::width`:",
+            "  - `tea`: The jug holds tea, or the jug's handle is hot.",
+            "  - `pot`: It is in no `pan`.",
+            "- `Cup::weight`:",
+            "  - `pot`: It is in no iron pot.",
+            "  - `tea`: as `Cup::size`.",
         ],
     ),
     (
@@ -263,6 +290,11 @@ class Lists(unittest.TestCase):
         self.put("docs/PROVED.md", "<!-- api: cups -->\n<!-- end -->\n<!-- api: pots -->\n<!-- end -->\n")
         lists = api.lists_of(self.top, (self.top / api.DOCUMENT).read_text())
         self.assertEqual(lists["pots"], ["- `pour`: `full`: as `fill`."])
+        both = "<!-- api: cups pots -->\n%s<!-- end -->\n"
+        written = api.document_of(self.top, both % "")
+        self.assertEqual(written, both % "- `fill`: `full`: It stays as full as it was.\n- `pour`: `full`: as `fill`.\n")
+        self.put("docs/PROVED.md", written)
+        self.assertEqual(api.checked(self.top), [])
 
     def test_wordless(self):
         for doc, lines, names in WORDLESS:

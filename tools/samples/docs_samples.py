@@ -1,6 +1,6 @@
 #!/usr/bin/env python3
 """Makes the files that the commands of docs/REFUSALS.md are shown on, in the folder where it is run: a letter, certificates,
-signed files of OpenSSL, and some with a token that fails one rule.
+signed files of OpenSSL, and two with a token that fails one rule.
 
     python3 tools/samples/docs_samples.py
 
@@ -50,21 +50,9 @@ def certificate(name, *more):
     authority.make_certificate(HERE, name, "basicConstraints=CA:FALSE", *more, days=365, organization="Example")
 
 
-def configure(path, name, digest="sha256"):
-    """A configuration of `openssl ts`."""
-    authority.configure(HERE, path, name, "sha1, sha256", digest)
-
-
-def stamp(name, config="authority.cnf"):
-    """NAME.tsq, NAME.tsr and NAME.tok: a request, the answer, and its token."""
-    run("cmsproof request --of letter.p7s --cert %s.tsq" % name)
-    answer(name, config)
-
-
-def answer(name, config="authority.cnf"):
-    """NAME.tsr and NAME.tok, of the request NAME.tsq."""
-    run("openssl ts -reply -config %s -queryfile %s.tsq -out %s.tsr" % (config, name, name))
-    run("openssl ts -reply -config %s -in %s.tsr -token_out -out %s.tok" % (config, name, name))
+def answer(name):
+    """NAME.tok, the token of the answer to the request NAME.tsq."""
+    run("openssl ts -reply -config authority.cnf -queryfile %s.tsq -token_out -out %s.tok" % (name, name))
 
 
 def sign(name, more="-cades -binary -nodetach"):
@@ -77,11 +65,11 @@ def make_signed():
     write("letter.txt", b"Dear archive,\nthis is my letter.\n")
     certificate("signer")
     certificate("authority", STAMPING)
-    configure("authority.cnf", "authority")
-    configure("sha1.cnf", "authority", "sha1")
+    authority.configure(HERE, "authority.cnf", "authority")
     sign("letter.p7s")
     sign("text.p7s", "-cades")
-    stamp("letter")
+    run("cmsproof request --of letter.p7s --cert letter.tsq")
+    answer("letter")
     run("cmsproof attach --signer 1 --token letter.tok letter.p7s stamped.p7s")
     run("cmsproof-trust --signer signer.pem --tsa authority.pem > trusted.txt")
 
@@ -91,11 +79,8 @@ def make_stamped():
     run("openssl ts -query -data letter.txt -sha256 -cert -out content.tsq")
     answer("content")
     put_token("content_stamped.p7s", read("content.tok"))
-    put_token("response_stamped.p7s", read("letter.tsr"))
     kind, explicit = der.elements(der.only(read("letter.tok")).body())
     put_token("ber_stamped.p7s", der.sequence(kind.whole(), b"\xa0\x80", explicit.body(), b"\0\0"))
-    stamp("weak", "sha1.cnf")
-    run("cmsproof attach --signer 1 --token weak.tok letter.p7s weak_stamped.p7s")
 
 
 if __name__ == "__main__":

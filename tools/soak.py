@@ -77,10 +77,11 @@ def write_line(top, crate, commit):
 
 @contextlib.contextmanager
 def copy_of(top):
-    """A copy of what is proved, in a folder of its own that is removed again. Its edits are still apart."""
+    """A copy of what is proved, in a folder of its own that is removed again. Its edits are still apart. What is kept of proofs has
+    a second name there, since it can take ten gigabytes."""
     with tempfile.TemporaryDirectory(prefix="soak-") as folder:
         copy = pathlib.Path(folder)
-        shutil.copytree(top / "crates", copy / "crates", symlinks=True)
+        shutil.copytree(top / "crates", copy / "crates", symlinks=True, copy_function=together.link)
         for name in (changes.LISTING, "HANDLES"):
             shutil.copy(top / name, copy)
         yield copy

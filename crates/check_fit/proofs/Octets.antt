@@ -20,13 +20,13 @@ use Rattle.cms_types.specs.Tokens.{is_token, tokens_of}
 use Rattle.der_core.specs.Lists.{only}
 use Rattle.check_fit.specs.Attributes.{occurrences, single_value}
 
-front : (a b : List ℕ) → IsBytes (a ++ b) → IsBytes a
+pub front : (a b : List ℕ) → IsBytes (a ++ b) → IsBytes a
 front a b h = subst IsBytes (take_at a b (length a) refl) (IsBytes-take (length a) (a ++ b) h)
 
-back : (a b : List ℕ) → IsBytes (a ++ b) → IsBytes b
+pub back : (a b : List ℕ) → IsBytes (a ++ b) → IsBytes b
 back a b h = subst IsBytes (drop_at a b (length a) refl) (IsBytes-drop (length a) (a ++ b) h)
 
-body : (t : ℕ) (b : List ℕ) → IsBytes (el t b) → IsBytes b
+pub body : (t : ℕ) (b : List ℕ) → IsBytes (el t b) → IsBytes b
 body t b h = back (len (length b)) b (IsBytes-tail t (len (length b) ++ b) h)
 
 each : {X : Type 0} (f : X → List ℕ) (xs : List X) → IsBytes (flat_map f xs) → AllByRecursion (λ x. IsBytes (f x)) xs

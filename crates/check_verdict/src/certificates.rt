@@ -1,12 +1,55 @@
 //! The certificates of trusted entries that were read last.
-ghost use Rattle.std.specs.Prelude.{◌≡◌, List, IfSome};
+ghost use Rattle.std.specs.Prelude.{◌≡◌, ◌%◌, List, Some, None, IfSome, slice_set};
+ghost use Rattle.std.specs.List.{All};
 ghost use Rattle.trust_lists.specs.Entries.{EntryValue};
 ghost use Rattle.cert_types.specs.CertificateValue.{CertificateValue};
-ghost use Rattle.check_verdict.specs.KeptCertificates.{IsOfEntry, IsKept};
+ghost use Rattle.check_verdict.specs.KeptCertificates.{IsOfEntry};
 
 use crate::trusted::Trusted;
 use cert_types::Certificate;
 use std::marker::{Model, PhantomData};
+
+/// How many certificates are kept of a role.
+const SLOTS: usize = 4;
+
+// The values that were kept last, at most as many as there are slots. They are of any type, since of an array of what
+// can't be copied the toolchain proves something only if its elements are of a type parameter.
+#[derive(Debug, Drop)]
+struct Slots<T> {
+    slots: [Option<T>; SLOTS],
+    // The slot that is taken next, or as many as there are for the first.
+    next: usize,
+}
+
+impl<T> Slots<T> {
+    // With none.
+    fn none() -> Slots<T>
+        ensures { All (λ slot. slot ≡ None) result.slots }
+    {
+        Slots {
+            slots: Default::default(),
+            next: 0,
+        }
+    }
+
+    // Each slot.
+    fn all(&self) -> &[Option<T>]
+        ensures { result.now ≡ self.now.slots }
+    {
+        &self.slots[..]
+    }
+}
+
+impl<T: Drop> Slots<T> {
+    // Keeps a value, instead of the one that was kept first.
+    fn keep(&mut self, value: T)
+        ensures { self.new.slots ≡ slice_set self.old.slots (self.old.next % 4) (Some value) }
+    {
+        let at = self.next % SLOTS;
+        self.slots[at] = Some(value);
+        self.next = at + 1;
+    }
+}
 
 // The certificate of the entry at this place.
 #[derive(Debug, Drop)]
@@ -48,27 +91,20 @@ impl Known for Authorities {
 #[derive(Debug, Drop)]
 pub(crate) struct Recent<'l, K: Known> {
     trust: Trusted<'l>,
-    // Four by name, since an array holds only what can be copied.
-    first: Option<Kept<'l>>,
-    second: Option<Kept<'l>>,
-    third: Option<Kept<'l>>,
-    fourth: Option<Kept<'l>>,
-    // How many of the four were filled since the fourth was.
-    filled: u8,
+    kept: Slots<Kept<'l>>,
     of: PhantomData<K>,
 }
 
 impl<'l, K: Known> Model for Recent<'l, K> {
-    ghost use Rattle.std.specs.Prelude.{List, IfSome};
+    ghost use Rattle.std.specs.Prelude.{List};
     ghost use Rattle.trust_lists.specs.Entries.{EntryValue};
-    ghost use Rattle.check_verdict.specs.KeptCertificates.{IsKept};
+    ghost use Rattle.check_verdict.specs.KeptCertificates.{AreKept};
 
     ghost Value = { List EntryValue };
 
     ghost view = { λ r. r.trust };
 
-    ghost invariant = { λ r. IfSome r.first (IsKept K.known r.trust) × IfSome r.second (IsKept K.known r.trust)
-        × IfSome r.third (IsKept K.known r.trust) × IfSome r.fourth (IsKept K.known r.trust) };
+    ghost invariant = { λ r. AreKept K.known r.trust r.kept.slots };
 }
 
 impl<'l, K: Known> Recent<'l, K> {
@@ -78,23 +114,8 @@ impl<'l, K: Known> Recent<'l, K> {
     {
         Recent {
             trust,
-            first: None,
-            second: None,
-            third: None,
-            fourth: None,
-            filled: 0,
+            kept: Slots::none(),
             of: PhantomData,
-        }
-    }
-
-    // The certificate in a slot, if it is that of the entry at this place.
-    fn in_slot<'s>(slot: &'s Option<Kept<'l>>, place: usize) -> Option<&'s Certificate<'l>>
-        ensures { (entries : List EntryValue) → IfSome slot.now (IsKept K.known entries)
-            → IfSome result (λ c. IsOfEntry entries place c.now × K.known c.now) }
-    {
-        match slot {
-            Some(kept) if kept.place == place => Some(&kept.certificate),
-            _ => None,
         }
     }
 
@@ -102,16 +123,14 @@ impl<'l, K: Known> Recent<'l, K> {
     pub fn find(&self, place: usize) -> Option<&Certificate<'l>>
         ensures { IfSome result (λ c. IsOfEntry self.now place c.now × K.known c.now) }
     {
-        if let Some(certificate) = Self::in_slot(&self.first, place) {
-            return Some(certificate);
+        for slot in self.kept.all() {
+            if let Some(kept) = slot
+                && kept.place == place
+            {
+                return Some(&kept.certificate);
+            }
         }
-        if let Some(certificate) = Self::in_slot(&self.second, place) {
-            return Some(certificate);
-        }
-        if let Some(certificate) = Self::in_slot(&self.third, place) {
-            return Some(certificate);
-        }
-        Self::in_slot(&self.fourth, place)
+        None
     }
 
     /// Keeps the certificate of the entry at this place, instead of the one that was kept first.
@@ -120,14 +139,6 @@ impl<'l, K: Known> Recent<'l, K> {
         requires known { K.known certificate }
         ensures { self.new ≡ self.old }
     {
-        let kept = Some(Kept { place, certificate });
-        let filled = self.filled % 4;
-        match filled {
-            0 => self.first = kept,
-            1 => self.second = kept,
-            2 => self.third = kept,
-            _ => self.fourth = kept,
-        }
-        self.filled = filled + 1;
+        self.kept.keep(Kept { place, certificate });
     }
 }

@@ -5,18 +5,8 @@ use Rattle.std.specs.List.{slice_split}
 use Rattle.std.specs.Prelude.{◌==◌}
 use Rattle.memchr.specs.Find.{IsFirstByte, is_byte}
 use Rattle.list_answers.specs.Texts.{parts}
-use Rattle.list_answers.proofs.Cuts.{uncut, cut_there, first_place}
+use Rattle.list_answers.proofs.Cuts.{some_part, uncut, cut_there, first_place}
 use Rattle.cli_files.specs.Paths.{names_of, names_of_parts}
-
--- there is always a part
-some_part : (p : ℕ → Bool) (xs : List ℕ) → (q : List ℕ) × (qs : List (List ℕ)) × (slice_split p xs ≡ q ∷ qs)
-some_part p [] = ([], [], refl)
-some_part p (x ∷ xs) = by_case (p x) refl (some_part p xs)
-  where
-    by_case : (b : Bool) → p x ≡ b → ((q : List ℕ) × (qs : List (List ℕ)) × (slice_split p xs ≡ q ∷ qs))
-        → (q : List ℕ) × (qs : List (List ℕ)) × (slice_split p (x ∷ xs) ≡ q ∷ qs)
-    by_case true e (q, qs, is) = ([], slice_split p xs, rw e refl)
-    by_case false e (q, qs, is) = (x ∷ q, qs, rw (e, is) refl)
 
 more : (part : List ℕ) (parts : List (List ℕ)) → ((q : List ℕ) × (qs : List (List ℕ)) × (parts ≡ q ∷ qs))
     → names_of_parts (part ∷ parts) ≡ part ∷ names_of_parts parts

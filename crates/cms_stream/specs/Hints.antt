@@ -1,6 +1,7 @@
 -- Which digest algorithms the front of a file names (RFC 5652 5.1), and what a pass over it finds.
 use Rattle.std.specs.Prelude.{◌≡◌, ◌⊎◌, ⊤, ℕ, ◌<◌, false, List, [], ◌∷◌, ◌↔◌, IsTrue, length, Option, Some, None}
 use Rattle.std.specs.Prelude.{Result, Ok, Err, if◌then◌else◌}
+use Rattle.devices.specs.declared.source.Source.{Ghosts}
 use Rattle.devices.specs.Device.{raised}
 use Rattle.der_core.specs.declared.fault.Fault.{Fault}
 use Rattle.der_core.specs.declared.tags.TheConstants.{INTEGER, OBJECT_IDENTIFIER, SEQUENCE, SET}
@@ -14,8 +15,9 @@ use Rattle.digests.specs.declared.set.Algs.{Algs}
 use Rattle.digests.specs.Algorithms.{Names}
 use Rattle.digests.specs.Sets.{is_in}
 use Rattle.cms_types.specs.SignedDataReading.{algorithms_in}
-use Rattle.cms_types.specs.SignedDataValue.{SignedDataValue, algorithms_parts}
+use Rattle.cms_types.specs.SignedDataValue.{SignedDataValue, EncodesSignedData, algorithms_parts}
 use Rattle.cms_stream_laws.specs.OpenReading.{OpenSpot, OpenBody, enter_openly, within_openly, kept}
+use Rattle.cms_stream.specs.declared.hint.TheConstants.{HINT_LIMIT}
 use Rattle.cms_stream.specs.declared.tags.TheConstants.{CONTENT}
 use Rattle.cms_stream.specs.declared.stream_fault.StreamFault.{StreamFault}
 use Rattle.cms_stream.specs.declared.stream_fault.StreamFault.TheVariants.{Malformed, ReadFailed, TooLong}
@@ -38,6 +40,15 @@ AreNone algorithms = (alg : Alg) → is_in alg algorithms ≡ false
 abbrev pub AreListed : (limit : ℕ) → SignedDataValue → (before after : ℕ) → Algs → Type 0
 AreListed limit v before after algorithms = AreNamedBy v.digest_algorithms algorithms
     ⊎ (AreNone algorithms × ((after ≡ raised before) ⊎ (limit < length (algorithms_parts v.digest_algorithms))))
+
+-- A pass over the front of a file found these: the source failed at most once; if it was known what is still to come,
+-- it still is; and of a file that is known and encodes a SignedData they are those that it lists.
+pub record FindsListed {S : Type 0} (source : Ghosts S) (before after : S) (algorithms : Algs) : Type 0 where
+  pub count : (source.failures after ≡ source.failures before)
+      ⊎ (source.failures after ≡ raised (source.failures before))
+  pub telling : source.tells before → source.tells after
+  pub listed : source.tells before → (v : SignedDataValue) → EncodesSignedData (source.rest before) v
+      → AreListed HINT_LIMIT v (source.failures before) (source.failures after) algorithms
 
 -- ---- how they are read
 

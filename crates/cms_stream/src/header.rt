@@ -4,6 +4,7 @@ ghost use Rattle.cms_stream_laws.specs.OpenReading.{open_spot, length_in, headin
 ghost use Rattle.der_core.specs.OpenFaults.{whole_length};
 ghost use Rattle.cms_stream.specs.Passing.{header_in, next_header_in, outer_size};
 ghost use Rattle.cms_stream.specs.Headers.{StatesLength, StatesWithin};
+ghost use Rattle.cms_stream.specs.declared.window.TheConstants.{WINDOW_SIZE};
 
 use der_core::octets::is_tag;
 use der_core::tags::SEQUENCE;
@@ -113,7 +114,7 @@ pub(crate) fn header_of(tag: u8, left: u64, at: u64, ahead: &[u8]) -> Result<u64
 /// Faults: those of `header_of`, except those that depend on a stated end: nothing states where this element must end.
 #[tactic(auto, unfolding(crate::specs::Passing::outer_size))]
 pub(crate) fn outermost(ahead: &[u8]) -> Result<u64, Fault>
-    requires { length ahead.now ≤ 65536 }
+    requires { length ahead.now ≤ WINDOW_SIZE }
     ensures { StatesLength (outer_size ahead.now) ahead.now result }
 {
     match ahead {

@@ -1,9 +1,7 @@
-ghost use Rattle.std.specs.Prelude.{◌≡◌, ◌⊎◌, ◌<◌, ◌≤◌, ◌^◌, length, IfOk, IfSome};
-ghost use Rattle.devices.specs.Device.{raised};
-ghost use Rattle.cms_types.specs.SignedDataValue.{SignedDataValue, EncodesSignedData};
+ghost use Rattle.std.specs.Prelude.{◌≡◌, ◌<◌, ◌≤◌, ◌^◌, length, IfOk, IfSome};
 ghost use Rattle.cms_stream.specs.Parts.{Counted};
 ghost use Rattle.cms_stream.specs.Readers.{seen};
-ghost use Rattle.cms_stream.specs.Hints.{AreNamedBy, AreNamedIn, AreListed, IsListTooLong, Tells, body_until};
+ghost use Rattle.cms_stream.specs.Hints.{AreNamedBy, AreNamedIn, FindsListed, IsListTooLong, Tells, body_until};
 ghost use Rattle.cms_stream.specs.Hints.{signed_at, listed_at};
 
 use crate::opening::Pass;
@@ -17,7 +15,7 @@ use devices::Source;
 use digests::{Alg, Algs};
 
 // How many octets of the digestAlgorithms of a file are kept for a hint, at most.
-const KEPT: usize = 512;
+const HINT_LIMIT: usize = 512;
 
 // The algorithms that these identifiers name.
 fn named(identifiers: &AlgorithmIdentifiers) -> Algs
@@ -105,18 +103,10 @@ impl Reader {
 impl Pass {
     /// As `listed_algorithms`, with this window.
     pub fn listed_algorithms<S: Source>(&mut self, source: &mut S) -> Algs
-        // The source failed at most once.
-        ensures count { (S.failures source.new ≡ S.failures source.old)
-            ⊎ (S.failures source.new ≡ raised (S.failures source.old)) }
-        // If it was known what is still to come, it still is.
-        ensures telling { S.tells source.old → S.tells source.new }
-        // Of a file that is known and encodes a SignedData: the algorithms that its digestAlgorithms name, and no
-        // others; or none, if the source failed or these have more than 512 octets.
-        ensures listed { S.tells source.old → (v : SignedDataValue) → EncodesSignedData (S.rest source.old) v
-            → AreListed 512 v (S.failures source.old) (S.failures source.new) result }
+        ensures { FindsListed S.Source source.old source.new result }
     {
         self.reader.restart();
-        let mut room = [0; KEPT];
+        let mut room = [0; HINT_LIMIT];
         named_in(self.reader.digest_algorithms(source, &mut room))
     }
 }
@@ -125,15 +115,7 @@ impl Pass {
 /// isn't a SignedData, has a fault there or has more than 512 octets of them, or if the source fails. A file need not
 /// name the algorithms that its signers use: they are a hint, which lets a second pass compute fewer digests.
 pub fn listed_algorithms<S: Source>(source: &mut S) -> Algs
-    // The source failed at most once.
-    ensures count { (S.failures source.new ≡ S.failures source.old)
-        ⊎ (S.failures source.new ≡ raised (S.failures source.old)) }
-    // If it was known what is still to come, it still is.
-    ensures telling { S.tells source.old → S.tells source.new }
-    // Of a file that is known and encodes a SignedData: the algorithms that its digestAlgorithms name, and no others;
-    // or none, if the source failed or these have more than 512 octets.
-    ensures listed { S.tells source.old → (v : SignedDataValue) → EncodesSignedData (S.rest source.old) v
-        → AreListed 512 v (S.failures source.old) (S.failures source.new) result }
+    ensures { FindsListed S.Source source.old source.new result }
 {
     Pass::new().listed_algorithms(source)
 }

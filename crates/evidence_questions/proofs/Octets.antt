@@ -1,26 +1,16 @@
 -- The time-stamps of a record that is octets are octets.
-use Rattle.std.proofs.Common.{ℕ, List, [], ◌∷◌, ◌++◌, length, refl, subst}
+use Rattle.std.proofs.Common.{ℕ, List, [], ◌∷◌, ◌++◌, refl, subst}
 use Rattle.std.specs.List.{AllByRecursion}
-use Rattle.std.proofs.lemmas.List.{take_at, drop_at}
 use Rattle.std.proofs.lemmas.List.Concat.{flat_map-cons}
-use Rattle.der_core.specs.Element.{len, el, IsBytes}
-use Rattle.der_core.proofs.ReadLengths.{IsBytes-take, IsBytes-drop, IsBytes-tail}
+use Rattle.der_core.specs.Element.{el, IsBytes}
 use Rattle.cms_types.specs.AttributeValue.{optional_attributes}
 use Rattle.cms_types.specs.SignedDataValue.{algorithms_parts}
+use Rattle.check_fit.proofs.Octets.{front, back, body}
 use Rattle.evidence_types.specs.StampValue.{StampValue, optional_algorithm, optional_hash_lists, stamp_parts}
 use Rattle.evidence_types.specs.StampValue.{stamp_element}
 use Rattle.evidence_types.specs.EvidenceValue.{EvidenceValue, EncodesEvidence, optional_encryption, evidence_parts}
 use Rattle.evidence_types.specs.EvidenceValue.{chain_parts, chain_element, chains_parts}
 use Rattle.check_evidence.specs.Places.{stamps_of}
-
-front : (a b : List ℕ) → IsBytes (a ++ b) → IsBytes a
-front a b h = subst IsBytes (take_at a b (length a) refl) (IsBytes-take (length a) (a ++ b) h)
-
-back : (a b : List ℕ) → IsBytes (a ++ b) → IsBytes b
-back a b h = subst IsBytes (drop_at a b (length a) refl) (IsBytes-drop (length a) (a ++ b) h)
-
-body : (t : ℕ) (b : List ℕ) → IsBytes (el t b) → IsBytes b
-body t b h = back (len (length b)) b (IsBytes-tail t (len (length b) ++ b) h)
 
 of_stamp : (s : StampValue) → IsBytes (stamp_element s) → IsBytes s.stamp
 of_stamp s h =

@@ -5,6 +5,7 @@ use Rattle.std.specs.List.{slice_split}
 use Rattle.std.specs.Prelude.{◌==◌}
 use Rattle.memchr.specs.Find.{IsFirstByte, is_byte}
 use Rattle.list_answers.specs.Texts.{parts}
+pub use Rattle.list_answers.proofs.Cuts.{some_part}
 use Rattle.list_answers.proofs.Cuts.{uncut, cut_there, first_place}
 use Rattle.evidence_sums.specs.Lines.{lines_of, lines_of_parts}
 
@@ -18,16 +19,6 @@ pub before : (octets : List ℕ) (at i : ℕ) (r : Option ℕ) → IsFirstByte (
     → (i < length octets)
     × (parts at octets ≡ take i octets ∷ parts at (take (length octets - (i + 1)) (drop (i + 1) octets)))
 before octets at i r first found = cut_there octets at i r (first_place octets at r first) found
-
--- there is always a part
-pub some_part : (p : ℕ → Bool) (xs : List ℕ) → (q : List ℕ) × (qs : List (List ℕ)) × (slice_split p xs ≡ q ∷ qs)
-some_part p [] = ([], [], refl)
-some_part p (x ∷ xs) = by_case (p x) refl (some_part p xs)
-  where
-    by_case : (b : Bool) → p x ≡ b → ((q : List ℕ) × (qs : List (List ℕ)) × (slice_split p xs ≡ q ∷ qs))
-        → (q : List ℕ) × (qs : List (List ℕ)) × (slice_split p (x ∷ xs) ≡ q ∷ qs)
-    by_case true e (q, qs, is) = ([], slice_split p xs, rw e refl)
-    by_case false e (q, qs, is) = (x ∷ q, qs, rw (e, is) refl)
 
 more : (part : List ℕ) (parts : List (List ℕ)) → ((q : List ℕ) × (qs : List (List ℕ)) × (parts ≡ q ∷ qs))
     → lines_of_parts (part ∷ parts) ≡ part ∷ lines_of_parts parts

@@ -165,6 +165,7 @@ impl<'a> StampPlace<'a> {
         if let Some((stamp, _)) = self.after.next() {
             return Some(stamp);
         }
+        // So no chain is empty.
         let _octets = self.later.bytes();
         let (chain, _) = self.later.next()?;
         match chain.next() {

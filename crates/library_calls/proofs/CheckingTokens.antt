@@ -44,7 +44,7 @@ judged_by k u vouches token stamped answer same verdict complete count =
     subst (λ (c : CheckerValue). IsTokenJudged (terms_for c vouches) token stamped answer) same
     (token_judged (terms_for k vouches) token stamped answer verdict complete count)
 
-passing : (t : Terms) (token stamped : List ℕ) (answer : Result ℕ TokenRefused) (m : ℕ)
+pub passing : (t : Terms) (token stamped : List ℕ) (answer : Result ℕ TokenRefused) (m : ℕ)
     → IsKnownTokenVerdict t token stamped answer → answer ≡ Ok m
     → Passes t token stamped m
 passing t token stamped answer m verdict e =

@@ -12,6 +12,7 @@ use Rattle.library_answers.specs.Failures.{failure_numbers, match_numbers}
 use Rattle.library_answers.specs.Numbers.{accepted_numbers}
 use Rattle.library_calls.specs.CheckedTokens.{IsKnownTokenVerdict, IsTokenJudged, token_answer_numbers}
 use Rattle.library_calls.specs.Stamps.{IsOfRules, IsStampChecked, SaysStamp, SaysStamped}
+use Rattle.library_calls.proofs.CheckingTokens.{passing}
 use Rattle.library_calls.proofs.Moments.{passed_is}
 use Rattle.library_calls.proofs.StampsHeld.{never_both, one_token}
 
@@ -49,11 +50,6 @@ module _ (said : Answer) (status : ℕ) (before : List ℕ) (size : ℕ) (after 
   numbers (Ok m) says = says.0
   numbers (Err (token_refused.Rule rule)) says = says.0
   numbers (Err (token_refused.Device fault)) says = absurd says
-
-  passing : (t : Terms) (token stamped : List ℕ) (answer : Result ℕ TokenRefused) (m : ℕ)
-      → IsKnownTokenVerdict t token stamped answer → answer ≡ Ok m → Passes t token stamped m
-  passing t token stamped answer m verdict e =
-      subst (λ (r : Result ℕ TokenRefused). IsKnownTokenVerdict t token stamped r) e verdict
 
   module _ (t : Terms) (stamp stamped : List ℕ) (m : ℕ) where
     says_it : IsStampChecked t stamp stamped said status before size after → said ≡ accepted_numbers m

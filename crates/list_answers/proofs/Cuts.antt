@@ -11,6 +11,16 @@ use Rattle.memchr.specs.Find.{IsFirstByte, is_byte}
 use Rattle.std.proofs.lemmas.List.Splits.{slice_split_first}
 use Rattle.list_answers.specs.Texts.{parts}
 
+-- there is always a part
+pub some_part : (p : ℕ → Bool) (xs : List ℕ) → (q : List ℕ) × (qs : List (List ℕ)) × (slice_split p xs ≡ q ∷ qs)
+some_part p [] = ([], [], refl)
+some_part p (x ∷ xs) = by_case (p x) refl (some_part p xs)
+  where
+    by_case : (b : Bool) → p x ≡ b → ((q : List ℕ) × (qs : List (List ℕ)) × (slice_split p xs ≡ q ∷ qs))
+        → (q : List ℕ) × (qs : List (List ℕ)) × (slice_split p (x ∷ xs) ≡ q ∷ qs)
+    by_case true e (q, qs, is) = ([], slice_split p xs, rw e refl)
+    by_case false e (q, qs, is) = (x ∷ q, qs, rw (e, is) refl)
+
 none_passes : (p : ℕ → Bool) (xs : List ℕ) → length xs ≤ position_or_len p xs → slice_split p xs ≡ xs ∷ []
 none_passes p [] h = refl
 none_passes p (x ∷ xs) h = by_case (p x) refl (none_passes p xs)

@@ -183,7 +183,10 @@ def try_batch(copy, crates, crate, batch, until):
     functions = {it for _, changed in batch.values() for it in changed}
     refused = refused_by(told, functions) if status == 1 else None
     if refused is not None:
-        return {name for name, (_, changed) in batch.items() if changed & refused}
+        found = {name for name, (_, changed) in batch.items() if changed & refused}
+        # at once, so that a run that is ended has told what it found
+        print(f"soak: {crate}: {len(found)} of {len(batch)} refused in one check:", *sorted(it.stem for it in found), flush=True)
+        return found
     names = sorted(batch)
     if status is None or len(names) < 2:
         return set()

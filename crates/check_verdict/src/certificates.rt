@@ -4,6 +4,7 @@ ghost use Rattle.std.specs.List.{All};
 ghost use Rattle.trust_lists.specs.Entries.{EntryValue};
 ghost use Rattle.cert_types.specs.CertificateValue.{CertificateValue};
 ghost use Rattle.check_verdict.specs.KeptCertificates.{IsOfEntry};
+ghost use Rattle.check_verdict.specs.declared.certificates.TheConstants.{SLOTS};
 
 use crate::trusted::Trusted;
 use cert_types::Certificate;
@@ -43,7 +44,7 @@ impl<T> Slots<T> {
 impl<T: Drop> Slots<T> {
     // Keeps a value, instead of the one that was kept first.
     fn keep(&mut self, value: T)
-        ensures { self.new.slots ≡ slice_set self.old.slots (self.old.next % 4) (Some value) }
+        ensures { self.new.slots ≡ slice_set self.old.slots (self.old.next % SLOTS) (Some value) }
     {
         let at = self.next % SLOTS;
         self.slots[at] = Some(value);

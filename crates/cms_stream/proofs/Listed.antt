@@ -1,9 +1,10 @@
 -- The digestAlgorithms of a file that encodes a SignedData, as the front of the file is read.
 use Rattle.std.proofs.Common.{◌≡◌, ℕ, ◌<◌, Bool, true, false, List, [], ◌∷◌, ◌++◌, length, take, Option, Some, None}
 use Rattle.std.proofs.Common.{Result, Ok, Err, refl, sym, ap}
-use Rattle.std.proofs.Common.{subst, ◌∙◌, arith, inl, inr}
+use Rattle.std.proofs.Common.{◌⊎◌, subst, ◌∙◌, arith, inl, inr}
 use Rattle.std.specs.Prelude.{if◌then◌else◌}
 use Rattle.std.proofs.lemmas.List.{length-take-le}
+use Rattle.devices.specs.Device.{raised}
 use Rattle.der_core.specs.declared.fault.Fault.{Fault}
 use Rattle.der_core.specs.AlgorithmReading.{algorithm_in}
 use Rattle.der_core.specs.Element.{IsBytes}
@@ -330,6 +331,13 @@ long_there limit bytes v f fits (w, is, x, first, y, enters, long) =
 
 abbrev Found : Type 0
 Found = Result (Option (List AlgorithmValue)) StreamFault
+
+pub counted_once : (before after : ℕ) (r : Found) → CountsPass r before after
+    → (after ≡ before) ⊎ (after ≡ raised before)
+counted_once before after (Ok found) count = inl count
+counted_once before after (Err (Malformed fault)) count = inl count
+counted_once before after (Err TooLong) count = inl count
+counted_once before after (Err ReadFailed) count = inr count
 
 module _ (limit : ℕ) (v : SignedDataValue) (before after : ℕ) (algorithms : Algs) where
   listed_by : (bytes : List ℕ) (r : Found) → IsBytes bytes → Fronted bytes v → CountsPass r before after

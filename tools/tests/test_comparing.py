@@ -99,7 +99,9 @@ class Lists(unittest.TestCase):
             self.assertEqual((status, set(self.entries(lines)), len(err.splitlines())), (0, expected, 1))
             self.assertIn("# ends: revoked", lines)
         late = self.list("late", ("signer", "20240502000000Z", "-", self.anna))
-        self.assertEqual({name for *_, name in self.entries(self.said("--merge", old, new, late)[1])}, {"bob", "clock"})
+        for paths in ((old, new, late), (new, late, old), (late, new, old), (new, late, new)):
+            found = {name for *_, name in self.entries(self.said("--merge", *paths)[1])}
+            self.assertEqual(found - {"clock"}, {"bob"}, paths)
         self.assertEqual(len(self.entries(self.said("--merge", old, old)[1])), 2)
         twice = self.list(
             "twice", ("signer", FIRST, "20220101000000Z", self.anna), ("signer", "20230101000000Z", "-", self.anna)

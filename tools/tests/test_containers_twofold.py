@@ -510,6 +510,8 @@ class Lines(WithMaker):
             "space": mail.replace(b'"cut"', b'"cut "'),
             "behind": mail.replace(b'"cut"', b'"cut" a'),
             "escape": mail.replace(b'"cut"', b'"c\\ut"'),
+            # by these Python's `email` reads nothing, and raises other errors than of a charset that it does not know
+            **{f"charset_{name}": mail.replace(b'="cut"', b"*=%s''cut" % name.encode()) for name in ("idna", "undefined")},
         }
         for name, octets in rows.items():
             self.put(name + ".eml", octets)

@@ -90,6 +90,10 @@ class Descriptors(WithFiles):
             for path in (f"/dev/fd/{number}", f"/proc/self/fd/{number}"):
                 if number % 7 == 3 or path.startswith("/dev"):
                     self.assertEqual(self.run_archive(path), (4, [f"{path}: failed open {path}"], ""))
+        # (of so many digits Python makes no number)
+        for path in ("/dev/fd/" + "1" * 5000, "/dev/" + "9" * 5000):
+            found = self.run_archive(path, self.file("b"))
+            self.assertEqual(found, (4, [f"{path}: failed open {path}", f"b: {ACCEPTED}"], ""))
         found = self.run_archive("--content", "/dev/fd/3", "a")
         self.assertEqual(found, (4, ["a: failed open /dev/fd/3"], ""))
         found = self.run_archive("--files-from", "/dev/fd/3")

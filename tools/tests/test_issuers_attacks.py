@@ -1,6 +1,7 @@
 """Tests of trust by issuer against somebody who knows how it works: each case once gave an entry, or lost a revocation, or ended
 the tool."""
 import unittest
+from unittest import mock
 
 from issuing_world import ALWAYS, AT, h, list_pem, pem
 from making import openssl, processor_seconds
@@ -10,7 +11,7 @@ from test_revocation import NEXT, scope
 from cryptography import x509
 from cryptography.hazmat.primitives import hashes
 from cryptography.hazmat.primitives.asymmetric import ec, padding, rsa
-from cmsproof_tools import der
+from cmsproof_tools import der, issuing
 from cmsproof_tools.running import Stop
 from oracle.der import element, oid, sequence
 
@@ -47,6 +48,26 @@ class Attacks(WithWorld):
     def periods(self, who, bag, **rest):
         """The periods of a signer, with these issuers in the file."""
         return self.world.periods(who, [self.world.file(who, bag)], **rest)
+
+    def test_a_fault_at_one_file(self):
+        """It costs that file, and no other one; but what costs all of them ends the tool."""
+        w, found_apart = self.world, issuing.found_apart
+
+        def failing(error):
+            def found(name, *rest, **more):
+                if name.endswith("file0.p7s"):
+                    raise error
+                return found_apart(name, *rest, **more)
+
+            return mock.patch.object(issuing, "found_apart", found)
+
+        with failing(RuntimeError("odd")):
+            periods, told = w.periods(w.anna, [b"hostile", w.file()])
+        self.assertEqual((periods, w.status), ([ALWAYS], 4))
+        self.assertEqual([line.rpartition("/")[2] for line in told], ["file0.p7s: failed trust: RuntimeError: odd"])
+        for error in Stop(4, "no openssl"), ImportError("no library"):
+            with failing(error), self.assertRaises(type(error)):
+                w.periods(w.anna, [b"hostile", w.file()])
 
     def test_a_path_that_openssl_did_not_judge(self):
         """A certificate with the name of the signer's issuer and the serial number of Bob's: OpenSSL passes over it, for its key

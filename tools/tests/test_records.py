@@ -2,6 +2,7 @@
 another digest of its content, in the other a token is no CMS."""
 import unittest
 from datetime import datetime, timedelta, timezone
+from unittest import mock
 
 from making import TOP, folder_of, need_tools
 
@@ -115,6 +116,17 @@ class Calls(unittest.TestCase):
         # two objects are not one that has the octets of both
         both = document(0) + document(1)
         self.assertFalse(evidence.check(record(TWO), both, trust=TRUST).accepted)
+
+    def test_files_that_are_mapped(self):
+        """They are copied whole, however long they are: `ctypes.string_at` takes no length of more than 32 bits."""
+        folder = folder_of(self)
+        paths = [folder / str(number) for number in (0, 1)]
+        for number, path in enumerate(paths):
+            path.write_bytes(document(number))
+        due = evidence.renewal_root(record(ONE).read_bytes())
+        with mock.patch("cmsproof.octets.COPIED", 0), mock.patch("ctypes.string_at", lambda *_: b""):
+            self.assertTrue(evidence.check(record(TWO), paths, trust=TRUST).accepted)
+            self.assertEqual(evidence.renewal_root(record(ONE)), due)
 
     def test_moments(self):
         two_hours_east = timezone(timedelta(hours=2))

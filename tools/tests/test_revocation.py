@@ -1,4 +1,5 @@
 """Tests of revocation lists: which are taken, what they cut, and what OpenSSL says where it can judge."""
+import os
 import shutil
 import unittest
 
@@ -229,6 +230,10 @@ class Revoking(WithWorld):
             with self.assertRaises(Stop) as stop:
                 w.made([w.file()], lists=[octets])
             self.assertEqual(stop.exception.status, 2)
+        # (one that is called so is a list of the folder where the tool runs, and not standard input)
+        (folder / "0.crl").rename(folder / "-"), self.addCleanup(os.chdir, os.getcwd()), os.chdir(folder)
+        periods, told = w.periods(w.anna, [w.file()], folders=["."])
+        self.assertEqual((periods, len(told)), ([(ALWAYS[0], NEXT)], 1), told)
 
 
 class Responses(WithWorld):

@@ -187,6 +187,11 @@ class Reported(WithAuthority):
         self.assertIn(">files/b/c.tif<", drawn)
         self.assertEqual((drawn.count("<circle"), drawn.count("of other files")), (17, 0))
         self.assertNotIn("<script", drawn)
+        for name in ("records/b/c.tif.ers", "./records/b/c.tif.ers", self.folder / "records" / "b" / "c.tif.ers"):
+            (self.folder / "alone").unlink(missing_ok=True)
+            self.assertEqual(run_tool("cmsproof-archive", *judged[:-2], "alone", name, cwd=self.folder)[0], 0)
+            page = run_tool("cmsproof-archive", "report", "alone", *asked[2:], cwd=self.folder)[1].decode()
+            self.assertIn(f'aria-label="The hash tree of {name}"', page)
         for path in (self.folder / "records").rglob("*.ers"):
             path.write_bytes(path.read_bytes() + b"\0")
         page = run_tool("cmsproof-archive", *asked, cwd=self.folder)[1].decode()

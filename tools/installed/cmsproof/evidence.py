@@ -22,7 +22,7 @@ from cmsproof import library as lib
 from cmsproof.calls import Questions, answers_to, give_back, questions_of, room, written
 from cmsproof.lists import TrustList
 from cmsproof.making import LENGTHS, Root, Unmade, make, rehash, rehash_root, renew, renewal_root, root
-from cmsproof.octets import Given, Octets, octets_if_any, octets_of
+from cmsproof.octets import Given, Octets, copied, octets_if_any, octets_of
 from cmsproof.verdicts import Unexpected, Verdict, moment_of, said_of, verdict_of
 from cmsproof.verifiers import Verifier, vouching
 from cmsproof_tools.texts import QUESTIONS, question_lines
@@ -144,8 +144,7 @@ def joined(objects: Sequence[Octets]) -> Octets:
     """Octets one after the other. Of one object they are where they were."""
     if len(objects) == 1:
         return objects[0]
-    parts = [one.at if isinstance(one.at, bytes) else ctypes.string_at(one.at, one.length) for one in objects]
-    octets = b"".join(parts)
+    octets = b"".join(map(copied, objects))
     return Octets(octets, len(octets))
 
 

@@ -1,13 +1,12 @@
 """Evidence records (RFC 4998) that are made of digests, and renewed, by a time-stamp over the root of a hash tree."""
 from __future__ import annotations
 
-import ctypes
 from contextlib import contextmanager
 from typing import Iterator, NamedTuple, Optional, Sequence, Union
 
 from cmsproof import library as lib
 from cmsproof.calls import Room
-from cmsproof.octets import Given, Octets, octets_of, of_bytes
+from cmsproof.octets import Given, Octets, copied, octets_of, of_bytes
 from cmsproof.verdicts import Unexpected, code_of
 
 # how many octets a digest by each algorithm has
@@ -90,7 +89,7 @@ def digests_in(algorithm: str, digests: Sequence[bytes]) -> list[bytes]:
 def copy_of(given: Given) -> Octets:
     """The octets of a record or a token, in memory. Raises OSError for a file that cannot be read or changes meanwhile."""
     with octets_of(given) as octets:
-        return of_bytes(octets.at if isinstance(octets.at, bytes) else ctypes.string_at(octets.at, octets.length))
+        return of_bytes(copied(octets))
 
 
 def records_in(records: Union[Given, Sequence[Given]]) -> list[Octets]:

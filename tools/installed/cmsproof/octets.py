@@ -55,6 +55,12 @@ def of_bytes(octets: bytes) -> Octets:
     return Octets(octets, len(octets))
 
 
+def copied(octets: Octets) -> bytes:
+    """The octets as an object of their own. (`ctypes.string_at` takes a length without all but its last 32 bits.)"""
+    at, length = octets
+    return at if isinstance(at, bytes) else (ctypes.c_char * length).from_address(at).raw
+
+
 def size_of(buffer: Buffer) -> int:
     """How many octets an object has."""
     return buffer.nbytes if isinstance(buffer, memoryview) else len(buffer)

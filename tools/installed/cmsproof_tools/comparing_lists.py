@@ -130,13 +130,14 @@ def merged(paths: Iterable[str]) -> tuple[bytes, list[str]]:
         rows: dict[Key, list[Row]] = {}
         for row in rows_of(path):
             rows.setdefault(row.key, []).append(row)
-        for key, found in rows.items():
-            known = whole.get(key)
+        for key, several in rows.items():
+            known, found = whole.get(key), [row for row in several if not row.is_for_no_time()] or several
             # (which a list has of somebody of whom it trusts nothing, as if it left him out)
-            if all(row.is_for_no_time() for row in found):
+            if found[0].is_for_no_time():
                 whole.setdefault(key, found)
                 continue
-            if known is not None and all(row.is_for_no_time() for row in known):
+            # (none are there where the lists before trust it at no moment together, and no later one brings it back)
+            if known and known[0].is_for_no_time():
                 known = None
             whole[key] = found if known is None else in_both(known, found)
             if known is not None and {row.period[:2] for row in known} != {row.period[:2] for row in found}:

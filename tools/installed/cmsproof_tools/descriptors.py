@@ -21,6 +21,8 @@ REACHING, READING = os.O_PATH | os.O_CLOEXEC, os.O_RDONLY | os.O_CLOEXEC
 # how a file is opened that was a regular one a moment before: so that nothing waits for whatever is there now
 AT_ONCE = READING | os.O_NONBLOCK | os.O_NOCTTY
 STANDARD = ("stdin", "stdout", "stderr")
+# how many digits the number of a descriptor has at most, which is an `int` of C; Python makes no number of very many
+MOST_DIGITS = 10
 # the copies that were made, by the number of the descriptor: what is named twice is the same
 COPIES: dict[int, int] = {}
 
@@ -99,7 +101,7 @@ def path_of(descriptor: int | str) -> str:
 def number_named(path: str) -> int | None:
     """The number of the own descriptor that this path names, or None."""
     folder, name = os.path.split(path)
-    if name not in STANDARD and not name.isdecimal():
+    if name not in STANDARD and not (name.isdecimal() and len(name) <= MOST_DIGITS):
         return None
     own, folder = os.getpid(), os.path.realpath(folder)
     if folder == "/dev" and name in STANDARD:

@@ -2,6 +2,7 @@
 with what it stands on."""
 from __future__ import annotations
 
+import os
 from contextlib import contextmanager
 from pathlib import Path as Place
 from typing import Callable, Iterable, Iterator
@@ -87,11 +88,13 @@ def add_folder(revocation: Revocation, folder: str, told: Told) -> None:
         if path.exists() and not path.is_file():
             told(f"{shown(str(path))}: it is no file, and not looked into")
             continue
-        octets = read(str(path))
+        # (`-` alone would be standard input)
+        name = os.path.join(folder, "-") if str(path) == "-" else str(path)
+        octets = read(name)
         try:
-            revocation.add_list(str(path), octets)
+            revocation.add_list(name, octets)
         except ValueError as error:
-            line = f"{shown(str(path))}: it is no revocation list: {error}"
+            line = f"{shown(name)}: it is no revocation list: {error}"
             if is_meant(path.name, octets):
                 raise Stop(MALFORMED, line) from error
             told(line)
@@ -165,10 +168,10 @@ def trusted_by(asked: Asked, lists: list[TrustedList], told: Told) -> Iterator[T
         yield Trusted(*judges, revocation_of(asked, known, told), between, asked.sha1, asked.most)
 
 
-def look(names: list[str], step: Callable[[str, Found], bool], unread: Told, stamps: bool) -> tuple[list[str], int]:
+def look(names: list[str], step: Callable[[str, Found], bool], told: Told, unread: Told, stamps: bool) -> tuple[list[str], int]:
     """Takes a step with each file, and answers those for which it says yes, and the worst status; `unread` is called with the line
-    of a file that cannot be read. Whom a list trusts does not depend on how much of a file is covered. `stamps` says that the stamps beside
-    files are looked at too."""
+    of a file that cannot be read, and `told` with that of one at which something else fails. Whom a list trusts does not depend on
+    how much of a file is covered. `stamps` says that the stamps beside files are looked at too."""
     again, worst = [], DONE
     for name in names:
         try:
@@ -182,6 +185,11 @@ def look(names: list[str], step: Callable[[str, Found], bool], unread: Told, sta
                 again += [name] * any(said)
         except Unread as error:
             unread(str(error))
+            worst = FAILED
+        except (Stop, ImportError):
+            raise
+        except Exception as error:  # a fault of the tool itself: it costs this file, and no other one
+            told(f"{shown(name)}: failed trust: {type(error).__name__}: {error}")
             worst = FAILED
     return again, worst
 
@@ -214,13 +222,13 @@ def grown(
     again: list[str] = []
     worst, size = DONE, FIRST if jobs > 1 else len(names)
     while names:
-        found, ended = look(names[:size], growing.take, unread, stamps)
+        found, ended = look(names[:size], growing.take, told, unread, stamps)
         again += found
         worst, names, size = max(worst, ended), names[size:], 2 * size
         if len(names) > FIRST:
             growing.settle()
             names = left_of(growing, names, jobs, stamps)
-    _, later = look(again, growing.take_again, unread, stamps)
+    _, later = look(again, growing.take_again, told, unread, stamps)
     growing.settle()
     return growing.listed(), max(worst, later)
 

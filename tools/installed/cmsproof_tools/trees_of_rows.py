@@ -53,8 +53,9 @@ def digest_in(name: str, algorithm: str, row: Row) -> bytes:
 
 def leaf_of(records: Records, row: Row) -> Leaf:
     """What the record of a row says. Raises Undrawn where it cannot be read, or is another one than was judged."""
-    first = records.file_of(row.name)
-    place, name = (row.name, first) if first is not None else (records.place_of(row.name), row.name)
+    # (a row can be of a record, by any of its names)
+    name = records.file_of(row.name) or row.name
+    place = records.place_of(name)
     if place is None or records.lacking(place):
         raise Undrawn("there is no record of it in --records")
     try:

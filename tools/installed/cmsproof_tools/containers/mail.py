@@ -235,7 +235,10 @@ def opaque(entity: Entity) -> Found | Unfound:
 def boundary_of(head: email.message.Message) -> str:
     """The boundary that a head says (RFC 2046 5.1.1). Raises Refused where there is none, or where programs may end it elsewhere: behind
     a comment, a space or a quotation mark."""
-    boundary, said = head.get_boundary(), str(head.get("content-type"))
+    said = str(head.get("content-type"))
+    # (one with its charset, RFC 2231, may name any of Python's, of which some raise an error whatever they are to read)
+    with refusing("F10", ValueError, LookupError, TypeError, AttributeError, RuntimeError):
+        boundary = head.get_boundary()
     if not boundary or len(boundary) > 200 or not boundary.isascii():
         raise Refused("F3", "a multipart without a boundary")
     # (one in pieces or with its language, RFC 2231, is none for some programs)

@@ -241,6 +241,10 @@ class Places(WithFolder):
         self.assertEqual((status, lines), (1, expected))
         for name, kind in (("b", "a link"), ("c", "no regular file"), ("d", "no regular file"), ("e/f", "a link")):
             self.assertIn(f"files/{name}: its evidence record records/files/{name}.ers is {kind}, and is not read\n", err)
+        # (a link that is named is followed as one to a signed file is, but not where it is found for its file)
+        named, beside = "records/files/b.ers", "files/b"
+        self.assertEqual(self.run_archive(named)[:2], (0, [f"{named}: {EVIDENCED}"]))
+        self.assertEqual(self.run_archive(named, beside)[:2], (1, [f"{beside}: refused F16 NoRecord"]))
         # a file that is a link is skipped, and its record is one without a file
         os.remove(self.folder / "files" / "a"), os.symlink("b", self.folder / "files" / "a")
         _, lines, err = self.run_archive("files", timeout=60)

@@ -175,6 +175,20 @@ class Folders(WithMaker):
             (self.folder / "pairs").write_text(text)
             status, rows, err = self.run_tool("cmsproof-archive", "--trust", "trust.txt", "--pairs-from", "pairs", "archive")
             self.assertEqual((status, rows, len(err.splitlines())), (2, [], 1), err)
+        # nor do several lists name different contents of one file
+        (self.folder / "pairs").write_text("archive/other.p7s\tarchive/a.doc\narchive/b.p7s\tarchive/b\n")
+        (self.folder / "more").write_text("archive/b.p7s\tarchive/b\n")
+        (self.folder / "others").write_text("archive/b.p7s\tarchive/none\n")
+        trust = ["--trust", "trust.txt", "--pairs-from"]
+        for first, *rest, expected in (
+            ("pairs", "more", "pairs", ""),
+            ("more", "pairs", "others", "others: it names another content of archive/b.p7s than more"),
+            ("others", "more", "pairs", "more: it names another content of archive/b.p7s than others"),
+        ):
+            words = [word for name in rest for word in ("--pairs-from", name)]
+            status, rows, err = self.run_tool("cmsproof-archive", *trust, first, *words, "--json")
+            self.assertEqual((status, len(rows)), (2, 0) if expected else (0, 3), err)
+            self.assertEqual(err.splitlines(), [f"cmsproof-archive: {expected}"] if expected else [])
 
     def test_what_is_no_regular_file(self):
         self.put("b.p7s", self.maker.attached(LETTER)), self.put("a/z.p7s", self.maker.attached(LETTER))

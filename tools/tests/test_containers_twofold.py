@@ -1,5 +1,6 @@
 """Tests of containers that two programs read in two ways: none is accepted for what only one of them sees. And of files that were
 forgotten, or took hours."""
+import base64
 import email
 import email.policy
 import hashlib
@@ -622,6 +623,20 @@ class Lines(WithMaker):
         found = self.text_of("cmsproof-archive", *words).splitlines()
         self.assertRegex(found[0], r"^archive/my\\x20letter\.p7s: accepted ")
         self.assertEqual(found[1], "archive/my letter.p7s: refused signer 1 S10 NoToken")
+
+    def test_two_parts_that_are_called_alike(self):
+        """The refused part of one file, and the accepted one of another file, whose name is a beginning of what is shown of both."""
+        mails = [
+            b"MIME-Version: 1.0\nContent-Type: multipart/mixed; boundary=x\n\n--x\nContent-Type: application/pkcs7-mime; "
+            b"smime-type=signed-data\nContent-Transfer-Encoding: base64\n\n%b\n--x--\n" % base64.encodebytes(signed)
+            for signed in (self.maker.attached(GOOD), self.maker.attached(GOOD, stamped=False))
+        ]
+        self.put("m mail 1,", mails[0]), self.put("m", b"From a Mon\n%b\nFrom b Tue\n%b" % (mails[1], mails[0]))
+        for names, refused in ((["archive"], r"archive/m\x20mail 1, part 1"), (["archive/m"], r"archive/m\x20mail 1, part 1")):
+            found = dict(line.split(": ") for line in self.text_of("cmsproof-archive", "--trust", "trust.txt", *names).splitlines())
+            self.assertEqual(found.pop(refused), "refused signer 1 S10 NoToken")
+            self.assertEqual(set(found), {"archive/m mail 2, part 1", *(["archive/m mail 1, part 1"] if names == ["archive"] else [])})
+            self.assertEqual({line.split(" ")[0] for line in found.values()}, {"accepted"})
 
     def test_long_parts_end_soon(self):
         manifest = made.manifest("META-INF/signature1.p7s", [("a.txt", b"first")])

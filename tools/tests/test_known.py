@@ -199,11 +199,12 @@ class Names(unittest.TestCase):
 
     def test_parts(self):
         folder = folder_of(self)
-        for name in ("a.pdf", "a.pdf Sig", "b:", "b: Sig"):
+        for name in ("a.pdf", "a.pdf Sig", "b:", "b: Sig", "m", "m mail 1,"):
             (folder / name).write_bytes(b"")
         for text, of_file, of_part in (
             ("F6 a.pdf Sig", ("a.pdf Sig", ""), ("a.pdf", "Sig")),
             ("F6 b:\\x20Sig", ("b: Sig", ""), ("b:", "Sig")),
+            ("F6 m mail 1, part 1", ("m mail 1,", "part 1"), ("m", "mail 1, part 1")),
         ):
             (folder / "known").write_text(text)
             here = os.getcwd()
@@ -219,6 +220,47 @@ class Names(unittest.TestCase):
             os.remove(of_file[0])
             self.assertFalse(known.is_new(Outcome(of_part[0], 1, "refused F6 Uncovered", part=of_part[1])))
             os.chdir(here)
+
+    def test_parts_that_look_alike(self):
+        """A part is told apart where the name of a longer one, that is there and no folder, is a beginning of what is shown of it."""
+        folder, long = folder_of(self), "o" * 300
+        here = os.getcwd()
+        self.addCleanup(os.chdir, here)
+        os.chdir(folder)
+        for name in ("m", "m mail 1,", "a", "a b c", "d", "d e/f", "g", "k ", "k", "l", "l  l", "n", "o", "o b c", "p:", "p: q"):
+            Path(name).parent.mkdir(exist_ok=True)
+            Path(name).write_bytes(b"")
+        Path("g h").mkdir(), os.symlink(long, "o b"), os.symlink(long, "n b"), os.symlink("g h", "n c")
+        for name, part, label in (
+            ("m", "mail 1, part 1", r"m\x20mail 1, part 1"),
+            ("./m", "mail 1, part 1", r"./m\x20mail 1, part 1"),
+            (f"{folder}/m", "mail 1, part 1", rf"{folder}/m\x20mail 1, part 1"),
+            ("m mail 1,", "part 1", "m mail 1, part 1"),
+            ("m", "mail 1", "m mail 1"),
+            ("m", "mail 2, part 1", "m mail 2, part 1"),
+            ("m", "mail 1,, part 1", "m mail 1,, part 1"),
+            ("a", "b c d", r"a\x20b c d"),
+            ("a", "b c", r"a\x20b c"),
+            ("a", "b cd", "a b cd"),
+            ("a b", "c d", r"a b\x20c d"),
+            ("a b c", "d", "a b c d"),
+            ("d", "e/f g", r"d\x20e/f g"),
+            ("d", "e/g f", "d e/g f"),
+            ("d", "f/e /g f", "d f/e /g f"),
+            ("g", "h i", "g h i"),
+            ("g", "h", r"g\x20h"),
+            ("k", " l", r"k\x20 l"),
+            ("l", " l l", r"l\x20 l l"),
+            ("n", "b c", r"n\x20b c"),
+            ("n", "c d", "n c d"),
+            ("o", "b c d", r"o\x20b c d"),
+            ("p:", "q r", r"p\x3a\x20q r"),
+            ("n", "\0 b", r"n \x00 b"),
+            ("n", "\ud800 b", r"n \ud800 b"),
+            ("n", "/".join("a b") * 5000, "n " + "/".join("a b") * 5000),
+            ("n", " " * 100000 + ".", "n " + " " * 100000 + "."),
+        ):
+            self.assertEqual(Outcome(name, 1, "refused F6 Uncovered", part=part).called, label, (name, part[:20]))
 
     def test_verdicts(self):
         """What a line of no such status, or of another form, says is never acknowledged."""
@@ -300,6 +342,13 @@ class ByIssuers(unittest.TestCase):
             self.assertEqual((found[0], lines), (status, again), (text, found))
             # (of both files it is said with the first one, so as long as one is new)
             self.assertEqual("old.p7s: no path for CN=Clock,O=cmsproof, tsa, at" in found[2], status == 1, found)
+        # of a part that looks like another file it is said by the name of its line
+        block = b"-----BEGIN CMS-----\n%b-----END CMS-----\n" % base64.encodebytes((folder / "old.p7s").read_bytes())
+        world.put("two", block * 2), world.put("two block", b"")
+        lines, err = run_tool("cmsproof-archive", *issuers[:4], "two", "two block", cwd=folder)[1:]
+        self.assertIn(b"two\\x20block 1: refused signer 1 ", lines)
+        self.assertIn(told.format("two\\x20block 1"), err)
+        self.assertNotIn("two block 1", err)
 
 
 if __name__ == "__main__":

@@ -216,6 +216,31 @@ class Report(unittest.TestCase):
         ]
         self.assertEqual(rows, found)
 
+    def test_parts_that_look_alike(self):
+        """A part is told apart where a row's file has a longer name that is a beginning of what is shown of it, up to a space."""
+        rows = (
+            ("a", "b c", "a b c"),
+            ("b", "c d e", r"b\x20c d e"),
+            ("b c", "d e", "b c d e"),
+            ("m", "mail 1, part 1", r"m\x20mail 1, part 1"),
+            ("m", "mail 2, part 1", "m mail 2, part 1"),
+            ("m mail 1,", "part 1", r"m mail 1,\x20part 1"),
+            ("m mail 1, oz", "", "m mail 1, oz"),
+            ("m mail 1, p", "", "m mail 1, p"),
+            ("m mail 1, part", "", "m mail 1, part"),
+            ("m mail 2, pa", "", "m mail 2, pa"),
+            ("m mail 2, par", "", "m mail 2, par"),
+        )
+        with State(str(self.folder / "alike")) as state:
+            state.judge_by(Basis("0" * 64, "", "", ""), b"")
+            for name in dict.fromkeys(name for name, _, _ in rows):
+                parts = [part for other, part, _ in rows if other == name]
+                line = "refused signer 1 S10 NoToken"
+                state.put(name, [Row(name, part, 1, 1, "", b"", b"", 1, line, NOTHING[5], 1) for part in parts])
+        page = run_tool("cmsproof-archive", "report", "alike", "--html", "-", cwd=self.folder)[1].decode()
+        data = json.loads(re.search(r'id="data">(.*?)</script>', page, re.DOTALL)[1])
+        self.assertEqual([row[0] for row in data["rows"]], [label for _, _, label in rows])
+
     def test_until_when_certificates_last(self):
         """The end is that of the lists by which rows were judged, in the certificate's role, and the earliest of those that differ."""
         lines = [line for line in TRUST.decode().splitlines() if line.startswith(("signer ", "tsa "))]

@@ -17,7 +17,7 @@ from cmsproof_tools.descriptors import path_of
 from cmsproof_tools.evidenced import Records, records_in
 from cmsproof_tools.issuer_words import asked_of, names_issuers
 from cmsproof_tools.outcomes import json_lines, lost, named, text_lines
-from cmsproof_tools.pairs import USUAL, Pairs, rows_of
+from cmsproof_tools.pairs import USUAL, Pairs, rows_of_all
 from cmsproof_tools.progress import Progress
 from cmsproof_tools.running import DONE, FAILED, MALFORMED, USAGE, Started, Stop, Words
 from cmsproof_tools.running import check_kept, module, read, shown, tell, write
@@ -150,9 +150,8 @@ def checked(tool: str, found: Iterable[list[Told]], progress: Progress, known: K
 
 def pairs_of(given: argparse.Namespace) -> Pairs:
     """How contents beside their signatures are found; with `--content` they are not."""
-    named = {name: content for path in given.pairs_from for name, content in rows_of(path, given.null).items()}
     endings = {} if given.no_pairs or given.content is not None else {**USUAL, **dict(given.pair)}
-    return Pairs(named, endings)
+    return Pairs(rows_of_all(given.pairs_from, given.null), endings)
 
 
 def records_of(given: argparse.Namespace) -> Records | None:

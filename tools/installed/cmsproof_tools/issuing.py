@@ -17,6 +17,7 @@ from cmsproof_tools.issuer_words import Asked
 from cmsproof_tools.issuers import Entry, Growing, Trusted
 from cmsproof_tools.paths import Judge, OpenSSL, Statuses, private_folder
 from cmsproof_tools.listing import HEAD, JUDGED, warnings_of
+from cmsproof_tools.outcomes import called
 from cmsproof_tools.periods import Period
 from cmsproof_tools.responses import Response
 from cmsproof_tools.revocation import Revocation, is_meant
@@ -181,7 +182,7 @@ def look(names: list[str], step: Callable[[str, Found], bool], told: Told, unrea
                         parts.append(found)
                     elif found.code == "F4":
                         unread(f"{shown(name)}: {found.line}: {found.reason}: it is not looked at")
-                said = [step(shown(name) + (f" {shown(found.part)}" if found.part else ""), found) for found in parts]
+                said = [step(called(name, found.part), found) for found in parts]
                 again += [name] * any(said)
         except Unread as error:
             unread(str(error))

@@ -1,6 +1,7 @@
 """What is said of a file or of a part of it, as a line or as JSON."""
 from __future__ import annotations
 
+import errno
 import os
 from typing import Any, NamedTuple
 
@@ -38,11 +39,8 @@ class Outcome(NamedTuple):
 
     @property
     def called(self) -> str:
-        """The name of the file and the part, as they are shown: with an escape between where a file has both as its name."""
-        if not self.part:
-            return shown(self.name)
-        both = f"{self.name} {self.part}"
-        return shown_apart(self.name, self.part) if is_there(both) else shown(both)
+        """The name of the file and the part, as they are shown."""
+        return called(self.name, self.part)
 
 
 # what nothing is said of that is accepted by itself: all between faults and record
@@ -60,6 +58,37 @@ def is_there(name: str) -> bool:
         return os.path.lexists(name)
     except ValueError:
         return False
+
+
+def called(name: str, part: str) -> str:
+    """The name of a file and a part of it, as they are shown: with an escape between where they can be read as another file, or as one and
+    a part of that."""
+    if not part:
+        return shown(name)
+    both = f"{name} {part}"
+    return shown_apart(name, part) if is_there(both) or is_twofold(name, both) else shown(both)
+
+
+def is_twofold(name: str, both: str) -> bool:
+    """Whether a file has a name that is longer than this one, and with which both the name and a part begin, up to a space. (The part can
+    have any number of spaces: it ends where no longer name can be there.)"""
+    at, folder = len(name), os.path.dirname(name)
+    while (at := both.find(" ", at + 1)) >= 0:
+        other = both[:at]
+        if os.path.dirname(other) != folder:
+            folder = os.path.dirname(other)
+            if not os.path.isdir(folder):
+                return False
+        try:
+            os.lstat(other)
+            if not os.path.isdir(other):
+                return True
+        except ValueError:
+            return False
+        except OSError as error:
+            if error.errno == errno.ENAMETOOLONG:
+                return False
+    return False
 
 
 def lost(name: str, by: int) -> list[Outcome]:

@@ -6,6 +6,8 @@ from __future__ import annotations
 
 import os
 import stat
+from typing import Sequence
+
 from cmsproof_tools.running import MALFORMED, Stop, read, shown
 
 # what is taken from the end of a signature's name to get that of its content, and what is put there
@@ -93,4 +95,18 @@ def rows_of(path: str, null: bool) -> dict[str, str]:
         name, content = os.fsdecode(first), os.fsdecode(second)
         if found.setdefault(name, content) != content:
             raise Stop(MALFORMED, f"{shown(path)}: line {number} names another content of {shown(name)}")
+    return found
+
+
+def rows_of_all(paths: Sequence[str], null: bool) -> dict[str, str]:
+    """The names of several such lists, of which no two may name different contents of one file."""
+    found: dict[str, str] = {}
+    lists: list[tuple[str, dict[str, str]]] = []
+    for path in paths:
+        rows = rows_of(path, null)
+        for name, content in rows.items():
+            if found.setdefault(name, content) != content:
+                other = next(before for before, there in lists if name in there)
+                raise Stop(MALFORMED, f"{shown(path)}: it names another content of {shown(name)} than {shown(other)}")
+        lists.append((path, rows))
     return found

@@ -9,7 +9,7 @@ from typing import TYPE_CHECKING, Any, Iterable, Iterator, Sequence
 
 from cmsproof_tools.checking import Work
 from cmsproof_tools.evidenced import ENDING
-from cmsproof_tools.outcomes import Outcome
+from cmsproof_tools.outcomes import Outcome, called
 from cmsproof_tools.rows import Row, mark_now, seen_here
 from cmsproof_tools.running import DONE, tell
 from cmsproof_tools.stamps import beside, judged_with
@@ -108,7 +108,7 @@ class Resume:
         for row in rows:
             old = before.get(row.part)
             if old is not None and row.mark and old.mark == row.mark and (old.sha256, old.content) != (row.sha256, row.content):
-                tell(self.tool, f"{row.called}: its octets changed, and its size and its times did not")
+                tell(self.tool, f"{called(row.name, row.part)}: its octets changed, and its size and its times did not")
 
     def keep(self, name: str, kept: list[tuple[Any, ...]]) -> None:
         """Keeps the rows of all parts of the file of this name, which are given without it."""

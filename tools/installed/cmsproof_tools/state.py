@@ -344,9 +344,21 @@ class State:
         return list(self.rows_where("WHERE name = ?", (os.fsencode(name),)))
 
     def called(self, row: Row) -> str:
-        """The name of a file and its part, as they are shown, with an escape between where another file has both as its name."""
-        is_there = row.part and self.of_file(f"{row.name} {row.part}")
-        return shown_apart(row.name, row.part) if is_there else row.called
+        """The name of a file and its part, as they are shown, with an escape between where they can be read as another file, or as one and
+        a part of that."""
+        return shown_apart(row.name, row.part) if row.part and self.is_twofold(row) else row.called
+
+    def is_twofold(self, row: Row) -> bool:
+        """Whether a file has a name that is longer than that of a row, and with which its name and part begin, up to a space or the end.
+        (The last name that may be one is looked for, and each other one is a beginning of it.)"""
+        first, both = os.fsencode(f"{row.name} "), os.fsencode(f"{row.name} {row.part}")
+        between, last = "SELECT name FROM files WHERE name BETWEEN ? AND ? ORDER BY name DESC LIMIT 1", both
+        with told(self.path):
+            while found := self.database.execute(between, (bytearray(first), bytearray(last))).fetchone():
+                if (both + b" ").startswith(found[0] + b" "):
+                    return True
+                last = os.path.commonprefix([both, found[0][:-1]])
+        return False
 
     def kept(self, name: str, mark: str, since: int = 0) -> list[Row]:
         """The rows of a file that need not be judged again: it has this mark, they are by the same basis and judged since this

@@ -1,5 +1,5 @@
 -- How a command about several files ends: no failure ends one as done.
-use Rattle.std.proofs.Common.{◌≡◌, ◌≢◌, ◌⊎◌, ◌∙◌, ℕ, List, Option, inl, inr, sym, subst}
+use Rattle.std.proofs.Common.{◌≡◌, ◌≢◌, ◌∙◌, ℕ, List, Option, inl, inr, sym, subst}
 use Rattle.std.specs.Io.KnownBytes.{Appends}
 use Rattle.cli_failures.specs.declared.status.Status.{Status}
 use Rattle.cli_failures.specs.declared.status.Status.TheVariants as status

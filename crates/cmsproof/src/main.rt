@@ -12,6 +12,7 @@ ghost use Rattle.cli_failures.specs.Statuses.{code_of};
 mod run;
 
 use cli_failures::{Failure, Status};
+use std::env;
 use std::io::BufWriter;
 use std::process::ExitCode;
 
@@ -20,9 +21,12 @@ use std::process::ExitCode;
 fn main(rt: HostRuntime) -> ExitCode {
     let err = &mut rt.stderr();
     let status = match BufWriter::new(rt.alloc(), rt.stdout()) {
-        Ok(mut out) => match run::words(&rt) {
-            Ok(words) => run::run(&rt, words.as_slice(), &mut out, err),
-            Err(failure) => failure.report(&mut out, err),
+        Ok(mut out) => match env::args(&rt) {
+            Ok(args) => match args.collect::<Vec<String>>(rt.alloc()) {
+                Ok(words) => run::run(&rt, words.as_slice(), &mut out, err),
+                Err(_) => Failure::Memory.report(&mut out, err),
+            },
+            Err(error) => Failure::of_words(&error).report(&mut out, err),
         },
         Err(_) => Failure::Memory.report_error(err),
     };

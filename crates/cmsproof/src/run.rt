@@ -10,11 +10,12 @@ use cli_commands::Describes;
 use cli_failures::{Failure, Status};
 use cli_words::{Meaning, meaning_of};
 use std::convert::AsStr;
+use std::fs;
 use std::io::Write;
-use std::rt::{Env, Files};
-use std::{env, fs};
+use std::rt::Files;
 
-/// Does what the words ask for, the first of which is the program's name, and returns how it ended.
+/// Does the task that the words ask for, the first of which is the program's name, or prints help, and returns how it
+/// ended.
 ///
 /// What was requested goes to `out`; the reason why something was not done goes to `err`. The octets of files are what
 /// `rt` gives.
@@ -48,41 +49,12 @@ where
         None => meaning_of(rt.alloc(), words),
     };
     match meaning {
-        Ok(meaning) => tell(rt, meaning, out, err),
+        Ok(Meaning::Task(task)) => cli_commands::run(rt, task, out, err),
+        Ok(Meaning::Many(many)) => cli_files::run(rt, &many, out, err),
+        Ok(Meaning::Evidence(task)) => cli_evidence::run(rt, &task, out, err),
+        Ok(Meaning::Help(text)) => cli_commands::print(text.as_str(), out, err),
         Err(failure) => failure.report(out, err),
     }
-}
-
-/// Does a task, or prints help.
-fn tell<R, O, E>(rt: &R, meaning: Meaning<'_>, out: &mut O, err: &mut E) -> Status
-where
-    R: Files + AllocGlobal,
-    R::File: Describes,
-    O: Write,
-    E: Write,
-    ensures done { result ≡ Status.Done → (text : List ℕ) × IsToldBy R.File.remaining R.File.says meaning.entry text
-        × Appends (O.contents out.old) (O.contents out.new) text }
-    ensures cut { result ≡ Status.Failed → IsStoppedBy R.File.remaining R.File.contents R.File.says meaning.entry
-        (O.contents out.old) (O.contents out.new) }
-    ensures silent { result ≡ Status.Usage → out.new ≡ out.old }
-    ensures malformed { result ≡ Status.Malformed
-        → TellsFaults R.File.remaining R.File.says (O.contents out.old) (O.contents out.new) }
-    ensures refused { result ≡ Status.Refused
-        → TellsRefusals R.File.remaining R.File.says (O.contents out.old) (O.contents out.new) }
-    ensures quiet { (result ≡ Status.Usage) ⊎ ((result ≡ Status.Failed) ⊎ (err.new ≡ err.old)) }
-{
-    match meaning {
-        Meaning::Task(task) => cli_commands::run(rt, task, out, err),
-        Meaning::Many(many) => cli_files::run(rt, &many, out, err),
-        Meaning::Evidence(task) => cli_evidence::run(rt, &task, out, err),
-        Meaning::Help(text) => cli_commands::print(text.as_str(), out, err),
-    }
-}
-
-/// The words of the process, the first of which is the program's name.
-pub fn words<R: Env + AllocGlobal>(rt: &R) -> Result<Vec<String>, Failure<'static>> {
-    let words = env::args(rt).map_err(|error| Failure::of_words(&error))?;
-    Ok(words.collect(rt.alloc())?)
 }
 
 /// What ends the options.

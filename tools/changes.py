@@ -1,14 +1,16 @@
 #!/usr/bin/env python3
-"""Says in which files the meaning of a crate, or of a library below it, changed since a commit. It runs no proof.
+"""Says in which files the meaning of a crate changed since a commit, or of a crate below what it sees. It runs no proof.
 
-    changes.py COMMIT CRATE ..   a line for each crate and file: CRATE PATH, and whether it is its own, or of a library below
+    changes.py COMMIT CRATE ..   a line for each crate and file: CRATE PATH, and whether it is its own, or below, and by which
+                                 of the crate's words it sees what changed there
 
-Comments, white space and proofs don't count, nor whether a line goes on in the next one, further in by four, or a list of
-names in a second `use`: of code (.rt) and definitions (.antt) what is left without comments is compared, of an edit the lines
-that are read. Nor does it count that a module, or a definition that its file names no more, went as a whole, that a type no longer derives
-what prints it, or that the line of crates.txt lost a library that no file of the crate names: what is left is as it was, and
-no proof can cite what is gone. What can't be told apart
-for sure counts as a change. `soak.py` uses this.
+Of its own, comments, white space and proofs don't count, nor whether a line goes on in the next one, further in by four, or a
+list of names in a second `use`: of code (.rt) and definitions (.antt) what is left without comments is compared, of an edit the
+lines that are read. Nor does it count that a module, or a definition that its file names no more, went as a whole, that a type
+no longer derives what prints it, or that the line of crates.txt lost a library that no file of the crate names: what is left is
+as it was, and no proof can cite what is gone. Of the crates below, so much counts alone as the crate sees (`visible.py`): the
+contracts, types and definitions that its names lead to, and no body. What can't be told apart for sure counts as a change.
+`soak.py` uses this.
 """
 
 import argparse
@@ -18,6 +20,8 @@ import pathlib
 import re
 import subprocess
 import sys
+
+import visible
 
 TOP = pathlib.Path(__file__).resolve().parent.parent
 # where bodies, contracts and definitions stand; and beside them the proofs, which say nothing: no proof shows what a contract excludes
@@ -180,7 +184,7 @@ class History:
 
     def __init__(self, top):
         self.top, self.fault, self.head, self.is_shallow = top, "", "", False
-        self.blobs, self.changed = {}, {}
+        self.blobs, self.changed, self.read, self.items, self.words = {}, {}, {}, {}, {}
         try:
             place = self.git("rev-parse", "--show-toplevel").decode().strip()
             if os.path.realpath(place) != os.path.realpath(top):
@@ -331,11 +335,55 @@ def new_edits(history, commit, top, crate):
     return [path for path in changed if (top / path).is_symlink() or meaning(path, (top / path).read_bytes()) not in earlier]
 
 
+def own_changes(history, commit, top, crate):
+    """The files of a crate that changed since a commit, in their whole meaning, and its new edits."""
+    return changed_text(history, commit, top, crate) + new_edits(history, commit, top, crate)
+
+
+def items_in(history, commit, top, crate):
+    """What can be seen of a crate from above, as it is and, where it differs, as it was in a commit."""
+    if (commit, crate) not in history.items:
+        texts = [(path, octets) for path, octets in files_of(top, crate, MEANT).items() if octets is not None]
+        for path in differing(history, commit, top, crate, MEANT):
+            texts += [(path, history.octets(commit, path))] if path in history.listed(commit) else []
+        for place in texts:
+            if place not in history.read:
+                history.read[place] = visible.items_of(place[0], meaning(*place))
+        history.items[commit, crate] = [item for place in texts for item in history.read[place]]
+    return history.items[commit, crate]
+
+
+def words_in(history, top, crate):
+    """The words of a crate's files, its proofs and edits too, that can be names of what is below."""
+    if crate not in history.words:
+        files = files_of(top, crate, MEANT + PROOFS + EDITS)
+        texts = [(path, meaning(path, octets)) for path, octets in files.items() if path.endswith(tuple(MEANINGS)) and octets]
+        history.words[crate] = set().union(*(visible.words_used(path, text) for path, text in texts))
+    return history.words[crate]
+
+
+def lower_changes(history, commit, top, crates, crate):
+    """The files of the crates below one in which what it sees changed since a commit, each with a word by which it does, or the
+    empty text if it does without one."""
+    found, changed, lower = {}, [], below(crates, crate)
+    for path in [path for library in lower for path in changed_text(history, commit, top, library)]:
+        place = top / path
+        if path == LISTING or place.is_symlink():
+            found[path] = ""
+            continue
+        before = meaning(path, history.octets(commit, path)) if path in history.listed(commit) else None
+        changed += visible.changed_items(path, before, meaning(path, place.read_bytes()) if place.is_file() else None)
+    if changed:
+        items = [item for library in lower for item in items_in(history, commit, top, library)]
+        sees = {name: {name, *below(crates, name)} for name in (*lower, crate)}
+        found.update(visible.changes_seen(visible.Below(items, sees), changed, crate, words_in(history, top, crate)))
+    return found
+
+
 def changes_of(history, commit, top, crates, crate):
-    """The files of a crate that changed since a commit, and those of the libraries below it."""
-    own = changed_text(history, commit, top, crate) + new_edits(history, commit, top, crate)
-    lower = [path for library in below(crates, crate) for path in changed_text(history, commit, top, library)]
-    return own, [path for path in dict.fromkeys(lower) if path not in own]
+    """The files of a crate that changed since a commit, and if there are none, those below it whose change it sees."""
+    own = own_changes(history, commit, top, crate)
+    return own, [] if own else list(lower_changes(history, commit, top, crates, crate))
 
 
 def main():
@@ -352,9 +400,12 @@ def main():
     except subprocess.CalledProcessError:
         parser.error(f"there is no commit {words.commit}")
     for name in words.crates:
-        own, lower = changes_of(history, commit, TOP, crates, name)
-        for path in own + lower:
-            print(name, path, "own" if path in own else "below")
+        own = own_changes(history, commit, TOP, name)
+        for path in own:
+            print(name, path, "own")
+        for path, named in lower_changes(history, commit, TOP, crates, name).items():
+            if path not in own:
+                print(name, path, f"below, by {named}" if named else "below")
     return 0
 
 

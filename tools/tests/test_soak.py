@@ -37,7 +37,7 @@ for edit in sorted(pathlib.Path("crates", name, "must-fail").glob("*.edit")):
     print(f"rt: must-fail {{name}}/{{edit.name}}: {{told}}", file=sys.stderr)
 sys.exit(status)
 """
-CODE = 'fn low() -> u8 {\n    // what it gives\n    say("a // b"); 1\n}\n'
+CODE = 'pub fn low() -> u8 {\n    // what it gives\n    say("a // b"); 1\n}\n'
 FILES = {
     "crates.txt": "# crates\nhigh: low kit\nlow: kit\nbeside: low\n",
     "HANDLES": "Handles allowed: none.\n",
@@ -67,8 +67,8 @@ class Repository(unittest.TestCase):
         (self.folder / "bin" / "rt").chmod(0o755)
         self.put(FILES)
         (self.top / "tools").mkdir()
-        for name in ("soak.py", "changes.py", "kept_sums.py", "together.py", "timed_runs.py"):
-            shutil.copy(TOOLS / name, self.top / "tools")
+        for name in ("soak", "changes", "visible", "items", "pieces", "kept_sums", "together", "timed_runs"):
+            shutil.copy(TOOLS / f"{name}.py", self.top / "tools")
         self.surroundings = dict(
             {name: value for name, value in os.environ.items() if not name.startswith("GIT_")},
             PATH=f"{self.folder / 'bin'}:{os.environ['PATH']}",
@@ -236,14 +236,21 @@ class Changed(Repository):
         ({"crates/low/src/lib.rt": CODE.replace("what it gives", "another")}, []),
         ({"crates/low/src/lib.rt": CODE.replace("say", "/* a */ say")}, []),
         ({"crates/low/src/lib.rt": CODE.replace("fn", "/// Gives 1.\nfn")}, []),
-        ({"crates/low/src/lib.rt": CODE.replace("1", "3")}, ["low", "high"]),
-        ({"crates/low/src/lib.rt": CODE.replace("// b", "// c")}, ["low", "high"]),
+        # a body counts for its own crate alone; what can be seen of a function, for those too that name it
+        ({"crates/low/src/lib.rt": CODE.replace("1", "3")}, ["low"]),
+        ({"crates/low/src/lib.rt": CODE.replace("// b", "// c")}, ["low"]),
+        ({"crates/low/src/lib.rt": CODE.replace("u8", "u16")}, ["low", "high"]),
+        ({"crates/low/src/lib.rt": CODE.replace("{\n", "ensures { result ≡ 1 } {\n")}, ["low", "high"]),
+        ({"crates/low/src/lib.rt": CODE + "pub fn other() {}\n"}, ["low"]),
+        ({"crates/low/src/lib.rt": CODE + "macro_rules! other { () => {}; }\n"}, ["low", "high"]),
+        ({"crates/low/src/lib.rt": CODE + "}\n"}, ["low", "high"]),
         ({"crates/low/src/lib.rt": None}, ["low", "high"]),
-        ({"crates/low/src/other.rt": ""}, ["low", "high"]),
+        ({"crates/low/src/other.rt": ""}, ["low"]),
         ({"crates/low/src/beside.rt": None}, []),
-        ({"crates/low/src/beside.rt": None, "crates/low/src/lib.rt": CODE.replace("1", "3")}, ["low", "high"]),
+        ({"crates/low/src/beside.rt": None, "crates/low/src/lib.rt": CODE.replace("u8", "u16")}, ["low", "high"]),
         ({"crates/low/specs/Low.antt": FILES["crates/low/specs/Low.antt"].replace("what low is", "low")}, []),
         ({"crates/low/specs/Low.antt": FILES["crates/low/specs/Low.antt"].replace("1", "2")}, ["low", "high"]),
+        ({"crates/low/specs/Low.antt": FILES["crates/low/specs/Low.antt"] + "other : N\n"}, ["low"]),
         ({"crates/low/proofs/Low.antt": "proof = sym refl\n"}, []),
         ({"crates/high/src/lib.rt": "fn high() { low(); }\n"}, ["high"]),
         ({"crates/high/src/lib.rt": "fn high() { low(); }\n", "crates/low/src/lib.rt": "fn low() {}"}, ["low", "high"]),
@@ -289,11 +296,14 @@ class Changed(Repository):
         _, told = self.soak("--changed")
         self.assertIn(f"soak: high: crates/low/src/lib.rt changed since {since}\n", told)
         self.assertIn("soak: high: 2 edits refused", told)
+        ran = [sys.executable, str(self.top / "tools" / "changes.py"), since, "low", "high"]
+        done = subprocess.run(ran, check=True, capture_output=True, text=True, env=self.surroundings)
+        self.assertEqual(done.stdout, "low crates/low/src/lib.rt own\nhigh crates/low/src/lib.rt below, by low\n")
 
     def test_own_changes_come_first(self):
         for name in ("middle", "unknown"):
             edit = "file: src/lib.rt\nold: a\nnew: b\n"
-            self.put({f"crates/{name}/src/lib.rt": "", f"crates/{name}/must-fail/a.edit": edit})
+            self.put({f"crates/{name}/src/lib.rt": "fn own() { low::low() }\n", f"crates/{name}/must-fail/a.edit": edit})
         self.put({"crates.txt": "unknown:\nhigh: middle low\nmiddle: low\nlow:\n"})
         head = self.commit("other crates")
         self.soaked("unknown " + "0" * 40, *(f"{name} {head}" for name in ("high", "low", "middle")))

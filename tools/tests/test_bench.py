@@ -95,7 +95,7 @@ class Bench(unittest.TestCase):
             check=False,
         )
         self.assertEqual((done.returncode, done.stderr), (0, ""))
-        self.assertRegex(done.stdout.splitlines()[-1], r"^\| files \| [0-9.]+ \| [0-9.]+ \| [0-9.]+ \|$")
+        self.assertRegex(done.stdout.splitlines()[-1], r"^\| files \| [0-9.]+ \| [0-9.]+ \| [0-9.]+ \| [0-9.]+ \|$")
 
     def test_a_folder_for_bench_run(self):
         for commit in ((), ("second",)):

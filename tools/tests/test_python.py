@@ -35,6 +35,8 @@ need_tools()
 
 import cmsproof  # noqa: E402
 from cmsproof import octets, verdicts  # noqa: E402
+from cmsproof.calls import check_several  # noqa: E402
+from cmsproof.verifiers import vouching  # noqa: E402
 
 FILE, OTHER, CONTENT = REAL / "rsa_attached_ts.p7s", REAL / "rsa_attached.p7s", REAL / "blob.bin"
 
@@ -122,6 +124,13 @@ class Checking(unittest.TestCase):
         verdict = cmsproof.check(b"\x30", trust=self.trust)
         self.assertEqual((verdict.accepted, verdict.verdict, verdict.line), (False, "malformed", "malformed M1 End at 1"))
         self.assertRaises(TypeError, bool, verdict)
+
+    def test_what_is_said_of_several_files(self):
+        files, judges = [FILE.read_bytes(), OTHER.read_bytes()], [vouching("openssl") for _ in range(2)]
+        said = check_several(files, trust=self.trust, verifiers=judges)
+        self.assertEqual([one.line for one in said], [cmsproof.check(file, trust=self.trust).line for file in files])
+        # (a refusal must not count as true where one asks whether all are accepted)
+        self.assertRaises(TypeError, all, said)
 
     def test_moments(self):
         # (the seconds are those of GNU date; the year 0000 has a 29 February, as the year 2000)

@@ -57,6 +57,9 @@ class Said(NamedTuple):
     code: Optional[str]
     line: str
 
+    def __bool__(self) -> bool:
+        raise TypeError("what is said is neither true nor false: compare .verdict")
+
 
 @lru_cache(maxsize=4096)
 def day_text(days: int) -> str:

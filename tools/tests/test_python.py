@@ -36,7 +36,7 @@ need_tools()
 import cmsproof  # noqa: E402
 from cmsproof import octets, verdicts  # noqa: E402
 from cmsproof.calls import check_several  # noqa: E402
-from cmsproof.verifiers import vouching  # noqa: E402
+from cmsproof.verifiers import Vouching, vouching  # noqa: E402
 
 FILE, OTHER, CONTENT = REAL / "rsa_attached_ts.p7s", REAL / "rsa_attached.p7s", REAL / "blob.bin"
 
@@ -92,6 +92,16 @@ def by_commands(file, content=None):
         words = [PROGRAM, "check", *trust, "--answers", answers.name, *(["--content", content] if content else []), file]
         done = subprocess.run(words, capture_output=True, check=False)
     return (done.stdout or done.stderr).decode().rstrip("\n")
+
+
+class Answering(Vouching):
+    """A verifier that gives the same for all questions."""
+
+    def __init__(self, given):
+        self.given = given
+
+    def answers(self, _):
+        return self.given
 
 
 class Checking(unittest.TestCase):
@@ -222,6 +232,29 @@ class Checking(unittest.TestCase):
         self.assertEqual(cmsproof.check(file, trust=self.trust).line, cmsproof.check(FILE, trust=self.trust).line)
         self.assertEqual(cmsproof.check(one, trust=self.trust).line, cmsproof.check(b"0", trust=self.trust).line)
         self.assertFalse(cmsproof.check(FILE, trust=self.trust, content=one).accepted)
+        # answers too, of a verifier or as they are: a list of none, behind which nothing is read
+        none = Other(b"cmsproof answers 1\n")
+        none.said = 1 << 16
+        tokens = [TOP / "crates" / "real_files" / "data" / "rsa_attached.1.tok", b""]
+        for check, words, code in ((cmsproof.check, [FILE], "S9"), (cmsproof.check_token, tokens, "K9")):
+            for given in (none, b"cmsproof answers 1\n"):
+                self.assertEqual(check(*words, trust=self.trust, verifier=Answering(given)).code, code)
+            self.assertRaises(TypeError, check, *words, trust=self.trust, verifier=Answering("cmsproof answers 1\n"))
+        said = [cmsproof.evidence.check(b"0", b"", trust=self.trust, answers=given).line for given in (none, bytes(none))]
+        self.assertEqual(said, ["malformed M1 End at 1"] * 2)
+
+    def test_a_mapping_that_says_another_length(self):
+        class Other(mmap.mmap):
+            def __len__(self):
+                return 4
+
+        was, octets.COPIED = octets.COPIED, 0
+        try:
+            with open(FILE, "rb") as file:
+                ways = {"flags": mmap.MAP_PRIVATE, "prot": mmap.PROT_READ | mmap.PROT_WRITE}
+                self.assertTrue(cmsproof.check(Other(file.fileno(), 0, **ways), trust=self.trust).accepted)
+        finally:
+            octets.COPIED = was
 
     def test_what_a_signal_has_a_thread_do(self):
         found = []

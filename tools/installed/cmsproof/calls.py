@@ -6,7 +6,7 @@ from typing import Any, Callable, NamedTuple, Optional, Sequence, Union, cast
 
 from cmsproof import library as lib
 from cmsproof.lists import TrustList, refused
-from cmsproof.octets import Given, Octets, octets_if_any, octets_of, of_bytes
+from cmsproof.octets import Given, Octets, exact, octets_if_any, octets_of, of_bytes
 from cmsproof.verdicts import Said, Unexpected, Verdict, said_of, verdict_of
 from cmsproof.verifiers import Verifier, Vouching, vouching
 from cmsproof_tools.texts import Question, answers_of, read_questions
@@ -78,7 +78,7 @@ class Room:
     ) -> tuple[int, bytes]:
         """The status and line of a check with these answers, whose numbers are in `answer`. `rest` is what the call takes behind the
         file."""
-        held, loaded = trust.held, lib.library()
+        held, loaded, answers = trust.held, lib.library(), exact(answers)
         try:
             status = loaded.cmsproof_answers_read(self.to_answers, answers, len(answers), self.to_answer)
             if status != lib.DONE:

@@ -9,6 +9,7 @@ from contextlib import contextmanager
 from typing import Iterable, Iterator, Union
 
 from cmsproof import library as lib
+from cmsproof.octets import exact
 
 LISTS: "weakref.WeakSet[Held]" = weakref.WeakSet()
 # who forks, and the lists that were taken for each fork that goes on (a signal can have a thread fork while it forks)
@@ -96,7 +97,7 @@ def refused(what: str, status: int, said: lib.Answer) -> Exception:
 
 def handle_of(what: str, text: bytes) -> lib.Handle:
     """A list that the library has read, whose memory is to be freed. Raises ListRefused if the text is none."""
-    loaded, handle, said = lib.library(), lib.Handle(), lib.Answer()
+    loaded, handle, said, text = lib.library(), lib.Handle(), lib.Answer(), exact(text)
     status = getattr(loaded, f"cmsproof_{what}_read")(handle, text, len(text), said)
     if status == lib.DONE:
         return handle

@@ -61,9 +61,15 @@ def copied(octets: Octets) -> bytes:
     return at if isinstance(at, bytes) else (ctypes.c_char * length).from_address(at).raw
 
 
+def exact(octets: Buffer) -> bytes:
+    """The octets of an object as `bytes` themselves: a class that is made of these may say another length than it has."""
+    return octets if type(octets) is bytes else memoryview(octets).tobytes()
+
+
 def size_of(buffer: Buffer) -> int:
-    """How many octets an object has."""
-    return buffer.nbytes if isinstance(buffer, memoryview) else len(buffer)
+    """How many octets an object has, whatever length its class says."""
+    with memoryview(buffer) as view:
+        return view.nbytes
 
 
 def in_place(buffer: Union[memoryview, mmap.mmap]) -> bool:
@@ -83,9 +89,7 @@ def of_buffer(buffer: Buffer) -> Iterator[Octets]:
         finally:
             del held
     else:
-        # (a class that is made of `bytes` may say another length than it has)
-        kept = buffer if type(buffer) is bytes else memoryview(buffer).tobytes()
-        yield of_bytes(kept)
+        yield of_bytes(exact(buffer))
 
 
 class File:

@@ -17,7 +17,7 @@ ROOM = 1 << 13
 LONG = 1 << 16
 # the statuses of a file that was judged; and what the calls are handed that convert nothing, as ctypes hands it on
 JUDGED = (lib.DONE, lib.REFUSED, lib.MALFORMED)
-NONE, NO, YES = ctypes.c_size_t.from_param(0), ctypes.c_bool.from_param(False), ctypes.c_bool.from_param(True)
+NONE, NO = ctypes.c_size_t.from_param(0), ctypes.c_bool.from_param(False)
 
 
 class Questions(NamedTuple):
@@ -104,7 +104,7 @@ class Room:
         """What a check of octets in memory says, with these answers and no content beside them."""
         if type(octets) is not bytes or type(answers) is not bytes:
             raise TypeError("bytes are needed")  # (nobody else looks at what is handed to these calls)
-        held, (_, check, read, free), to_answers, allowed = trust.held, self.calls, self.to_answers, YES if sha1 else NO
+        held, (_, check, read, free), to_answers, allowed = trust.held, self.calls, self.to_answers, lib.Flag.from_param(sha1)
         of_file, of_answers, (room, size, length, numbers) = self.of_file, self.of_answers, self.ready
         of_file.value, of_answers.value = len(octets), len(answers)
         try:

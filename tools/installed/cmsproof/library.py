@@ -43,6 +43,17 @@ class Handle(Structure):
     _fields_ = [("inside", c_void_p), ("held", c_bool)]
 
 
+class Flag:
+    """A `bool` of the header: True or False alone, since a text as "no" counts as true too, and would let SHA-1 count."""
+
+    @classmethod
+    def from_param(cls, given: object) -> Any:
+        """What ctypes hands on."""
+        if not isinstance(given, bool):
+            raise TypeError(f"True or False is needed, and not {given!r}")
+        return c_bool.from_param(given)
+
+
 # (c_void_p takes bytes, an array and an address)
 OCTETS, TEXT = (c_void_p, c_size_t), (c_void_p, c_size_t, POINTER(c_size_t))
 LIST, SAID, NUMBERS = (POINTER(Handle),), (POINTER(Answer),), (POINTER(c_uint64), c_size_t)
@@ -51,12 +62,12 @@ SIGNATURES: dict[str, tuple[Any, ...]] = {
     "cmsproof_trust_count": (*LIST, POINTER(c_size_t)),
     "cmsproof_answers_read": (*LIST, *OCTETS, *SAID),
     "cmsproof_questions": (*LIST, *OCTETS, *TEXT, *SAID),
-    "cmsproof_check": (*LIST, *LIST, *OCTETS, *OCTETS, c_bool, c_bool, *TEXT, *SAID),
-    "cmsproof_check_under": (*LIST, *LIST, *OCTETS, *OCTETS, c_bool, *OCTETS, *OCTETS, *OCTETS, *TEXT, *SAID),
-    "cmsproof_check_token": (*LIST, *LIST, *OCTETS, *OCTETS, c_bool, *SAID),
-    "cmsproof_stamp_check": (*LIST, *LIST, *OCTETS, *OCTETS, c_bool, *TEXT, *SAID),
+    "cmsproof_check": (*LIST, *LIST, *OCTETS, *OCTETS, Flag, Flag, *TEXT, *SAID),
+    "cmsproof_check_under": (*LIST, *LIST, *OCTETS, *OCTETS, Flag, *OCTETS, *OCTETS, *OCTETS, *TEXT, *SAID),
+    "cmsproof_check_token": (*LIST, *LIST, *OCTETS, *OCTETS, Flag, *SAID),
+    "cmsproof_stamp_check": (*LIST, *LIST, *OCTETS, *OCTETS, Flag, *TEXT, *SAID),
     "cmsproof_stamp_questions": (*LIST, *OCTETS, *TEXT, *SAID),
-    "cmsproof_evidence_check": (*LIST, *LIST, *OCTETS, *OCTETS, *NUMBERS, *OCTETS, *OCTETS, c_bool, *TEXT, *SAID),
+    "cmsproof_evidence_check": (*LIST, *LIST, *OCTETS, *OCTETS, *NUMBERS, *OCTETS, *OCTETS, Flag, *TEXT, *SAID),
     "cmsproof_evidence_questions": (*LIST, *OCTETS, *TEXT, *SAID),
     "cmsproof_tree_make": (*LIST, *OCTETS, *OCTETS, *SAID),
     "cmsproof_tree_root": (*LIST, *TEXT, *SAID),
@@ -66,11 +77,11 @@ SIGNATURES: dict[str, tuple[Any, ...]] = {
     "cmsproof_evidence_renew": (*LIST, *OCTETS, *OCTETS, *TEXT, *SAID),
     "cmsproof_evidence_rehash_leaf": (*OCTETS, *OCTETS, *OCTETS, *OCTETS, *TEXT, *SAID),
     "cmsproof_evidence_rehash": (*LIST, *OCTETS, *OCTETS, *OCTETS, *TEXT, *SAID),
-    "cmsproof_fit": (*OCTETS, *OCTETS, c_bool, c_bool, *TEXT, *SAID),
+    "cmsproof_fit": (*OCTETS, *OCTETS, Flag, Flag, *TEXT, *SAID),
     "cmsproof_compare": (*OCTETS, c_uint64, *OCTETS, c_uint64, *TEXT, *SAID),
-    "cmsproof_request": (*OCTETS, *OCTETS, *OCTETS, *OCTETS, c_bool, *TEXT, *SAID),
-    "cmsproof_request_of": (*OCTETS, *OCTETS, *OCTETS, *OCTETS, c_bool, *TEXT, *SAID),
-    "cmsproof_request_of_signature": (*OCTETS, *OCTETS, c_uint64, *OCTETS, *OCTETS, c_bool, *TEXT, *SAID),
+    "cmsproof_request": (*OCTETS, *OCTETS, *OCTETS, *OCTETS, Flag, *TEXT, *SAID),
+    "cmsproof_request_of": (*OCTETS, *OCTETS, *OCTETS, *OCTETS, Flag, *TEXT, *SAID),
+    "cmsproof_request_of_signature": (*OCTETS, *OCTETS, c_uint64, *OCTETS, *OCTETS, Flag, *TEXT, *SAID),
     "cmsproof_match": (*OCTETS, *OCTETS, *TEXT, *SAID),
     "cmsproof_token": (*OCTETS, *OCTETS, *TEXT, *SAID),
     "cmsproof_attach": (*OCTETS, c_uint64, *OCTETS, *TEXT, *SAID),

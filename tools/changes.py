@@ -52,12 +52,13 @@ DEFINITION = re.compile(r'"(?:[^"\\]|\\.)*"|(?P<comment>(?<!\S)--(?!\S).*)|(?P<s
 
 
 def lines_of(text):
-    """The crates that a text of crates.txt names, each with all that its line says."""
+    """The crates that a text of crates.txt names, each with all that its line says. It is read as `rt` reads it: between libraries may
+    be commas, and a crate without libraries needs no colon."""
     named = {}
     for line in text.split("\n"):
-        head, colon, libraries = line.partition("#")[0].partition(":")
-        if colon and head.split():
-            named[head.split()[0]] = head.split()[1:] + [":"] + libraries.split()
+        head, _, libraries = line.partition("#")[0].partition(":")
+        if head.split():
+            named[head.split()[0]] = head.split()[1:] + [":"] + libraries.replace(",", " ").split()
     return named
 
 

@@ -11,7 +11,7 @@ from pathlib import Path
 
 TOOLS = Path(__file__).resolve().parent.parent
 sys.path.insert(0, str(TOOLS))
-from changes import less_code, less_definitions, less_derived, meaning  # noqa: E402
+from changes import less_code, less_definitions, less_derived, lines_of, meaning  # noqa: E402
 
 # It refuses each edit, but for those that say otherwise, and notes what it was asked.
 STAND_IN = f"""#!{sys.executable}
@@ -211,6 +211,12 @@ class Meanings(unittest.TestCase):
         ("pub mod A\npub mod B", "pub mod B", True),
         ("a = b\nc = d", "c = d\na = b", False),
     ]
+
+    def test_crates(self):
+        # (as rt reads them: of each crate the libraries, and what else its line says)
+        wanted = {"high": [":", "low", "kit"], "low": ["staticlib", ":", "kit"], "kit": [":"]}
+        for text in ("high: low kit\nlow staticlib: kit\nkit:", "# a\nhigh : low,kit # b\n\nlow  staticlib:kit\nkit\n"):
+            self.assertEqual(lines_of(text), wanted)
 
     def test_what_went_as_a_whole(self):
         tables = ((less_code, self.LESS_CODE), (less_derived, self.LESS_DERIVED), (less_definitions, self.LESS_DEFINITIONS))

@@ -46,7 +46,9 @@ MODULE = re.compile(r"(?:pub )?mod \w+ ?;|pub use [\w:]+ ?;")  # what a root of 
 # what a type derives, up to its name, and the trait that only prints it: edits may compare values
 DERIVED = re.compile(r"#\[derive\(([\w, ]*)\)\]((?: #\[[^\]]*\])* (?:pub(?:\([a-z]+\))? )?(?:struct|enum) \w+)")
 PLAIN_TRAITS = ("Debug",)
-DEFINED = re.compile(r"(?:pub use .*\{|pub mod |(?:abbrev )?(?:pub )?)(\w+)")  # the name that a line of definitions is of
+# what a line of definitions declares or passes on; and the name with which any line begins, or, of an operator's, what it takes
+DECLARED = re.compile(r"(?:pub use [\w.]+\{(?=\w+\}$)|pub mod (?=\w+$)|(?:abbrev )?(?:pub )?(?=\w+ :))(\w+)")
+BEGUN = re.compile(r"(\w+) ")
 FURTHER = 4  # how much further in rt fmt sets a line that goes on; what stands in a block is further in by two
 DEFINITION = re.compile(r'"(?:[^"\\]|\\.)*"|(?P<comment>(?<!\S)--(?!\S).*)|(?P<space>\s+)|.')
 
@@ -281,11 +283,13 @@ def less_derived(before, after):
 
 
 def less_definitions(before, after):
-    """Whether definitions differ in nothing but that some are gone, whose names are nowhere in what is left."""
+    """Whether definitions differ in nothing but that some are gone, whose names are nowhere in what is left: no line went alone, as a
+    clause of an operator, which begins with what that takes, or what declares how it groups."""
     lines, left, names = before.split("\n"), after.split("\n"), set(re.findall(r"\w+", after))
     gone = [line for line in lines if line not in left]
-    found = [DEFINED.match(line) for line in gone]
-    return [line for line in lines if line in left] == left and all(it and it.group(1) not in names for it in found)
+    declared = {found[1] for found in map(DECLARED.match, gone) if found} - names
+    begun = [DECLARED.match(line) or BEGUN.match(line) for line in gone]
+    return [line for line in lines if line in left] == left and all(found and found[1] in declared for found in begun)
 
 
 def is_only_less(history, commit, top, path):

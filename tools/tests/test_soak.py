@@ -210,6 +210,11 @@ class Meanings(unittest.TestCase):
         ("pub use d.{a}\npub use d.{b}", "pub use d.{b}", True),
         ("pub mod A\npub mod B", "pub mod B", True),
         ("a = b\nc = d", "c = d\na = b", False),
+        # a clause of an operator, which begins with what it takes, how it groups, what it may unfold, and what another name is for
+        ("pub ◌▸◌ : T\nzero ▸ n = a\nm ▸ n = b", "pub ◌▸◌ : T\nm ▸ n = b", False),
+        ("infixr 3 ◌▸◌\npub ◌▸◌ : T\nm ▸ n = b", "pub ◌▸◌ : T\nm ▸ n = b", False),
+        ("pub a : T\nunfolding b\na = c", "pub a : T\na = c", False),
+        ("pub use d.{b as a}\nc = a", "c = a", False),
     ]
 
     def test_crates(self):

@@ -22,7 +22,9 @@ VALUES = ("const", "static", "constant function", "macro_rules")  # what may cal
 NESTED = {"impl", "trait", "macro_rules", "mod"}  # a body with these may hold items that are seen outside
 DERIVE = re.compile(r"#\[derive\w*\(([^\]]*)\)\]")
 SILENT = {"Debug", "Drop"}  # a derive of these alone says nothing of fields
+SEVERAL = re.compile(r"\buse [\w: ]+:: ?[{*]")  # what brings in several names, or all of a module
 TESTED = "#[cfg(test)] "  # (what has this is no part of a crate for others)
+RESTRICTED = re.compile(r"pub ?\( ?(?:(?:crate|super|self) ?\)|in )")  # what may be used in a part of a crate alone
 UNVIEWED = ("view", "invariant")
 MODEL = {"Value", "coded", *UNVIEWED}
 # words of a text that may look into what a model hides
@@ -66,7 +68,7 @@ class File:
 
     def __init__(self, path):
         self.path, self.is_code = path, path.endswith(".rt")
-        self.found, self.imports, self.own = [], {}, set()
+        self.found, self.imports, self.own, self.several = [], {}, set(), 0
         # (what stands in a folder may name what the files above it declare)
         self.knows_all = path.count("/") > 3 and path.split("/")[2] != "proofs"
 
@@ -77,6 +79,7 @@ class File:
 
     def put_import(self, text, passes_on):
         """Notes what a `use` imports, and what it passes on."""
+        self.several += bool(SEVERAL.search(f"use {text}"))
         for path, name in imported(text):
             self.knows_all |= name == "*"
             for part in parts_of(name) if name != "*" else (EVERYTHING,):
@@ -93,14 +96,15 @@ class File:
             left = {segments(path)[0] for path in more}
         return found
 
-    def words_of(self, text, calls):
+    def words_of(self, text, calls, knows_all=False):
         """The words of a text that can be names, those of functions too if it can have calls; and the bare ones among them."""
         words, bare, seen, opens, end = set(), set(), set(), False, -1
+        knows_all = knows_all or self.knows_all
         for found in JOINED[self.is_code].finditer(text):
             by, word = found.groups()
             parts = {*parts_of(word), *PARTS[self.is_code].findall(word)}
             if not by or by == "." and text[found.start() - 1 : found.start()] == ".":
-                known = {it for it in parts if self.knows_all or it in self.own or it in self.imports}
+                known = {it for it in parts if knows_all or it in self.own or it in self.imports}
                 bare |= known
                 opens = bool(known) or not HEADS.isdisjoint(parts)
             else:
@@ -110,7 +114,7 @@ class File:
             end = found.end()
         words.update(re.findall(r"(\w+)\s?!(?!=)", text) if self.is_code else ())
         words.update(f"{self.path}:{it}" for it in bare & self.own)
-        words.update(bare if self.knows_all else ())
+        words.update(bare if knows_all else ())
         words.update(*(words_of_path(path) for path in self.paths_for(bare)))
         if calls:
             words.update([f"{it}()" for it in words if it[-1:] != "."])
@@ -132,7 +136,8 @@ class File:
             if kind == "use":
                 words = {it if it[-1:] == "." else it + calls for it in words_of_path(text)}
             else:
-                words, bare = self.words_of(text, calls)
+                # (what a macro names is looked up where it is called)
+                words, bare = self.words_of(text, calls, kind == "macro_rules")
                 text = "\n".join([text, *sorted(self.paths_for(bare))])
             if kind == "impl":
                 names = names.union(*(segments(path)[-1:] for path in self.paths_for(names)))
@@ -212,7 +217,7 @@ def hidden_types(code, pieces):
         if piece.kind == "struct" and piece.name in models and derived(code.text(piece.start, piece.block)) <= SILENT:
             at = code.until(code.tokens.index("struct", piece.start), piece.block + 1, ("{", "(", ";"))
             fields = range(at, code.after(at))
-            if not any(code[it] == "pub" and code[it + 2] not in ("crate", "super", "self", "in") for it in fields):
+            if not any(code[it] == "pub" and not RESTRICTED.match(code.text(it, it + 4)) for it in fields):
                 found[piece.name] = (at + 1, code.after(at) - 1), models[piece.name]
     return found
 
@@ -320,8 +325,8 @@ READERS = {".rt": read_code, ".antt": read_definitions}
 
 
 def file_of(path, text):
-    """A file by what counts of its text; None if it can't be read for sure."""
+    """A file by what counts of its text; None if it can't be read for sure, as one with a quoted name, which may be a mark here."""
     try:
-        return READERS[path[path.rindex(".") :]](path, text)
+        return None if "«" in text else READERS[path[path.rindex(".") :]](path, text)
     except (Unread, LookupError, ValueError):
         return None

@@ -11,7 +11,7 @@ each crate above sees that. `changes.py` uses this.
 import collections
 import re
 
-from items import EVERYTHING, FUNCTIONS, LOOKS_INSIDE, NAME, READERS, Item, file_of, words_of_path
+from items import EVERYTHING, FUNCTIONS, LOOKS_INSIDE, NAME, READERS, SEVERAL, Item, file_of, words_of_path
 
 READ = tuple(READERS)
 TYPES = ("struct", "enum", "union", "trait")
@@ -32,9 +32,10 @@ def items_of(path, text):
 
 
 def words_used(path, text):
-    """All words of a file that can be names of items of other crates; of an edit, which may be of any file, each word."""
+    """All words of a file that can be names of items of other crates; of an edit, which may be of any file, and of a file in which a body
+    brings in several names, each word."""
     file, words = file_of(path, text) if path.endswith(READ) else None, {EVERYTHING}
-    if not file:
+    if not file or file.is_code and len(SEVERAL.findall(text)) > file.several:
         found = all_words(text)
         words.update(each for word in found for each in (word, f"{word}()", f".{word}()"))
         return words.union(f"{word}.inside" for word in found) if not LOOKS_INSIDE.isdisjoint(found) else words
@@ -102,7 +103,9 @@ class Below:
                     waiting[of_type].append((item, first))
                 elif item not in seen:
                     seen[item] = first
-                    left.extend((it, crate_of(item.path), first) for it in item.words)
+                    # (what a macro names may be of a crate above its own)
+                    place = crate if item.kind == "macro_rules" else crate_of(item.path)
+                    left.extend((it, place, first) for it in item.words)
                     for name in item.names if item.kind in TYPES else ():
                         types.add(name)
                         found.extend(waiting.pop(name, ()))

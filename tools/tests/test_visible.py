@@ -29,6 +29,7 @@ SMALL = "pub fn f(x: u8) -> u8\n    requires small { x < 9 }\n    ensures { IsLo
 OWN, INNER = SMALL.replace("pub ", ""), SMALL.replace("pub", "pub(crate)")
 FROM = "use kit::Held;\n"
 HELD = "#[derive(Debug, Drop)]\npub struct Held {\n    n: u8,\n}\n"
+PAIR, INNER_PAIR = "pub struct Held(pub (crate::A, u8));\n", "pub struct Held(pub(in crate::a) (crate::A, u8));\n"
 WIDE, CLONED = HELD.replace("n: u8", "n: u16"), HELD.replace("Drop", "Clone")
 TAKE = "pub fn take() -> Held { Held { n: 1 } }\nimpl Held {\n    pub fn len(&self) -> u8 { self.n }\n    fn own(&self) {}\n}\n"
 MODEL = """impl Model for Held {
@@ -41,6 +42,8 @@ OTHER_VIEW, OTHER_VALUE = MODEL.replace("λ h. h.n }", "λ h. 9 - h.n }"), MODEL
 INVERSE = MODEL.replace("    ghost view", "    ghost inverse = { g };\n    ghost view")
 EQUAL = "impl PartialEq for Held { ghost eq = { same }; }\n"
 CONSTANTS = "const A: u8 = 1;\npub const B: u8 = A + 1;\n"
+MACRO, MADE = "macro_rules! m { () => { END + 1 }; }\n", "const END: u8 = 1;\npub const B: u8 = m!();\n"
+MADE_2 = MADE.replace("= 1", "= 2")
 CALLED = "pub const B: u8 = one();\nconst fn one() -> u8 { 1 }\n"
 LOW = "pub IsLow : N → Type 0\nIsLow n = n < bound\n\nabbrev pub bound : N\nbound = 9\n"
 OPERATOR = "infixl 6 ◌▸◌\nabbrev pub ◌▸◌ : N → N → N\nf ▸ g = g f\n" + LOW.replace("n <", "n ▸")
@@ -82,6 +85,10 @@ class Seen(unittest.TestCase):
         (SMALL, SMALL.replace("x < 9", "x < 8"), code("use low::f as g;\nfn high() { g(1) }"), {"f"}),
         (SMALL, SMALL.replace("x < 9", "x < 8"), code("use low::*;\nfn high() { f(1) }"), {"f"}),
         (SMALL, SMALL.replace("x < 9", "x < 8"), {"high/more-edits/a.edit": "old: 1\nnew: f(2)"}, {"f"}),
+        # names that a body brings in: one, several, all
+        (SMALL, SMALL.replace("x < 9", "x < 8"), code("fn high() { use low::f; f(1) }"), {"f"}),
+        (SMALL, SMALL.replace("x < 9", "x < 8"), code("use low::{A};\nfn high() { use low::{f, g}; f(1) }"), {"f"}),
+        (SMALL, SMALL.replace("x < 9", "x < 8"), code("use low::{A};\nfn high() { use low::*; f(1) }"), {"f"}),
         # a private function, and one for the crate alone
         (OWN, OWN.replace("x < 9", "x < 8"), CALLS, set()),
         (INNER, INNER.replace("x < 9", "x < 8"), CALLS, set()),
@@ -110,6 +117,8 @@ class Seen(unittest.TestCase):
         (CLONED + MODEL + TAKE, CLONED + OTHER_VIEW + TAKE, TAKES, {"take"}),
         (HELD.replace("n:", "pub n:") + MODEL + TAKE, HELD.replace("n:", "pub n:") + OTHER_VIEW + TAKE, TAKES, {"take"}),
         (HELD.replace("n:", "pub(crate) n:") + MODEL + TAKE, WIDE.replace("n:", "pub(crate) n:") + MODEL + TAKE, TAKES, set()),
+        (PAIR + MODEL + TAKE, PAIR.replace("u8", "u16") + MODEL + TAKE, TAKES, {"take"}),
+        (INNER_PAIR + MODEL + TAKE, INNER_PAIR.replace("u8", "u16") + MODEL + TAKE, TAKES, set()),
         (HELD + INVERSE + TAKE, WIDE + INVERSE + TAKE, TAKES, {"take"}),
         (HELD + MODEL, WIDE + MODEL, code("ghost use Rattle.low.specs.contracts.Held.{the_row};"), {"Held"}),
         (HELD + MODEL, WIDE + MODEL, code("const SIZE: usize = size_of::<low::Held>();"), {"Held"}),
@@ -172,6 +181,7 @@ class Seen(unittest.TestCase):
         (BLOCK, BLOCK.replace("= n", "= 1"), PROVES, {"IsLow"}),
         (OPERATOR, OPERATOR.replace("g f", "f g"), PROVES, {"IsLow"}),
         (OPERATOR, OPERATOR.replace("infixl", "infixr"), PROVES, {"IsLow"}),
+        (LOW, LOW + "pub «data» : N\n«data» = 1\n", NONE, {""}),
         (LOW, "{- a -}\n" + LOW, NONE, {""}),
         (LOW, "  a\n" + LOW, NONE, {""}),
     ]
@@ -190,6 +200,9 @@ class Seen(unittest.TestCase):
         # an `impl` in a crate that the type's crate can't name; one whose type is of no crate here
         ({"kit/src/a.rt": HELD, "low/src/a.rt": FROM + TAKE}, {"side/src/a.rt": FROM + EQUAL}, TAKES, {"take"}),
         ({"kit/src/a.rt": HELD, "low/src/a.rt": FROM + TAKE}, {"side/src/a.rt": EQUAL.replace("Held", "u8")}, TAKES, {""}),
+        # a constant that a macro names, of the crate below or of another file, where it is called
+        ({"kit/src/a.rt": MACRO, "low/src/a.rt": "use kit::m;\n" + MADE}, {"low/src/a.rt": "use kit::m;\n" + MADE_2}, NAMES, {"B"}),
+        ({"low/src/b.rt": MACRO, "low/src/a.rt": MADE}, {"low/src/a.rt": MADE_2}, NAMES, {"B"}),
         ({"low/src/a.bin": "a"}, {"low/src/a.bin": "b"}, NONE, {""}),
     ]
 

@@ -6,8 +6,8 @@ what the rows want.
 
 PROGRAM is ./cmsproof by default. It prints each row that differs and each that cannot be read, with the number of its line; how many
 agree; and how many were not run, mostly because no program can show them, with the reason. The status is 1 if a row differs, if one
-cannot be read, if a file has not as many rows as crates/vectors_run/stdout says, or if none was run. With --few the rows `cuts` and
-`changes`, each of which is hundreds of runs, are left out and counted: for a program that is emulated."""
+cannot be read, if a file has not as many rows as crates/vectors_run/stdout says, or is not named in args there, or if none was run. With
+--few the rows `cuts` and `changes`, each of which is hundreds of runs, are left out and counted: for a program that is emulated."""
 import collections
 import concurrent.futures
 import itertools
@@ -407,8 +407,11 @@ def rows_of(folder):
     counts = dict(re.findall(r"^(\S+): ([0-9]+) of \2 rows agree$", (folder / "stdout").read_text(), re.M))
     alone = {name: count for name, count in ALONE.items() if folder == FOLDER}
     counts.update(alone)
-    found, faults, blobs = [], [], {}
-    for name in [*(folder / "args").read_text().split(), *alone]:
+    names, there = [*(folder / "args").read_text().split(), *alone], (folder / "data").rglob("*")
+    left = sorted({path.relative_to(folder / "data").as_posix() for path in there if not path.is_dir()} - set(names))
+    faults = [f"{name}: crates/vectors_run/args does not name it, so none of its rows is run" for name in left]
+    found, blobs = [], {}
+    for name in names:
         area, text = name.partition("/")[0], (folder / "data" / name).read_text()
         if area not in AREAS:
             continue

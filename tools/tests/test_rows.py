@@ -66,6 +66,14 @@ class ProgramRows(unittest.TestCase):
         counts, faults = self.judged(RUN, counted=2)
         self.assertEqual((counts["agrees"], faults), (1, ["commands/some.rows: 1 rows, and 2 in crates/vectors_run/stdout"]))
 
+    def test_rows_that_nothing_runs(self):
+        (self.folder / "data" / "der").mkdir()
+        for name in ("commands/other.rows", "der/other.rows"):
+            self.put(f"data/{name}", RUN + "\n")
+        counts, faults = self.judged(RUN)
+        told = "crates/vectors_run/args does not name it, so none of its rows is run"
+        self.assertEqual((counts["agrees"], faults), (1, [f"{name}: {told}" for name in ("commands/other.rows", "der/other.rows")]))
+
     def test_notation(self):
         blobs = rows.blobs_of(
             "seven = 07\nnested = 30{ 02{ $seven } }\n 2*00 'ab\nlong = 04{ 200*00 }\nlonger = 04{ 256*00 }\n"

@@ -22,6 +22,8 @@ TOOLS := $(shell test ! -d tools/installed || LC_ALL=C find tools/installed -max
 MODULES := $(shell cd tools/installed 2> /dev/null && LC_ALL=C find cmsproof cmsproof_tools -type f \
     -regex '[a-z0-9_/]+\.[a-z]+' ! -name '*.pyc' ! -path '*/__pycache__/*' | LC_ALL=C sort)
 FISH := $(addprefix packaging/completion/,cmsproof.fish $(patsubst %,%.fish,$(notdir $(TOOLS))))
+# each of the names in $(2), in the folder $(1), whose name may have a space or a %
+IN = $(foreach name,$(2),"$(1)/$(name)")
 # where the package cmsproof looks for the library first
 LIBRARY = tools/installed/cmsproof/libcmsproof.so.1
 CRATE = crates/cmsproof
@@ -168,23 +170,23 @@ install: build install-tools
 # The tools and the package for Python, with the library and the page of refusals, which a report shows. What is installed for this
 # machine is compiled, since who runs it may write nothing there: else each run would compile it, which takes a fifth of a short one.
 install-tools: $(LIBRARY)
-	install -d "$(BINDIR)" $(patsubst %,"$(LIBDIR)/%",$(sort $(dir $(MODULES))))
+	install -d "$(BINDIR)" $(call IN,$(LIBDIR),$(sort $(dir $(MODULES))))
 	install -m 755 $(TOOLS) "$(BINDIR)"
 	set -e; for module in $(MODULES); do install -m 644 "tools/installed/$$module" "$(LIBDIR)/$$module"; done
 	install -m 644 docs/REFUSALS.md "$(LIBDIR)/cmsproof_tools"
 	install -m 644 $(LIBRARY) "$(LIBDIR)/cmsproof"
-	@test -n "$(DESTDIR)" || $(PYTHON) -m compileall -q "$(LIBDIR)" || echo "cmsproof: the tools were not compiled, and start slower"
+	@test -n "$(DESTDIR)" || (umask 022 && $(PYTHON) -m compileall -q "$(LIBDIR)") || echo "cmsproof: the tools were not compiled, and start slower"
 
 # Which files of the folders are installed as they are: whoever makes packages in a clone asks git whether it knows them all.
 list-installed:
 	@printf '%s\n' $(TOOLS) $(addprefix tools/installed/,$(MODULES)) $(wildcard man/*.1) $(wildcard man/*.5)
 
 uninstall:
-	rm -f "$(BINDIR)/cmsproof" $(patsubst tools/installed/%,"$(BINDIR)/%",$(TOOLS))
-	rm -f "$(FOR_BASH)/cmsproof" $(patsubst tools/installed/%,"$(FOR_BASH)/%",$(TOOLS))
-	rm -f "$(FOR_ZSH)/_cmsproof" $(patsubst packaging/completion/%,"$(FOR_FISH)/%",$(FISH))
+	rm -f "$(BINDIR)/cmsproof" $(call IN,$(BINDIR),$(notdir $(TOOLS)))
+	rm -f "$(FOR_BASH)/cmsproof" $(call IN,$(FOR_BASH),$(notdir $(TOOLS)))
+	rm -f "$(FOR_ZSH)/_cmsproof" $(call IN,$(FOR_FISH),$(notdir $(FISH)))
 	rm -rf "$(LIBDIR)" "$(DOCDIR)"
-	rm -f $(patsubst man/%,"$(MANDIR)/man1/%",$(wildcard man/*.1)) $(patsubst man/%,"$(MANDIR)/man5/%",$(wildcard man/*.5))
+	rm -f $(call IN,$(MANDIR)/man1,$(notdir $(wildcard man/*.1))) $(call IN,$(MANDIR)/man5,$(notdir $(wildcard man/*.5)))
 
 # The library for C, in BUILT.
 BUILT = build/library

@@ -45,10 +45,10 @@ class Installing(unittest.TestCase):
         shutil.copy(REAL / "trust.txt", self.folder / "list")
 
     def make(self, target, *places):
-        """Runs make, with the program and the library as they are."""
+        """Runs make, with the program and the library as they are, as somebody whose new files nobody else may read."""
         where = places or (f"DESTDIR={self.folder / 'root'}", "PREFIX=/usr")
         words = ["make", "-o", "cmsproof", "-o", "tools/installed/cmsproof/libcmsproof.so.1", target, *where]
-        subprocess.run(words, cwd=self.folder / "tree", capture_output=True, check=True)
+        subprocess.run(words, cwd=self.folder / "tree", capture_output=True, check=True, umask=0o077)
 
     def said(self, *words, **environment):
         """What an installed tool prints. Modules of its own names are in the folder where it runs, and must not be taken."""
@@ -66,13 +66,17 @@ class Installing(unittest.TestCase):
         return done.returncode, done.stdout.decode(), done.stderr.decode()
 
     def test_what_is_installed_for_this_machine_is_compiled(self):
-        place = f"PREFIX={self.folder / 'local'}", f"PYTHON={sys.executable}"
+        local = self.folder / "100% lo cal"
+        place = f"PREFIX={local}", f"PYTHON={sys.executable}"
         self.make("install", *place)
-        modules = [path for path in (self.folder / "local" / "lib" / "cmsproof").rglob("*.py")]
+        modules = [path for path in (local / "lib" / "cmsproof").rglob("*.py")]
         self.assertTrue(modules)
+        # (each folder and file is for everybody)
+        self.assertEqual([path for path in local.rglob("*") if path.stat().st_mode & 0o055 != 0o055 and path.is_dir()], [])
+        self.assertEqual([path for path in local.rglob("*") if path.stat().st_mode & 0o044 != 0o044], [])
         self.assertEqual([path for path in modules if not os.path.exists(importlib.util.cache_from_source(path))], [])
         self.make("uninstall", *place)
-        self.assertEqual([path for path in (self.folder / "local").rglob("*") if not path.is_dir()], [])
+        self.assertEqual([path for path in local.rglob("*") if not path.is_dir()], [])
 
     def test_installed_tools_and_what_is_left_of_them(self):
         self.make("install")

@@ -23,6 +23,7 @@ NESTED = {"impl", "trait", "macro_rules", "mod"}  # a body with these may hold i
 DERIVE = re.compile(r"#\[derive\w*\(([^\]]*)\)\]")
 SILENT = {"Debug", "Drop"}  # a derive of these alone says nothing of fields
 SEVERAL = re.compile(r"\buse [\w: ]+:: ?[{*]")  # what brings in several names, or all of a module
+WRITTEN = re.compile(r"\b([A-Z]\w*)\s?[{(]")  # what may be the type of a value that is written with its fields
 TESTED = "#[cfg(test)] "  # (what has this is no part of a crate for others)
 RESTRICTED = re.compile(r"pub ?\( ?(?:(?:crate|super|self) ?\)|in )")  # what may be used in a part of a crate alone
 UNVIEWED = ("view", "invariant")
@@ -138,6 +139,9 @@ class File:
             else:
                 # (what a macro names is looked up where it is called)
                 words, bare = self.words_of(text, calls, kind == "macro_rules")
+                # (what a clause sees of a value that is written here is what its model makes of the fields)
+                if kind in ("const", "static"):
+                    words |= {f"{it}.inside" for it in {*WRITTEN.findall(text), segments(owner)[-1]}}
                 text = "\n".join([text, *sorted(self.paths_for(bare))])
             if kind == "impl":
                 names = names.union(*(segments(path)[-1:] for path in self.paths_for(names)))
@@ -195,7 +199,7 @@ def read_impl(file, code, piece, hidden, restricted):
             if member.public and owner not in restricted or member.kind != "fn":
                 file.put(member.kind, [f".{member.name}()"], text, owner)
         elif member.kind == "const":
-            file.put("const", [member.name], header + code.text(member.start, member.end))
+            file.put("const", [member.name], header + code.text(member.start, member.end), owner)
         else:
             raise Unread
 

@@ -40,6 +40,8 @@ MODEL = """impl Model for Held {
 """
 OTHER_VIEW, OTHER_VALUE = MODEL.replace("λ h. h.n }", "λ h. 9 - h.n }"), MODEL.replace("{ N }", "{ List N }")
 INVERSE = MODEL.replace("    ghost view", "    ghost inverse = { g };\n    ghost view")
+FIRST, NAMES_FIRST = "pub const FIRST: Held = Held { n: 1 };\n", code("use low::FIRST;")
+OF_IMPL, OF_T = (f"impl{of} Held{of} {{\n    pub const FIRST: Self = Self {{ n: 1 }};\n}}\n" for of in ("", "<T>"))
 EQUAL = "impl PartialEq for Held { ghost eq = { same }; }\n"
 CONSTANTS = "const A: u8 = 1;\npub const B: u8 = A + 1;\n"
 MACRO, MADE = "macro_rules! m { () => { END + 1 }; }\n", "const END: u8 = 1;\npub const B: u8 = m!();\n"
@@ -113,6 +115,11 @@ class Seen(unittest.TestCase):
         (HELD + MODEL + TAKE, HELD + OTHER_VALUE + TAKE, TAKES, {"take"}),
         (HELD + MODEL + TAKE, CLONED + MODEL + TAKE, TAKES, {"take"}),
         (HELD + MODEL + TAKE, HELD.replace("Debug, ", "") + MODEL + TAKE, TAKES, set()),
+        # a constant is what its model makes of it
+        (HELD + MODEL + FIRST, HELD + OTHER_VIEW + FIRST, NAMES_FIRST, {"FIRST"}),
+        (HELD + MODEL + OF_IMPL, HELD + OTHER_VIEW + OF_IMPL, code("fn high() { low::Held::FIRST }"), {"FIRST"}),
+        (HELD + MODEL + OF_T, HELD + OTHER_VIEW + OF_T, code("fn high() { low::Held::FIRST }"), {"FIRST"}),
+        (HELD + MODEL + FIRST, HELD + OTHER_VIEW + FIRST, NAMES, set()),
         # what a model hides is seen by what is derived of it, by a public field, by a further member, and by some proofs
         (CLONED + MODEL + TAKE, CLONED + OTHER_VIEW + TAKE, TAKES, {"take"}),
         (HELD.replace("n:", "pub n:") + MODEL + TAKE, HELD.replace("n:", "pub n:") + OTHER_VIEW + TAKE, TAKES, {"take"}),

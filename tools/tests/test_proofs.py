@@ -27,6 +27,9 @@ ENVIRONMENTS = [
     ({"PYTHON": "true"}, "$(PYTHON) -c 'raise SystemExit(1)'"),
     ({"PYTHONPATH": "{folder}/odd"}, "$(PYTHON) -c 'import shadow'"),
     ({"MACHINE": "aarch64"}, 'test -n "$$MACHINE"'),
+    ({"SOAK_MINUTES": "0"}, 'test -n "$$SOAK_MINUTES"'),
+    ({"SOAK_MINUTES": "0.1"}, 'test -n "$$SOAK_MINUTES"'),
+    ({"SOAK_MINUTES": "60"}, 'test "$$SOAK_MINUTES" != 60'),
     ({"CDPATH": "{folder}/other"}, "false"),
 ]
 

@@ -167,11 +167,13 @@ def room_of(copy, crates, crate, folder):
 
 
 def check(copy, crates, crate, edits, until):
-    """What a check says of a crate with edits, given their texts, all of which are applied."""
+    """What a check says of a crate with edits, given their texts, all of which are applied; nothing where they can't be."""
     with tempfile.TemporaryDirectory(prefix="together-") as folder:
         room = room_of(copy, crates, crate, folder)
         for path, old, new in [pair for edit in edits for pair in pairs_of(edit)]:
             place = room / "crates" / crate / path
+            if place.read_text().count(old) != 1:
+                return 1, ""  # (another edit put the same text there, and would be another one: this tells nothing)
             place.write_text(place.read_text().replace(old, new))
         return run([*kept_sums.rt(), "check", "--jobs", "1"], room / "crates" / crate, 1, until)
 

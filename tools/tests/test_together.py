@@ -166,10 +166,17 @@ class Rounds(unittest.TestCase):
 
     def tried(self, **edits):
         """The edits that are refused together, given the new body of a function by its name and a number."""
-        paths = []
         for name, body in edits.items():
-            paths.append(self.top / f"{name}.edit")
-            paths[-1].write_text(f"file: src/lib.rt\nold: {name[0]}_body\nnew: {body}\n")
+            self.put(f"{name[0]}_body", body, name)
+        return self.refused()
+
+    def put(self, old, new, name):
+        """Makes an edit."""
+        (self.top / f"{name}.edit").write_text(f"file: src/lib.rt\nold: {old}\nnew: {new}\n")
+
+    def refused(self):
+        """The edits that are refused together."""
+        paths = sorted(self.top.glob("*.edit"))
         with mock.patch.object(together, "run", self.rt):
             refused, checks = together.refused_together(self.top, {"high": ["low"], "low": []}, "low", paths, 2, None)
         return sorted(it.stem for it in refused), checks
@@ -189,6 +196,13 @@ class Rounds(unittest.TestCase):
 
     def test_where_one_check_tells_nothing_its_halves_are_tried(self):
         self.assertEqual(self.tried(a="wrong", b="broken", c="wrong", d="wrong")[0], ["a", "c", "d"])
+
+    def test_what_one_puts_there_is_not_changed_by_another(self):
+        # (the first is right; together with the second, which would change it too, it would be refused)
+        self.put("a_body", "b_body", "first")
+        self.put("b_body", "wrong", "second")
+        self.put("c_body", "wrong", "third")
+        self.assertEqual(self.refused(), (["second", "third"], 1))
 
     def test_one_alone_is_not_tried(self):
         self.assertEqual(self.tried(a="wrong"), ([], 0))

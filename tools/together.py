@@ -89,6 +89,7 @@ def pairs_of(text):
             old = line[len("old: ") :]
         elif line.startswith("new:"):
             pairs.append((path, old, re.sub(r"\A ", "", line[len("new:") :])))
+            old = ""  # (a second new text for it is none)
     return pairs
 
 

@@ -68,6 +68,7 @@ EDITS = [
     ("old: list\nnew: none", []),  # it stands there more than once
     ("old: absent\nnew: here", []),
     ("new: here", []),
+    ("old: self.count\nnew: 0\nnew: 1", []),  # which `rt` takes for a bad edit
     ("nothing", []),
 ]
 OPEN = "note: src/list.rt:5:1: it is not proved that what the function ensures holds when it returns (`returns`)"

@@ -1,5 +1,6 @@
 """Tests of `tools/visible.py` and `items.py`: whether a crate sees what changed below it, in small texts; how code is read."""
 
+import re
 import sys
 import unittest
 from pathlib import Path
@@ -249,6 +250,22 @@ class Read(unittest.TestCase):
             with self.subTest(text=text):
                 items = items_of(path, meaning(path, f"{text}\n{end}".encode()))
                 self.assertEqual([item.text for item in items], [left, end])
+
+    def test_what_is_cited_of_proofs(self):
+        """Code and definitions cite of them what is proved, and nothing that is defined there: a change of that would make no edit owed."""
+        top, cited = TOOLS.parent, re.compile(r"use Rattle\.(\w+)\.proofs\.?([\w.'-]*?)(?:\.\{([^{}]*)\})?;?$", re.M)
+        crates, found = read_crates(top), []
+        for crate in crates:
+            for path, octets in files_of(top, crate, MEANT).items():
+                found += [(path, *it) for it in cited.findall(octets.decode()) if it[0] in crates]
+        self.assertTrue(found)
+        for path, crate, module, names in found:
+            text = (top / "crates" / crate / "proofs" / f"{module.replace('.', '/')}.antt").read_text()
+            for name in re.split(r",\s*", names):
+                with self.subTest(path=path, module=module, name=name):
+                    signatures = re.findall(rf"^ *((?:\w+ )*?){re.escape(name)} :((?:.|\n {{4,}})*)", text, re.M)
+                    self.assertEqual([mark for mark, _ in signatures], ["pub "])
+                    self.assertNotRegex(signatures[0][1].rstrip(), r"\bType \S+$")
 
     def test_every_file(self):
         top = TOOLS.parent

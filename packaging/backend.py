@@ -118,6 +118,9 @@ def build_wheel(wheel_directory: str, config_settings: Settings = None, metadata
         # (the library is built anew: one of another machine may lie there)
         make("--always-make", "install-tools", f"DESTDIR={folder}", "PREFIX=/all", f"BUILT={folder}/library")
         modules = Path(folder, "all", "lib", "cmsproof")
+        # (make and the shell take a $ in a name for a variable)
+        if not modules.is_dir():
+            raise SystemExit(f"cmsproof: nothing was installed into {folder}: name another folder for temporary files, TMPDIR")
         files = {str(path.relative_to(modules)): path.read_bytes() for path in sorted(modules.rglob("*")) if path.is_file()}
         files.update(scripts(Path(folder, "all", "bin")))
     return put(wheel_directory, {**files, **described()})

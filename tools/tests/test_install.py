@@ -135,6 +135,12 @@ class Installing(unittest.TestCase):
             self.assertEqual(self.said(binaries / name, "--version")[0], 4)
         told = self.said(binaries / "cmsproof-archive", "--trust", "list", "file", PYTHONPATH=str(modules))
         self.assertEqual(told, (0, f"file: {ACCEPTED}\n", ""))
+        # where the modules went elsewhere, no wheel without them is made
+        (self.folder / "a$b").mkdir()
+        code = f"import sys; sys.path[:0] = [{str(self.folder / 'tree' / 'packaging')!r}]; import backend; backend.build_wheel('.')"
+        status, _, err = self.said("-c", code, TMPDIR=str(self.folder / "a$b"))
+        self.assertEqual((status, list(self.folder.glob("*.whl"))), (1, []))
+        self.assertIn("cmsproof: nothing was installed into ", err)
 
     def program_says(self):
         """What the program says behind its name: its version, the kit and the sum of the logic that it was proved with."""

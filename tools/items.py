@@ -53,9 +53,13 @@ def imported(text):
         parts = segments(path)
         yield path + (f" as {alias}" if alias else ""), alias or parts[-2 if parts[-1] == "self" else -1]
         return
-    for part in re.split(r",(?![^{]*\})", inner.strip()[:-1]):
-        if part.strip():
-            yield from imported(front.strip() + part.strip())
+    begin, depth, inner = 0, 0, inner.strip()[:-1] + ","
+    for at, sign in enumerate(inner):
+        depth += (sign == "{") - (sign == "}")
+        if sign == "," and depth == 0:
+            if part := inner[begin:at].strip():
+                yield from imported(front.strip() + part)
+            begin = at + 1
 
 
 def words_of_path(path):

@@ -88,6 +88,7 @@ class Seen(unittest.TestCase):
         (SMALL, SMALL.replace("x < 9", "x < 8"), code("use low::f as g;\nfn high() { g(1) }"), {"f"}),
         (SMALL, SMALL.replace("x < 9", "x < 8"), code("use low::*;\nfn high() { f(1) }"), {"f"}),
         (SMALL, SMALL.replace("x < 9", "x < 8"), {"high/more-edits/a.edit": "old: 1\nnew: f(2)"}, {"f"}),
+        (SMALL, SMALL.replace("x < 9", "x < 8"), code("use low::{b::{f, c::{d}}, g};\nfn high() { f(1) }"), {"f"}),
         # names that a body brings in: one, several, all
         (SMALL, SMALL.replace("x < 9", "x < 8"), code("fn high() { use low::f; f(1) }"), {"f"}),
         (SMALL, SMALL.replace("x < 9", "x < 8"), code("use low::{A};\nfn high() { use low::{f, g}; f(1) }"), {"f"}),

@@ -34,10 +34,11 @@ from making import (
 need_tools()
 
 import cmsproof  # noqa: E402
-from cmsproof import octets, verdicts  # noqa: E402
+from cmsproof import evidence, octets, verdicts, verifiers  # noqa: E402
 from cmsproof.calls import check_several  # noqa: E402
 from cmsproof.verifiers import Vouching, vouching  # noqa: E402
 
+RECORDS = TOP / "data" / "records"
 FILE, OTHER, CONTENT = REAL / "rsa_attached_ts.p7s", REAL / "rsa_attached.p7s", REAL / "blob.bin"
 
 # threads that fork while others check and make lists; then a fork that waits for a call, in which a signal has its thread fork
@@ -255,6 +256,45 @@ class Checking(unittest.TestCase):
                 self.assertTrue(cmsproof.check(Other(file.fileno(), 0, **ways), trust=self.trust).accepted)
         finally:
             octets.COPIED = was
+
+    def test_words_that_say_another_length(self):
+        """What is said of octets whose class says another length is what is said of `bytes`: none is left out, or read behind them."""
+        said, answers = 0, (RECORDS / "answers.txt").read_bytes()
+
+        class Other(bytes):
+            def __len__(self):
+                return said
+
+        class Gives:
+            def __bytes__(self):
+                return Other(trust.text)
+
+        class Vouches(verifiers.Vouching):
+            def answers(self, _):
+                return Other(answers)
+
+        class Word(str):
+            def encode(self, *_):
+                return Other(str.encode(self))
+
+        trust = cmsproof.TrustList((RECORDS / "trust.txt").read_bytes())
+        record = RECORDS / "records" / "bouncy_castle_one_document.ers"
+        by = {"record": record, "data": RECORDS / "files" / "document_0", "trust": trust}
+        line, request = "accepted 20150301120000Z", cmsproof.request(digest=bytes(32), policy="2.999")
+        signed = record, FILE
+        of_signed = evidence.check_signed(*signed, trust=trust, answers=answers).code
+        calls = {
+            "answers": lambda: evidence.check(**by, answers=Other(answers)).line == line,
+            "verifier": lambda: evidence.check(**by, verifier=Vouches()).line == line,
+            "signed": lambda: evidence.check_signed(*signed, trust=trust, answers=Other(answers)).code == of_signed,
+            "at": lambda: evidence.check(**by, at=Word("20150301120000Z")).line == line,
+            "list": lambda: len(cmsproof.TrustList(Gives())) == 5,
+            "request": lambda: cmsproof.request(digest=bytes(32), algorithm=Word("sha256"), policy=Word("2.999")) == request,
+        }
+        for said in (0, 19, 1 << 26):
+            for name, call in calls.items():
+                with self.subTest(name, said=said):
+                    self.assertTrue(call())
 
     def test_what_a_signal_has_a_thread_do(self):
         found = []

@@ -6,7 +6,7 @@ from typing import Any, Callable, NamedTuple, Optional, Sequence, Union, cast
 
 from cmsproof import library as lib
 from cmsproof.lists import TrustList, refused
-from cmsproof.octets import Given, Octets, exact, octets_if_any, octets_of, of_bytes
+from cmsproof.octets import Given, Octets, octets_if_any, octets_of, of_bytes, plain
 from cmsproof.verdicts import Said, Unexpected, Verdict, said_of, verdict_of
 from cmsproof.verifiers import Verifier, Vouching, vouching
 from cmsproof_tools.texts import Question, answers_of, read_questions
@@ -78,9 +78,9 @@ class Room:
     ) -> tuple[int, bytes]:
         """The status and line of a check with these answers, whose numbers are in `answer`. `rest` is what the call takes behind the
         file."""
-        held, loaded, answers = trust.held, lib.library(), exact(answers)
+        held, loaded = trust.held, lib.library()
         try:
-            status = loaded.cmsproof_answers_read(self.to_answers, answers, len(answers), self.to_answer)
+            status = loaded.cmsproof_answers_read(self.to_answers, *of_bytes(answers), self.to_answer)
             if status != lib.DONE:
                 raise refused("answers", status, self.answer)
             with held.lock:
@@ -214,7 +214,7 @@ def check_several(
     step needs. What was asked about is what is checked: the octets are in memory.
     """
     own, found = room(), cast("list[Union[Said, Exception, None]]", [None] * len(files))
-    octets = [one if type(one) is bytes else bytes(one) for one in files]
+    octets = [plain(one) for one in files]
     texts = [b""] * len(octets)
     try:
         for number, one in enumerate(octets):

@@ -5,7 +5,7 @@ from typing import Any, Optional, Union
 
 from cmsproof import library as lib
 from cmsproof.calls import written
-from cmsproof.octets import Given, octets_if_any, octets_of
+from cmsproof.octets import Given, octets_if_any, octets_of, of_bytes
 from cmsproof.results import Result, result_of
 from cmsproof.showing import dictionary_of
 from cmsproof.verdicts import Unexpected, code_of
@@ -65,7 +65,7 @@ def request(
     # (of a number `bytes` would make as many zeros)
     with octets_if_any(data if digest is None else memoryview(digest).tobytes()) as octets:
         call = lib.library().cmsproof_request_of if digest is None else lib.library().cmsproof_request
-        words = (name, len(name), *octets, identifier, len(identifier), number_text, len(number_text), certificate)
+        words = (*of_bytes(name), *octets, *of_bytes(identifier), *of_bytes(number_text), certificate)
         status, answer, text = written(call, *words)
     return requested(status, answer, text, algorithm)
 
@@ -85,8 +85,8 @@ def request_of_signature(
     """
     name, identifier, number_text = algorithm.encode(), policy.encode(), contents_of(nonce)
     with octets_of(file) as octets:
-        words = (name, len(name), *octets, number(signer))
-        rest = (identifier, len(identifier), number_text, len(number_text), certificate)
+        words = (*of_bytes(name), *octets, number(signer))
+        rest = (*of_bytes(identifier), *of_bytes(number_text), certificate)
         status, answer, text = written(lib.library().cmsproof_request_of_signature, *words, *rest)
     if status in (lib.DONE, lib.USAGE):
         return Result(True, "requested", None, None, None, "", requested(status, answer, text, algorithm))

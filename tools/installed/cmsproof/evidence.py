@@ -22,7 +22,7 @@ from cmsproof import library as lib
 from cmsproof.calls import Questions, answers_to, give_back, questions_of, room, written
 from cmsproof.lists import TrustList
 from cmsproof.making import LENGTHS, Root, Unmade, make, rehash, rehash_root, renew, renewal_root, root
-from cmsproof.octets import Given, Octets, copied, octets_if_any, octets_of
+from cmsproof.octets import Given, Octets, copied, octets_if_any, octets_of, of_bytes
 from cmsproof.verdicts import Unexpected, Verdict, moment_of, said_of, verdict_of
 from cmsproof.verifiers import Verifier, vouching
 from cmsproof_tools.texts import QUESTIONS, question_lines
@@ -144,8 +144,7 @@ def joined(objects: Sequence[Octets]) -> Octets:
     """Octets one after the other. Of one object they are where they were."""
     if len(objects) == 1:
         return objects[0]
-    octets = b"".join(map(copied, objects))
-    return Octets(octets, len(octets))
+    return of_bytes(b"".join(map(copied, objects)))
 
 
 def words_of(objects: Sequence[Octets], ends: bytes, at: bytes, whole: bool) -> tuple[Any, ...]:
@@ -153,7 +152,7 @@ def words_of(objects: Sequence[Octets], ends: bytes, at: bytes, whole: bool) -> 
     octets, count = joined(objects), len(objects)
     # (an array of none has no place)
     lengths = (ctypes.c_uint64 * max(count, 1))(*(one.length for one in objects))
-    return (*octets, lengths, count, ends, len(ends), at, len(at), whole)
+    return (*octets, lengths, count, *of_bytes(ends), *of_bytes(at), whole)
 
 
 def check(
@@ -243,7 +242,7 @@ def check_signed(
             if answers is None:
                 texts = own.asked(trust, evidence, "cmsproof_evidence_questions"), own.asked(trust, octets)
                 answers = answers_to(of_both(*texts), asked)
-            words = (*beside, content is not None, *evidence, until, len(until), moment, len(moment))
+            words = (*beside, content is not None, *evidence, *of_bytes(until), *of_bytes(moment))
             status, line = own.checked(trust, octets, words, answers, "cmsproof_check_under")
         # (only here, where the files are known to be as they were)
         if status == lib.USAGE:

@@ -9,7 +9,7 @@ from contextlib import contextmanager
 from typing import Iterable, Iterator, Union
 
 from cmsproof import library as lib
-from cmsproof.octets import exact
+from cmsproof.octets import of_bytes, plain
 
 LISTS: "weakref.WeakSet[Held]" = weakref.WeakSet()
 # who forks, and the lists that were taken for each fork that goes on (a signal can have a thread fork while it forks)
@@ -97,8 +97,8 @@ def refused(what: str, status: int, said: lib.Answer) -> Exception:
 
 def handle_of(what: str, text: bytes) -> lib.Handle:
     """A list that the library has read, whose memory is to be freed. Raises ListRefused if the text is none."""
-    loaded, handle, said, text = lib.library(), lib.Handle(), lib.Answer(), exact(text)
-    status = getattr(loaded, f"cmsproof_{what}_read")(handle, text, len(text), said)
+    loaded, handle, said = lib.library(), lib.Handle(), lib.Answer()
+    status = getattr(loaded, f"cmsproof_{what}_read")(handle, *of_bytes(text), said)
     if status == lib.DONE:
         return handle
     getattr(loaded, f"cmsproof_{what}_free")(handle)
@@ -147,7 +147,7 @@ class TrustList:
 
     def __init__(self, text: bytes) -> None:
         """Reads a trust list (cmsproof-lists(5)). Raises ListRefused if it is none."""
-        self.text = bytes(text)
+        self.text = plain(bytes(text))
         self.held = Held("trust", self.text)
         LISTS.add(self.held)
 

@@ -62,7 +62,7 @@ def tree_of(algorithm: str, digests: Sequence[bytes]) -> Iterator[lib.Handle]:
     """A hash tree over digests in the library's memory, for the calls of one block."""
     loaded, tree, said, name, octets = lib.library(), lib.Handle(), lib.Answer(), algorithm.encode(), b"".join(digests)
     try:
-        status = loaded.cmsproof_tree_make(tree, name, len(name), octets, len(octets), said)
+        status = loaded.cmsproof_tree_make(tree, *of_bytes(name), *of_bytes(octets), said)
         if status == lib.NO_MEMORY:
             raise MemoryError("libcmsproof was refused memory")
         if status != lib.DONE:

@@ -50,9 +50,15 @@ def is_held(descriptor: int) -> bool:
     return False
 
 
+def plain(octets: Buffer) -> bytes:
+    """The octets as `bytes`: a class that is made of that may say another length than it has."""
+    return octets if type(octets) is bytes else memoryview(octets).tobytes()
+
+
 def of_bytes(octets: bytes) -> Octets:
     """The octets of an object that lives as long as they are used."""
-    return Octets(octets, len(octets))
+    own = plain(octets)
+    return Octets(own, len(own))
 
 
 def copied(octets: Octets) -> bytes:
@@ -61,13 +67,8 @@ def copied(octets: Octets) -> bytes:
     return at if isinstance(at, bytes) else (ctypes.c_char * length).from_address(at).raw
 
 
-def exact(octets: Buffer) -> bytes:
-    """The octets of an object as `bytes` themselves: a class that is made of these may say another length than it has."""
-    return octets if type(octets) is bytes else memoryview(octets).tobytes()
-
-
 def size_of(buffer: Buffer) -> int:
-    """How many octets an object has, whatever length its class says."""
+    """How many octets an object has."""
     with memoryview(buffer) as view:
         return view.nbytes
 
@@ -89,7 +90,7 @@ def of_buffer(buffer: Buffer) -> Iterator[Octets]:
         finally:
             del held
     else:
-        yield of_bytes(exact(buffer))
+        yield of_bytes(plain(buffer))
 
 
 class File:

@@ -21,7 +21,7 @@ import cmsproof  # noqa: E402
 from cmsproof_tools import batches, renewing  # noqa: E402
 from cmsproof_tools.running import Stop  # noqa: E402
 from recorded_world import AGAIN, FILE, MADE  # noqa: E402
-from test_due import BY  # noqa: E402
+from test_due import BY, list_of, tsa  # noqa: E402
 from renewing_world import GOOD, LIST, OTHER, STRANGE, WithRecords, chains_of, now  # noqa: E402
 
 
@@ -110,6 +110,24 @@ class GoneOn(WithRecords):
         self.assertIn("state/1: one of its records ended meanwhile: its request is given up\n", err)
         first, second = (request for _, _, request in self.authority.asked)
         self.assertNotEqual(first, second)
+
+    def test_another_list_by_the_answer(self):
+        """By it the last time-stamps may have ended: no token of a run by another list is put behind them (RFC 4998 5.2, 5.3)."""
+        struck = now(-3600)
+        self.put("struck", list_of(tsa(MADE.clock, last=struck), tsa(MADE.second)))
+        left = [f"due {struck} records/{name}.ers: it ended before now, " for name in ("a", "b/c.tif", "b/d", "e")]
+        self.away()
+        status, lines, err = self.renew(trust="struck")
+        self.assertEqual((status, len(lines), all(map(str.startswith, lines, left))), (1, 4, True), (lines, err))
+        reason = "its records were looked at by another trust list: its request is given up"
+        self.assertIn(f"state/1: {reason}\n", err)
+        self.assert_nothing_done(1)
+        self.changed_run("from cmsproof_tools import batches\nbatches.free_in = lambda _: 0")
+        status, lines, err = self.renew(trust="struck")
+        self.assertEqual((status, lines, "state/1 has a token by another --trust: " in err), (3, [], True), err)
+        self.assert_as_before("a", "b/c.tif", "b/d"), self.assert_as_before("e", old=OTHER)
+        self.assertEqual((self.renew()[0], len(self.authority.asked)), (0, 2))
+        self.assert_renewed("a", "b/c.tif", "b/d"), self.assert_renewed("e", old=OTHER)
 
     def test_killed_at_random_moments(self):
         """Each record is the old one or the new one, and at the end all are renewed, by one request."""

@@ -27,7 +27,8 @@ A record that is due and stays as it is has a line, `due TIME NAME: REASON`: nob
 digest algorithm ends, and it needs another chain; or it cannot be replaced.
 
 The folder RECORDS.renewals, or that of --state, has all that was done, so that a run that was stopped is gone on with by the same words: a request
-that may have been sent is sent again, as long as its records are as they were, and a token that is there is used.
+that may have been sent is sent again, as long as its records and the trust list are as they were, and a token that is there is used, by that
+list alone.
 
 Exit status: 0 all that were due are renewed; 1 one is not, or the answer is refused; 2 one is malformed, or the answer or the trust list is; 3 wrong
 words; 4 a file, the authority, the program or the library failed.

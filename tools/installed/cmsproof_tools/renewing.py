@@ -339,6 +339,11 @@ def asked_of(given: Any) -> dict[str, str]:
     return {"records": os.path.realpath(given.records), "ends": ends, "policy": given.policy or ""}
 
 
+def sum_of(trust: Any) -> str:
+    """The SHA-256 of a trust list."""
+    return hashlib.sha256(trust.text).hexdigest()
+
+
 def names_in(batch: Batch) -> list[str]:
     """The names of the records of a batch below their folder. Ends the tool where they are none."""
     names = [os.fsdecode(name) for name in batch.read(RECORDS).split(b"\0")[:-1]]
@@ -408,8 +413,9 @@ def ask(given: Any, batch: Batch) -> None:
     batch.put(REQUEST, cmsproof.request(digest=digest, nonce=nonce, certificate=True, **words))
 
 
-def begun(tool: str, given: Any) -> Optional[Batch]:
-    """The batch that is to be gone on with, if there is one. Ends the tool where it is one of other words."""
+def begun(tool: str, given: Any, trust: Any) -> Optional[Batch]:
+    """The batch that is to be gone on with, if there is one. Ends the tool where it is one of other words, or has a token that is not to be used:
+    by another trust list the last time-stamp of a record may have ended before it, which no time-stamp mends."""
     asked = asked_of(given)
     last = last_in(given.state, asked, "records")
     if not last.has(REQUEST):
@@ -423,9 +429,12 @@ def begun(tool: str, given: Any) -> Optional[Batch]:
         raise Stop(FAILED, f"failed state {shown(last.place(TERMS))}: it is damaged")
     batch = last._replace(terms=terms)
     request_in(batch)
+    is_by_list = terms.get("trust") == sum_of(trust)
     if last.has(RESPONSE):
+        if not is_by_list:
+            raise Stop(USAGE, f"{shown(last.path)} has a token by another --trust: go on with that, or remove it")
         return batch
-    if reason := is_void(given, batch):
+    if reason := is_void(given, batch) if is_by_list else "its records were looked at by another trust list":
         tell(tool, f"{shown(batch.path)}: {reason}: its request is given up")
         batch.remove(REQUEST)
         return None
@@ -445,11 +454,11 @@ def is_void(given: Any, batch: Batch) -> str:
     return "" if is_same else "one of its records was changed"
 
 
-def new_batch(given: Any, plan: Plan, group: Group) -> Batch:
+def new_batch(given: Any, plan: Plan, group: Group, trust: Any) -> Batch:
     """A new batch of a group of records, which has no request yet."""
     batch = last_in(given.state, asked_of(given), "records")
     more = {"algorithm": group.algorithm, "after": group.after, "until": group.until, "stamps": str(len(group.firsts))}
-    batch = batch._replace(terms={**batch.terms, **more})
+    batch = batch._replace(terms={**batch.terms, **more, "trust": sum_of(trust)})
     batch.sweep(RECORDS)
     for name in (REQUEST, RESPONSE, TOKEN):
         batch.remove(name)
@@ -530,7 +539,7 @@ def renewed_all(tool: str, given: Any, plan: Plan, address: SplitResult, trust: 
         count = len(group.firsts) + len(group.others)
         if len(plan.groups) > 1:
             tell(tool, f"batch {number + 1} of {len(plan.groups)}: {count} records by {group.algorithm}")
-        batch = new_batch(given, plan, group)
+        batch = new_batch(given, plan, group, trust)
         try:
             ask(given, batch)
         except Stop as stop:
@@ -561,7 +570,7 @@ def run(tool: str, given: Any, address: SplitResult) -> int:
     check_policy(given)
     made(given.state, OWN)
     with held(given.state):
-        batch = begun(tool, given)
+        batch = begun(tool, given, trust)
         renewed = 0 if batch is None else finish(tool, given, batch, address, trust)
         plan = planned(tool, given, By(trust, dict(first_ends(given.end)), given.by))
         more, worst = renewed_all(tool, given, plan, address, trust)

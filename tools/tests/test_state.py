@@ -3,6 +3,7 @@ import argparse
 import hashlib
 import os
 import random
+import resource
 import shutil
 import sqlite3
 import subprocess
@@ -345,6 +346,25 @@ class Killed(unittest.TestCase):
         self.assertEqual(set(again), set(names) - rows_kept)
         # what was in the pipe when it was closed was printed, as far as the tool knows
         self.assertLessEqual(len(rows_kept - printed), 65536 // 20)
+
+    def test_a_disk_that_is_full_for_a_while(self):
+        """Each row has its own grounds, also where SQLite took back what it was putting, and has room again when the state is closed."""
+        path, most = folder_of(self) / "state", resource.getrlimit(resource.RLIMIT_FSIZE)
+        said = rows.Row("", "", 1, 1, "", b"", b"", 0, "accepted 20261122071759Z", "", 1)
+        # (so long that SQLite does not keep all of them until the end)
+        texts = [rows.grounds_text((("tsa", (rows.Listed(f"{at:064x}", b""),), "1.2"),), ()) + " " * 8000 for at in range(500)]
+        with self.assertRaises((Stop, sqlite3.Error)), State(str(path)) as state:
+            state.judge_by(Basis("0" * 64, "", "", ""), b"")
+            resource.setrlimit(resource.RLIMIT_FSIZE, (1 << 20, most[1]))
+            try:
+                for at, text in enumerate(texts):
+                    state.put(f"{at:03}", [said._replace(grounds=text)])
+                state.commit()
+            finally:
+                resource.setrlimit(resource.RLIMIT_FSIZE, most)
+        found = {row.name: row.grounds for row in kept(path)}
+        self.assertGreater(len(found), 0)
+        self.assertEqual([name for name in found if found[name] != texts[int(name)]], [])
 
 
 class Deciding(unittest.TestCase):

@@ -281,6 +281,16 @@ class State:
 
     def commit(self) -> None:
         """Writes for good what was put. Nobody else can write meanwhile, and before and behind it all can."""
+        try:
+            self.write()
+        except sqlite3.Error:
+            # (SQLite may have taken back the grounds that were put just now, as where the disk is full, and gives their numbers to others)
+            self.grounds.clear()
+            raise
+        self.next = time.monotonic() + SECONDS
+
+    def write(self) -> None:
+        """As `commit`, where what is known by numbers is there."""
         if self.pending:
             self.begin()
             self.database.executemany("DELETE FROM files WHERE name = ?", ((name,) for name in self.known()))
@@ -290,7 +300,6 @@ class State:
             self.pending = {}
         if self.database.in_transaction:
             self.database.execute("COMMIT")
-        self.next = time.monotonic() + SECONDS
 
     def known(self) -> Iterable[bytes]:
         """The names of the files whose rows are to be written and that may have rows: none is asked for by itself, where few stand

@@ -513,15 +513,22 @@ class Hostile(unittest.TestCase):
         self.assertFalse((self.folder / "none").exists())
 
     def test_files_that_are_no_part_of_a_new_state(self):
-        """SQLite would take them for its own, and remove them."""
+        """SQLite would take them for its own, and remove them, also where a link leads to the state. Nor is a log or a page written there."""
+        (self.folder / "link").symlink_to("new")
+        where = {"new": "new", "link": os.path.realpath(self.folder / "new")}
         for ending in ("-wal", "-shm", "-journal"):
             letter = self.folder / f"new{ending}"
-            shutil.copyfile(REAL / GOOD, letter)
-            found = run_tool("cmsproof-archive", "--trust", TRUST, "--state", "new", letter.name, cwd=self.folder)
-            line = f"cmsproof-archive: failed state new: {letter.name} is there without it, and would be lost\n"
-            self.assertEqual((found, (self.folder / "new").exists()), ((4, b"", line), False))
-            self.assertEqual(letter.read_bytes(), (REAL / GOOD).read_bytes())
-            letter.unlink()
+            for state, place in where.items():
+                shutil.copyfile(REAL / GOOD, letter)
+                found = run_tool("cmsproof-archive", "--trust", TRUST, "--state", state, letter.name, cwd=self.folder)
+                line = f"cmsproof-archive: failed state {state}: {place}{ending} is there without it, and would be lost\n"
+                self.assertEqual((found, (self.folder / "new").exists()), ((4, b"", line), False))
+                self.assertEqual(letter.read_bytes(), (REAL / GOOD).read_bytes())
+                letter.unlink()
+                words = ["--trust", TRUST, "--state", state, "--log", letter.name, REAL / GOOD]
+                self.assertEqual(run_tool("cmsproof-archive", *words, cwd=self.folder)[0], 3)
+                words = ["report", state, "--json", letter.name]
+                self.assertEqual((run_tool("cmsproof-archive", *words, cwd=self.folder)[0], letter.exists()), (3, False))
 
     def test_rows_and_tables_that_no_run_wrote(self):
         table = [

@@ -78,8 +78,9 @@ def damaged(path: str, what: str) -> Stop:
 
 
 def beside(path: str) -> list[str]:
-    """The files of a state: its own, and those that SQLite has beside it while it is written, and removes."""
-    return [path + ending for ending in ("", "-wal", "-shm", "-journal")]
+    """The files of a state: its own, and those that SQLite has beside it while it is written, and removes: where a link leads to it, there."""
+    place = os.path.realpath(path) if os.path.islink(path) else path
+    return [path, *(place + ending for ending in ("-wal", "-shm", "-journal"))]
 
 
 def checked_path(path: str, is_new: bool) -> str:

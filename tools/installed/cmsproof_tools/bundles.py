@@ -8,7 +8,7 @@ import json
 import struct
 import zipfile
 import zlib
-from typing import Any, NamedTuple, Union
+from typing import Any, Callable, NamedTuple, Union
 
 from cmsproof_tools.running import FAILED, Started, Stop, shown
 from cmsproof_tools.writing import written
@@ -79,11 +79,12 @@ def put_members(file: Any, members: dict[str, Any]) -> None:
                 written.writestr(member, members[name])
 
 
-def write_bundle(path: str, members: dict[str, Any]) -> None:
-    """Writes a bundle, whole or not at all. Raises Stop, with a line, if it cannot be written."""
+def write_bundle(path: str, members: dict[str, Any], check: Callable[[], None] = lambda: None) -> None:
+    """Writes a bundle, whole or not at all. Raises Stop, with a line, if it cannot be written, and what `check` raises once all is read."""
     try:
         with written(path, Started.descriptors) as file:
             put_members(file, members)
+            check()
     except OSError as error:
         raise Stop(FAILED, f"failed write {shown(path)}: {error.strerror}") from error
 

@@ -115,6 +115,12 @@ def how(manifest: dict[str, Any]) -> str:
     return HOW.format(options=options, content=f"{text}{content['sha256']}.", handed=" --content content.bin")
 
 
+def check_all(*files: Optional[File]) -> None:
+    """Raises Unread if the octets of one of these files may be others than they were."""
+    for file in filter(None, files):
+        check_unchanged(file)
+
+
 def make(tool: str, given: Any) -> tuple[int, str]:
     """Makes a bundle, and gives the status and the line of its verdict."""
     with ExitStack() as stack:
@@ -147,8 +153,7 @@ def make(tool: str, given: Any) -> tuple[int, str]:
             members[CONTENT] = content
         manifest["members"] = {name: summed(octets) for name, octets in members.items()}
         members[bundles.MANIFEST] = (json.dumps(manifest, indent=1) + "\n").encode()
-        check_unchanged(file)
-        bundles.write_bundle(given.to, members)
+        bundles.write_bundle(given.to, members, partial(check_all, file, beside))
         for note in found.notes:
             tell(tool, f"{shown(given.file)}: {note}")
     return status, line

@@ -4,6 +4,7 @@ from __future__ import annotations
 import json
 import time
 from contextlib import ExitStack
+from functools import partial
 from typing import Any, NamedTuple, Union
 
 import cmsproof
@@ -12,9 +13,9 @@ from cmsproof.verdicts import Said
 from cmsproof_tools import bundles
 from cmsproof_tools.archive_words import ALGORITHMS
 from cmsproof_tools.bundles import ANSWERS, CONTENT, QUESTIONS, RECORD, TRUST, VERDICT, VERIFY, Bundle, Malformed, summed
-from cmsproof_tools.checking import EVIDENCED, STATUSES, check_unchanged, opened
+from cmsproof_tools.checking import EVIDENCED, STATUSES, opened
 from cmsproof_tools.evidenced import first_ends
-from cmsproof_tools.evidence import Judged, content_of, differences, trust_of
+from cmsproof_tools.evidence import Judged, check_all, content_of, differences, trust_of
 from cmsproof_tools.running import Stop, one_line, shown
 from cmsproof_tools.texts import answers_text, is_moment
 from cmsproof_tools.verify import fault_of
@@ -115,9 +116,7 @@ def make(given: Any) -> tuple[int, str]:
             members[CONTENT] = file.octets
         manifest["members"] = {name: summed(octets) for name, octets in members.items()}
         members[bundles.MANIFEST] = (json.dumps(manifest, indent=1) + "\n").encode()
-        for one in (record, file):
-            check_unchanged(one)
-        bundles.write_bundle(given.to, members)
+        bundles.write_bundle(given.to, members, partial(check_all, record, file))
     return status, told(line)
 
 

@@ -607,6 +607,29 @@ class Hostile(unittest.TestCase):
         self.assertEqual((done.returncode, done.stderr, done.stdout[:11]), (0, "", '{"file": "a'))
         self.assertEqual(os.listdir(inside), ["st%te"])
 
+    def test_a_state_that_is_written_while_it_is_read_there(self):
+        """Nobody keeps a run from writing then, and rows may be missing in what was read: nothing is said of them."""
+        code = """
+import os
+from cmsproof_tools import report, state
+os.access, was = (lambda *_, **__: False), report.members
+def written(row, basis):
+    if MORE:
+        with state.State("new") as other:
+            other.put("z", [row])
+    report.members = was
+    return was(row, basis)
+report.members = written
+"""
+        line = "cmsproof-archive: failed state new: it was written while it was read: run this again\n"
+        for more, expected in ((0, (0, "", '{"file": "a')), (1, (4, line, ""))):
+            shutil.copyfile(self.path, self.folder / "new")
+            changed = CHANGED.format(installed=str(MODULES), code=code.replace("MORE", str(more)))
+            (self.folder / "changed.py").write_text(changed)
+            words = [sys.executable, "changed.py", "report", "new", "--json", "-"]
+            done = subprocess.run(words, cwd=self.folder, capture_output=True, text=True, check=False)
+            self.assertEqual((done.returncode, done.stderr, done.stdout[:11]), expected)
+
     def test_a_long_content_that_is_cut_while_it_is_summed(self):
         code = """
 import os, sys

@@ -157,6 +157,7 @@ def main(tool: str, words: list[str]) -> int:
                 text = module("page").page(state, given.only or "", known, records)
             else:
                 text = "".join((csv_text if name == "csv" else json_text)(state, given.only or "", known))
+            state.check_unwritten()
             write(out, text.encode("utf-8", "backslashreplace"))
     for line in () if known is None else known.left_to_tell(given.only is None):
         tell(tool, line)

@@ -17,7 +17,7 @@ from typing import Any, Iterable, Iterator, NamedTuple
 from urllib.parse import quote
 
 from cmsproof_tools.lines import parts_of
-from cmsproof_tools.rows import Decided, Ground, Linked, Row
+from cmsproof_tools.rows import Decided, Ground, Linked, Row, mark_now
 from cmsproof_tools import running
 from cmsproof_tools.running import FAILED, Stop, shown, shown_apart
 from cmsproof_tools.texts import MOMENT, is_moment
@@ -116,19 +116,20 @@ def made_of(database: sqlite3.Connection) -> list[tuple[str, str, str]]:
     return sorted(database.execute("SELECT type, name, sql FROM sqlite_master WHERE sql IS NOT NULL"), key=repr)
 
 
-def connected(path: str, is_new: bool) -> sqlite3.Connection:
+def connected(path: str, is_new: bool) -> tuple[sqlite3.Connection, str]:
     """The database at a path. In a folder where this user may make no file, SQLite reads one of its kind only as one that nobody writes,
-    which holds where no run left what is to be put into it."""
-    place, words = checked_path(path, is_new), ""
+    which holds where no run left what is to be put into it, and as long as the file has the mark that is given with it."""
+    place, words, mark = checked_path(path, is_new), "", ""
     real = os.path.realpath(place)
     if not is_new and not os.access(os.path.dirname(real), os.W_OK) and not os.path.lexists(beside(real)[1]):
-        place, words = f"file:{quote(os.fsencode(real))}", "?mode=ro&immutable=1"
-    return sqlite3.connect(place + words, timeout=60, isolation_level=None, uri=bool(words))
+        place, words, mark = f"file:{quote(os.fsencode(real))}", "?mode=ro&immutable=1", mark_now(real)
+    return sqlite3.connect(place + words, timeout=60, isolation_level=None, uri=bool(words)), mark
 
 
-def opened(path: str, is_new: bool) -> sqlite3.Connection:
-    """The database of a state, whose tables are those of this version and nothing else. It may be made if `is_new`."""
-    database = connected(path, is_new)
+def opened(path: str, is_new: bool) -> tuple[sqlite3.Connection, str]:
+    """The database of a state, whose tables are those of this version and nothing else, and its mark as in `connected`. It may be made if
+    `is_new`."""
+    database, mark = connected(path, is_new)
     if hasattr(database, "setlimit"):
         database.setlimit(0, LONGEST)  # SQLITE_LIMIT_LENGTH, which Python names from 3.11 on
     database.execute("PRAGMA trusted_schema = OFF")
@@ -143,13 +144,13 @@ def opened(path: str, is_new: bool) -> sqlite3.Connection:
             found = made_of(database)
             if found != MADE:
                 raise
-        return database
+        return database, mark
     if number != APPLICATION:
         raise damaged(path, "it is no state of cmsproof-archive")
     version = database.execute("PRAGMA user_version").fetchone()[0]
     if version != VERSION or found != MADE:
         raise damaged(path, f"it is a state of another version than {VERSION}, or has other tables: begin a new one")
-    return database
+    return database, mark
 
 
 def is_digest(octets: object, empty: bool) -> bool:
@@ -246,7 +247,7 @@ class State:
         # the rows of files that are to be written, without the name, by its octets
         self.pending: dict[bytes, list[tuple[Any, ...]]] = {}
         with told(path):
-            self.database = opened(path, is_new)
+            self.database, self.mark = opened(path, is_new)
             if is_new:
                 self.database.execute("PRAGMA journal_mode = WAL")
                 self.database.execute("PRAGMA synchronous = NORMAL")
@@ -260,6 +261,11 @@ class State:
         with told(self.path):
             self.commit()
             self.database.close()
+
+    def check_unwritten(self) -> None:
+        """Ends the tool where SQLite reads the state as one that nobody writes, and somebody did meanwhile: rows may be missing then."""
+        if self.mark and mark_now(os.path.realpath(self.path)) != self.mark:
+            raise damaged(self.path, "it was written while it was read: run this again")
 
     def number(self, table: str, text: str) -> int:
         """The number of a text in a table of texts, where it is put if it is new."""

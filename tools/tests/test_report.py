@@ -9,12 +9,14 @@ import tempfile
 import unittest
 from html.parser import HTMLParser
 from pathlib import Path
+from unittest import mock
 
 from browser import CHROMIUM, Browser
 from making import REAL, TOP, need_tools, run_tool
 
 need_tools()
 
+from cmsproof_tools import report
 from cmsproof_tools.cures import known_cures
 from cmsproof_tools.rows import NOTHING, Decided, Listed, Row, grounds_text
 from cmsproof_tools.state import Basis, State
@@ -162,6 +164,29 @@ class Report(unittest.TestCase):
         rows = [json.loads(line) for line in self.said("--json", "--only", "refused").splitlines()]
         self.assertEqual({row["verdict"] for row in rows}, {"refused"})
         self.assertEqual(len(rows), len(NAMES) // 2)
+
+    def test_a_run_that_writes_meanwhile(self):
+        """All that is said is of one moment: no row is said to be by another list, or by no policy."""
+        was = State.bases
+        said = Row("a", "", 1, 1, "", b"", b"", 0, "accepted 20261122071759Z", NOTHING[5], 1)
+
+        def put(name, policy):
+            with State(str(state)) as other:
+                other.judge_by(Basis("a" * 64, "", policy, "x"), b"")
+                other.put(name, [said])
+
+        def meanwhile(one):
+            found = was(one)
+            put("later.p7s", "--sha1")
+            return found
+
+        for out in ("--json", "--csv", "--html"):
+            state = self.folder / f"meanwhile{out}"
+            put("a", "")
+            with mock.patch.object(State, "bases", meanwhile):
+                self.assertEqual(report.main("report", [str(state), out, str(self.folder / "out")]), 0)
+            text = (self.folder / "out").read_text()
+            self.assertEqual((text.count("a" * 64), "later.p7s" in text), (1, False), out)
 
     def test_words(self):
         for words in ([], ["state"], ["state", "--html"], ["state", "--only", "good", "--csv", "-"]):

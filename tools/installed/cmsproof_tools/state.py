@@ -253,6 +253,8 @@ class State:
                 self.database.execute("PRAGMA synchronous = NORMAL")
             else:
                 self.database.execute("PRAGMA query_only = ON")
+                # (all that is read is of one moment: a row, by what it was judged, and which other files there are)
+                self.database.execute("BEGIN")
 
     def __enter__(self) -> State:
         return self

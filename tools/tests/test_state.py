@@ -269,6 +269,19 @@ class Again(unittest.TestCase):
             said = subprocess.run([PROGRAM, *words], capture_output=True, check=False)
             self.assertEqual((said.returncode, said.stdout.decode()), (row.status, row.line + "\n"))
 
+    def test_another_library_of_the_same_number(self):
+        """What one accepted may be what the next one was mended for."""
+        folder, words = folder_of(self), ["--trust", TRUST, "--state", "state", "--jobs", "1", REAL / GOOD]
+        shutil.copytree(MODULES, folder / "code", ignore=shutil.ignore_patterns("__pycache__"))
+        (folder / "run.py").write_text(CHANGED.format(installed=str(folder / "code"), code=""))
+        for changed, judged in ((False, True), (False, False), (True, True), (False, False)):
+            if changed:
+                # (what stands behind a library is not read)
+                with open(folder / "code" / "cmsproof" / "libcmsproof.so.1", "ab") as library:
+                    library.write(b"\0")
+            status, out, err = run_tool(folder / "run.py", *words, cwd=folder)
+            self.assertEqual((status, b"accepted" in out, "1 are as before" in err), (0, judged, not judged), err)
+
     def test_what_a_verdict_hangs_on(self):
         entries = [line.split()[-1] for line in TRUST.read_text().splitlines() if line.startswith(("signer ", "tsa "))]
         sums = {hashlib.sha256(bytes.fromhex(entry)).hexdigest() for entry in entries}

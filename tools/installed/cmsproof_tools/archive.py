@@ -264,7 +264,7 @@ def resumed(tool: str, given: Any, stack: ExitStack, work: Work, known: Known | 
     state = stack.enter_context(State(given.state))
     words = [f"--{name}" for name in ("sha1", "partial", "stamps") if getattr(given, name)]
     policy = " ".join([*words, *(work.records.words() if work.records is not None else [])])
-    basis = Basis(hashlib.sha256(trusted).hexdigest(), content.hex(), policy, module("versions").versions_text())
+    basis = Basis(hashlib.sha256(trusted).hexdigest(), content.hex(), policy, module("versions").versions_kept())
     state.judge_by(basis, trusted)
     return Resume(tool, state, given, work, known), work._replace(noting=Noting(keys_of(trusted), content, {}))
 

@@ -9,7 +9,7 @@ import platform
 import cryptography
 from cryptography.hazmat.backends.openssl.backend import backend
 
-from cmsproof.library import library
+from cmsproof.library import SONAME, library
 from cmsproof_tools import VERSION
 
 HERE = pathlib.Path(__file__).resolve().parent
@@ -36,6 +36,18 @@ def digest_of_code() -> str:
     return digest.hexdigest()[:12]
 
 
+def digest_of_library() -> str:
+    """The first digits of a SHA-256 of the library's file, for the same reason: its number stays as long as its calls do. No text where nobody
+    says which file it is."""
+    library()
+    try:
+        with open("/proc/self/maps", encoding="utf-8", errors="surrogateescape") as maps:
+            paths = [line.rstrip("\n").split(" ", 5)[5].lstrip(" ") for line in maps if f"/{SONAME}" in line]
+        return hashlib.sha256(pathlib.Path(paths[0]).read_bytes()).hexdigest()[:12]
+    except (OSError, IndexError):
+        return ""
+
+
 def versions() -> dict[str, str]:
     """The versions by the names of what has them."""
     number = library().cmsproof_version()
@@ -52,6 +64,11 @@ def versions() -> dict[str, str]:
 def versions_text() -> str:
     """The versions on one line."""
     return ", ".join(f"{name} {version}" for name, version in versions().items())
+
+
+def versions_kept() -> str:
+    """The versions by which a state says that rows were judged, on one line. (Workers elsewhere may have a library of another machine.)"""
+    return f"{versions_text()}, {SONAME} {digest_of_library()}"
 
 
 # what was said first, when the code was read that this process has

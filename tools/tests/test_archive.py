@@ -175,6 +175,17 @@ class Lines(WithFiles):
         ]
         for words, said, line in rows:
             self.assertEqual(self.run_archive(*words, said=said), (3, [], f"cmsproof-archive: {line}{see}"))
+        by_list, trusted = ["--trust", "list"], (self.folder / "list").read_bytes()
+        for words, said in (
+            ([*by_list, "-", "-"], b"a\n"),
+            ([*by_list, "--files-from", "-", "-"], b"a\n"),
+            ([*by_list, "--pairs-from", "-", "--files-from", "-"], b"a\tb\n"),
+            (["due", *by_list, "--months", "1", "-", "-"], b"a\n"),
+            (["--trust", "/dev/stdin", "a", "-"], trusted),
+        ):
+            found = run_tool("cmsproof-archive", *words, said=said, cwd=self.folder)
+            twice = "cmsproof-archive: standard input is named twice, and can be read once\n"
+            self.assertEqual(found, (3, b"", twice), words)
         status, out, err = run_tool("cmsproof-archive", "a")
         self.assertEqual((status, out, err), (3, b"", f"cmsproof-archive: the following arguments are required: --trust{see}"))
         missing = "cmsproof-archive: failed open missing: No such file or directory\n"

@@ -37,10 +37,10 @@ class Stop(Exception):
 
 
 class Started:
-    """What a tool was started with: its open descriptors. And whether a line on standard error was lost."""
+    """What a tool was started with: its open descriptors. And whether standard input was read, and a line on standard error was lost."""
 
     descriptors: frozenset[int] = frozenset()
-    lost = False
+    emptied = lost = False
 
 
 @lru_cache(maxsize=None)
@@ -100,11 +100,14 @@ def shown_apart(name: str, part: str) -> str:
 
 
 def read(path: str) -> bytes:
-    """The octets of a file; `-` is standard input. A descriptor that a path names is one that the tool was started with."""
+    """The octets of a file; `-` is standard input. A descriptor that a path names is one that the tool was started with. Ends the tool where
+    standard input was read before: nothing is left of it, and what it should name would be left out."""
     done = "open"
     try:
         if path == "-":
-            done = "read"
+            if Started.emptied or 0 in descriptors.COPIES:
+                raise Stop(USAGE, "standard input is named twice, and can be read once")
+            done, Started.emptied = "read", True
             return b"".join(descriptors.pieces_of(0))
         if descriptors.number_named(path) not in {None, *Started.descriptors}:
             raise OSError(errno.ENOENT, os.strerror(errno.ENOENT))

@@ -147,7 +147,13 @@ class Trusting(unittest.TestCase):
         first, second, trusted = self.pem("alice"), self.pem("bob"), f / "trusted.pem"
         openssl("x509", "-in", f / "alice.pem", "-trustout", "-addtrust", "clientAuth", "-out", trusted)
         hidden = "another certificate begins in it, which is not read here, but is elsewhere"
+        # (of a certificate in DER with one in PEM behind it `openssl x509` shows the first one, and `keytool` looks at no label)
+        beside = "another certificate may be in it, in DER or under another label, which is not read here, but is elsewhere"
         rows = [
+            (self.alice + second, 2, beside),
+            (second + self.alice, 2, beside),
+            (bytes([0x30, 0x80]) + self.alice[4:] + bytes(2) + second, 2, beside),
+            (first.replace(b" CERTIFICATE", b" LETTER") + second, 2, beside),
             (first + second, 1, several.format(2)),
             (second + b"x" + first, 1, several.format(2)),
             (first + second + self.pem("authority") + second, 1, several.format(3)),

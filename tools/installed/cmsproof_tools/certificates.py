@@ -6,6 +6,7 @@ import hashlib
 import re
 import warnings
 from functools import cached_property
+from typing import Callable
 
 from cryptography import x509
 from cryptography.utils import CryptographyDeprecationWarning
@@ -24,6 +25,9 @@ warnings.filterwarnings("ignore", message="Country names should be two character
 BLOCK = re.compile(rb"-----BEGIN (?:X509 )?CERTIFICATE-----(.*?)-----END (?:X509 )?CERTIFICATE-----", re.DOTALL)
 # where another program may find one, as OpenSSL does behind BEGIN TRUSTED CERTIFICATE
 BEGIN = re.compile(rb"-----BEGIN [^\n]*?CERTIFICATE *-----")
+# a block under any label, as Java reads it; and what no text has, but each certificate and each list in DER, as the identifier octet of an
+# object identifier
+ANY, NO_TEXT = re.compile(rb"-----BEGIN [^\n-]*-----([^-]*)-----END "), re.compile(rb"[\x01-\x08\x0e-\x19]")
 EXTENSIONS, TRUE, FALSE, VERSION, KEY_IDENTIFIER = 0xA3, b"\xff", b"\0", 0xA0, 0x80
 SUBJECT_KEY_IDENTIFIER, BASIC_CONSTRAINTS, EXTENDED_KEY_USAGE = "2.5.29.14", "2.5.29.19", "2.5.29.37"
 KEY_USAGE, BITS, DIGITAL_SIGNATURE_OR_NON_REPUDIATION = "2.5.29.15", 0x03, 0xC0
@@ -195,9 +199,23 @@ def serial_text(number: int) -> str:
     return number.to_bytes(number.bit_length() // 8 + 1, "big", signed=True).hex()
 
 
-def decoded(block: bytes) -> Certificate:
-    """The certificate that a block of PEM holds. Raises ValueError where it holds none."""
-    return Certificate(base64.b64decode(b"".join(block.split()), validate=True))
+def octets_in(block: bytes) -> bytes:
+    """The octets that a block of PEM holds. Raises ValueError where it is none."""
+    return base64.b64decode(b"".join(block.split()), validate=True)
+
+
+def is_in(block: bytes, is_one: Callable[[bytes], object]) -> bool:
+    """Whether a block of PEM holds what is looked for."""
+    try:
+        return bool(is_one(octets_in(block)))
+    except ValueError:
+        return False
+
+
+def others_beside(octets: bytes, blocks: re.Pattern[bytes], is_one: Callable[[bytes], object]) -> bool:
+    """Whether around the blocks of a file stands what may be another one in DER, or is one under another label."""
+    rest = blocks.sub(b"\n", octets)
+    return bool(NO_TEXT.search(rest)) or any(is_in(block, is_one) for block in ANY.findall(rest))
 
 
 def certificate_in_der(octets: bytes) -> Certificate | None:
@@ -224,10 +242,14 @@ def certificates_in(octets: bytes) -> list[Certificate]:
     found = []
     for number, block in enumerate(blocks or [octets], start=1):
         try:
-            found.append(decoded(block) if blocks else Certificate(octets))
+            found.append(Certificate(octets_in(block) if blocks else octets))
         except ValueError as error:
             what = f"certificate {number} is none" if blocks else "it is no certificate in PEM or DER"
             raise ValueError(f"{what}: {error}") from error
     if blocks and len(BEGIN.findall(octets)) > len(blocks):
         raise ValueError("another certificate begins in it, which is not read here, but is elsewhere")
+    if blocks and others_beside(octets, BLOCK, certificate_in_der):
+        raise ValueError(
+            "another certificate may be in it, in DER or under another label, which is not read here, but is elsewhere"
+        )
     return found

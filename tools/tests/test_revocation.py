@@ -3,7 +3,7 @@ import os
 import shutil
 import unittest
 
-from issuing_world import ALWAYS, AT, CLOCK_AT, h
+from issuing_world import ALWAYS, AT, CLOCK_AT, h, list_pem, pem
 from making import folder_of
 from test_issuers import JARS, WithWorld, said_by_bouncy_castle
 
@@ -230,10 +230,30 @@ class Revoking(WithWorld):
             with self.assertRaises(Stop) as stop:
                 w.made([w.file()], lists=[octets])
             self.assertEqual(stop.exception.status, 2)
+        self.check_beside(folder)
         # (one that is called so is a list of the folder where the tool runs, and not standard input)
         (folder / "0.crl").rename(folder / "-"), self.addCleanup(os.chdir, os.getcwd()), os.chdir(folder)
         periods, told = w.periods(w.anna, [w.file()], folders=["."])
         self.assertEqual((periods, len(told)), ([(ALWAYS[0], NEXT)], 1), told)
+
+    def check_beside(self, folder):
+        """A list in DER beside one in PEM, as `cat *.crl` writes them, or under another label, as certutil does, is not passed over."""
+        from cmsproof_tools.running import Stop
+
+        w, old = self.world, list_pem(h.revocation_list(self.world.sub))
+        new = h.revocation_list(w.sub, [(w.anna, "2024-04-15", "keyCompromise", None)])
+        labelled = [list_pem(new).replace(b"X509 CRL", label) for label in (b"CRL", b"CERTIFICATE", b"NEW X509 CRL")]
+        for other in (new, *labelled):
+            for octets in (old + other, other + old):
+                (folder / "both.pem").write_bytes(octets)
+                for more in ({"lists": [octets]}, {"folders": [str(folder)]}):
+                    with self.assertRaisesRegex(Stop, "another list") as stop:
+                        w.made([w.file()], **more)
+                    self.assertEqual(stop.exception.status, 2)
+        # (what else such files have may be there)
+        (folder / "both.pem").write_bytes(b"0 of Sub\n" + old + pem(w.sub) + "\tgültig\r\n".encode() + list_pem(new))
+        self.assertEqual(w.periods(w.anna, [w.file()], folders=[str(folder)])[0], [])
+        (folder / "both.pem").unlink()
 
 
 class Responses(WithWorld):

@@ -22,14 +22,15 @@ from typing import Any, Callable, Iterable, Iterator, NamedTuple, Optional
 from cryptography import x509
 
 from cmsproof_tools import der
-from cmsproof_tools.certificates import Certificate, certificates_in, name_key
+from cmsproof_tools.certificates import Certificate, certificates_in, name_key, octets_in, others_beside
 from cmsproof_tools.paths import Broken, OpenSSL, Path, Row
 from cmsproof_tools.periods import OPEN, Period, just_before, moment_of, utc
 from cmsproof_tools.running import shown
 from cmsproof_tools.signatures import is_under, is_weak, signed_in
 from cmsproof_tools.texts import in_order, time_in
 
-BEGIN = b"-----BEGIN X509 CRL-----"
+# where a list may begin, also by a label that nobody reads here (RFC 7468 6)
+BEGIN = re.compile(rb"-----BEGIN [^\n-]*CRL *-----")
 BLOCK = re.compile(rb"-----BEGIN X509 CRL-----(.*?)-----END X509 CRL-----", re.DOTALL)
 DELTA, EXPIRED_ON_LIST, DISTRIBUTION, CERTIFICATE_ISSUER = "2.5.29.27", "2.5.29.60", "2.5.29.28", "2.5.29.29"
 DISTRIBUTION_POINTS, POINT_NAME = "2.5.29.31", 0xA0
@@ -213,17 +214,26 @@ def list_fault(openssl: OpenSSL, octets: bytes, row: Row) -> str:
 
 def lists_in(name: str, octets: bytes) -> Iterator[bytes]:
     """The lists of a file, each in DER: one in DER, or all that are there in PEM. Raises ValueError where none is."""
-    if BEGIN in octets and is_element(octets):
+    begins, blocks = len(BEGIN.findall(octets)), BLOCK.findall(octets)
+    if begins and is_element(octets):
         raise ValueError("another list begins in it, as a text")
-    blocks = BLOCK.findall(octets)
-    if not blocks and BEGIN not in octets and b"-----BEGIN " in octets:
+    if not begins and b"-----BEGIN " in octets:
         raise ValueError("no revocation list is in it, but other PEM")
-    if octets.count(BEGIN) > len(blocks):
-        raise ValueError("another list begins in it, and does not end")
-    for block in blocks:
-        yield base64.b64decode(b"".join(block.split()), validate=True)
+    if begins > len(blocks):
+        raise ValueError("another list begins in it, and does not end, or has another label than X509 CRL")
+    if blocks and others_beside(octets, BLOCK, is_list):
+        raise ValueError("another list may be in it, in DER or under another label")
+    yield from map(octets_in, blocks)
     if not blocks:
         yield octets
+
+
+def is_list(octets: bytes) -> bool:
+    """Whether octets are a list in DER."""
+    try:
+        return is_element(octets) and x509.load_der_x509_crl(octets) is not None
+    except Exception:  # whatever the library says, it is none that another program reads
+        return False
 
 
 def is_element(octets: bytes) -> bool:
@@ -237,7 +247,7 @@ def is_element(octets: bytes) -> bool:
 def is_meant(name: str, octets: bytes) -> bool:
     """Whether octets that cannot be read as a list were meant as one: by the name of their file, or since they begin as one, or as a
     certificate that they are not, which is how certutil writes a list."""
-    if BEGIN in octets or name.lower().endswith(".crl"):
+    if BEGIN.search(octets) or name.lower().endswith(".crl"):
         return True
     try:
         begun = octets[:1] == b"\x30" or b"-----BEGIN CERTIFICATE" in octets

@@ -162,6 +162,8 @@ class Lines(WithFiles):
             (["-"], b"", "no file is named"),
             (["-"], b"\n\n", "no file is named"),
             (["--jobs", "0", "a"], b"", "argument --jobs: 0 is no number from 1 on"),
+            (["--trust", "other", "a"], b"", "--trust is said twice"),
+            (["--content", "a", "--content", "b", "a"], b"", "--content is said twice"),
             (["--jobs", "-1", "a"], b"", "argument --jobs: -1 is no number from 1 on"),
             (["--jobs", "x", "a"], b"", "argument --jobs: x is no number from 1 on"),
             (["--quick", "a"], b"", "unrecognized arguments: --quick"),

@@ -112,6 +112,29 @@ class Lists(unittest.TestCase):
             [(FIRST, "20220101000000Z"), ("20230101000000Z", "20240501000000Z")],
         )
 
+    def test_other_words(self):
+        """None is left out without a word, as a period would be, or a list that a second --merge names."""
+        one, other = (self.list(name, ("signer", "-", last, self.anna)) for name, last in (("one", LAST), ("other", "-")))
+        alone = (3, [], "cmsproof-trust: --explain, --diff and --merge go with no other word (see cmsproof-trust --help)\n")
+        for words in (
+            ["--merge", one, other, "--until", FIRST],
+            ["--merge", one, "--signer", one],
+            ["--merge", one, "--issuer", one, "--crl", one],
+            ["--diff", one, one, "--sha1"],
+            ["--diff", one, one, "--explain", one],
+            ["--explain", one, "--all"],
+        ):
+            self.assertEqual(self.said(*words), alone, words)
+        for words in (["--merge", one, "--merge", other], ["--merge", other, "--merge", one]):
+            self.assertEqual(self.entries(self.said(*words)[1]), [("signer", "-", LAST, "anna")], words)
+        for words, twice in (
+            (["--signer", one, "--until", FIRST, "--tsa", one, "--until", LAST], "--until"),
+            (["--explain", one, "--explain", other], "--explain"),
+            (["--diff", one, other, "--diff", one, one], "--diff"),
+        ):
+            line = f"cmsproof-trust: {twice} is said twice (see cmsproof-trust --help)\n"
+            self.assertEqual(self.said(*words), (3, [], line), words)
+
     def test_lists_that_are_none(self):
         good, bad = self.list("good", ("signer", "-", "-", self.anna)), self.folder / "bad"
         bad.write_text("cmsproof trust 2\nsigner - - 3000\n")

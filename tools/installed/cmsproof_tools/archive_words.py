@@ -76,7 +76,7 @@ def moment_of(text: str) -> int:
 
 def add_contents(parser: Words) -> None:
     """The words that say which files are contents, and what a signature may leave out."""
-    parser.add_argument("--content", metavar="FILE", help="the content, where the files do not hold it")
+    parser.add_argument("--content", action="once", metavar="FILE", help="the content, where the files do not hold it")
     usual = "the content of a file that ends in SUFFIX is beside it and ends in ENDING; `.p7s=`, `.p7m=` and `.sig=` by default"
     parser.add_argument("--pair", action="append", default=[], type=pair_of, metavar="SUFFIX=ENDING", help=usual)
     alone = "no file beside another one is its content, unless a list says so"
@@ -152,7 +152,7 @@ def add_state(parser: Words) -> None:
 def parser_of(tool: str) -> Words:
     """The parser of the words."""
     parser = Words(tool, description=ABOUT)
-    parser.add_argument("--trust", metavar="LIST", help="the trust list, which is read once")
+    parser.add_argument("--trust", action="once", metavar="LIST", help="the trust list, which is read once")
     add_words(parser, several=False)
     parser.add_argument("--write-trust", metavar="FILE", help="with an issuer: the list that was made and used")
     add_contents(parser)

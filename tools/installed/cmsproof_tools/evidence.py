@@ -261,8 +261,9 @@ def verify(tool: str, given: Any) -> tuple[int, str]:
 def parser_of(tool: str) -> Words:
     """The parser of the words."""
     parser = Words(tool, description=ABOUT)
-    parser.add_argument("--trust", metavar="LIST", help="the trust list; with --verify yours, which that of the bundle must be")
-    parser.add_argument("--content", metavar="FILE", help="the content, if the file does not hold it, or the bundle")
+    mine = "the trust list; with --verify yours, which that of the bundle must be"
+    parser.add_argument("--trust", action="once", metavar="LIST", help=mine)
+    parser.add_argument("--content", action="once", metavar="FILE", help="the content, if the file does not hold it, or the bundle")
     parser.add_argument("--sha1", action="store_true", help="allow SHA-1 as a digest of contents and stamped signatures")
     parser.add_argument(
         "--record", metavar="FILE", help="make a bundle of this evidence record (RFC 4998), which is of the file"

@@ -39,7 +39,7 @@ def add_words(parser: argparse.ArgumentParser, several: bool) -> None:
         more: dict[str, Any] = {"action": "extend", "nargs": "+"} if several else {"action": "append"}
         parser.add_argument(word, default=[], metavar="DIR" if word == "--crl-dir" else "FILE", help=what, **more)
     operator = "the certificate under which trusted lists are signed; without it nobody verifies that"
-    parser.add_argument("--scheme-operator", metavar="FILE", help=operator)
+    parser.add_argument("--scheme-operator", action="once", metavar="FILE", help=operator)
 
 
 def names_issuers(given: argparse.Namespace) -> bool:

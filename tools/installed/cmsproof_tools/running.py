@@ -61,11 +61,24 @@ class Help(argparse.RawDescriptionHelpFormatter):
         super().__init__(prog, width=columns() - 2)
 
 
+class Once(argparse.Action):
+    """What a word says that may be said once, as the program has it: of two values nobody knows which one is meant."""
+
+    def __call__(
+        self, parser: argparse.ArgumentParser, namespace: argparse.Namespace, values: Any, option_string: str | None = None
+    ) -> None:
+        """Takes the value. Ends the tool where there is one already."""
+        if getattr(namespace, self.dest) is not self.default:
+            parser.error(f"{option_string} is said twice")
+        setattr(namespace, self.dest, values)
+
+
 class Words(argparse.ArgumentParser):
     """The parser of a tool's words: wrong ones give one line and the status of the program."""
 
     def __init__(self, tool: str, **rest: Any) -> None:
         super().__init__(prog=tool, allow_abbrev=False, formatter_class=Help, **rest)
+        self.register("action", "once", Once)
         self.add_argument("--version", action="version", version=f"{tool} {VERSION}")
 
     def error(self, message: str) -> NoReturn:

@@ -62,7 +62,7 @@ def parser_of(tool: str) -> Words:
     into = f"the folder of the records, FOLDER{RECORDS} by default, which is made if it is not there"
     parser.add_argument("--into", metavar="DIR", help=into)
     add_authority(parser, f"FOLDER{STAMPS}")
-    parser.add_argument("--trust", metavar="LIST", help="the trust list that has the authority")
+    parser.add_argument("--trust", action="once", metavar="LIST", help="the trust list that has the authority")
     add_ends(parser, ", with --trust")
     digest = "the digest algorithm, sha256 by default"
     parser.add_argument("--alg", choices=ALGORITHMS, default="sha256", metavar="NAME", help=digest)

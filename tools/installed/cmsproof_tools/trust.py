@@ -36,6 +36,8 @@ refuses the tokens under it, and of one that is an issuer's.
 Exit status: 0 done; 1 a file has several certificates, or one that is no issuer's, two lists differ, or two trusted lists are of one
 territory; 2 a file does not have the form of what it was named as; 3 wrong words; 4 a file, a library or OpenSSL failed.
 """
+# the words about lists, each of which is said alone
+LISTS = {"explain", "diff", "merge"}
 
 
 class Entry(NamedTuple):
@@ -62,6 +64,15 @@ def named_as(role: str) -> Callable[[str], tuple[str, str]]:
     return lambda path: (role, path)
 
 
+def add_lists(parser: Words) -> None:
+    """The words about lists."""
+    parser.add_argument("--explain", action="once", metavar="LIST", help="show a trust list as a table")
+    differ = "show where two trust lists differ; status 1 if they do"
+    parser.add_argument("--diff", action="once", nargs=2, metavar=("OLD", "NEW"), help=differ)
+    merge = "write one list of several: a certificate is trusted when all that have it do"
+    parser.add_argument("--merge", action="extend", nargs="+", metavar="LIST", help=merge)
+
+
 def parser_of(tool: str) -> Words:
     """The parser of the words."""
     parser = Words(tool, description=ABOUT)
@@ -85,19 +96,11 @@ def parser_of(tool: str) -> Words:
     )
     parser.add_argument("--null", action="store_true", help="names in lists end in an octet 00, as find -print0 writes them")
     parser.add_argument("--sha1", action="store_true", help="allow SHA-1 in certificates, lists, responses and stamps")
-    parser.add_argument("--explain", metavar="LIST", help="show a trust list as a table")
-    parser.add_argument(
-        "--diff", nargs=2, metavar=("OLD", "NEW"), help="show where two trust lists differ; status 1 if they do"
-    )
-    parser.add_argument(
-        "--merge",
-        nargs="+",
-        metavar="LIST",
-        help="write one list of several: a certificate is trusted when all that have it do",
-    )
+    add_lists(parser)
     parser.add_argument("--all", action="store_true", help="take each certificate of a file that has several")
-    parser.add_argument("--from", dest="first", type=moment, metavar="TIME", help="the first moment of trust; open by default")
-    parser.add_argument("--until", dest="last", type=moment, metavar="TIME", help="the last moment of trust; open by default")
+    for word, name in (("--from", "first"), ("--until", "last")):
+        when = f"the {name} moment of trust; open by default"
+        parser.add_argument(word, dest=name, action="once", type=moment, metavar="TIME", help=when)
     return parser
 
 
@@ -139,18 +142,22 @@ def lines_of(entries: list[Entry], first: str, last: str) -> Iterator[str]:
         yield f"{entry.role} {first} {last} {entry.certificate.octets.hex()}"
 
 
-def compared(tool: str, given: argparse.Namespace) -> int | None:
+def compared(tool: str, parser: Words, given: argparse.Namespace) -> int | None:
     """Does what is asked about lists, and answers the exit status; None where nothing is asked."""
-    lists = module("comparing_lists") if given.explain or given.diff or given.merge else None
-    if lists is None:
+    said = {name for name, value in vars(given).items() if value != parser.get_default(name)}
+    if not said & LISTS:
         return None
-    if given.merge:
+    # (a period, or an issuer, would be left out without a word)
+    if len(said) > 1:
+        parser.error("--explain, --diff and --merge go with no other word")
+    lists = module("comparing_lists")
+    if given.merge is not None:
         text, told = lists.merged(given.merge)
         for line in told:
             tell(tool, line)
         write("-", text)
         return DONE
-    lines = list(lists.explained(given.explain) if given.explain else lists.differing(*given.diff))
+    lines = list(lists.differing(*given.diff) if given.diff else lists.explained(given.explain))
     write("-", "".join(line + "\n" for line in lines).encode("utf-8", "surrogateescape"))
     return REFUSED if given.diff and lines else DONE
 
@@ -185,7 +192,7 @@ def main(tool: str, words: list[str]) -> int:
     """Runs the tool with these words and answers its exit status."""
     parser = parser_of(tool)
     given = parser.parse_args(words)
-    status = compared(tool, given)
+    status = compared(tool, parser, given)
     if status is not None:
         return status
     by_issuer = check_words(parser, given)

@@ -306,7 +306,10 @@ class Lists(WithWorld):
 
         odd = '<Strange xmlns="http://example.org/"/>'
         known = '<Qualifications xmlns="http://uri.etsi.org/TrstSvc/SvcInfoExt/eSigDir-1999-93-EC-TrustedList/#"/>'
-        for name, critical, good in [(odd, "false", 1), (odd, "true", 0), (odd, "1", 0), ("", "true", 0), (known, "true", 1)]:
+        # (one has two elements, and the next one none)
+        several = f'{known * 2}</Extension><Extension Critical="true">urn:strange'
+        rows = [(odd, "false", 1), (odd, "0", 1), (odd, "true", 0), (odd, "1", 0), (odd, "TRUE", 0), ("", "true", 0)]
+        for name, critical, good in [*rows, (known, "true", 1), (several, "true", 0)]:
             octets = document(service("CA/QC", w.sub, more=extension(name, critical)), clock)
             self.assertEqual(list(form_faults(octets)), [])
             self.assertEqual(len(self.said(octets.encode())[1]), 1 + good, (name, critical))

@@ -164,9 +164,9 @@ def time_in(text: str) -> datetime:
 
 def is_strange(found: ElementTree.Element) -> bool:
     """Whether what is said has a critical extension that is not known: then it is not to be believed (5.3.17, 5.4.6, 5.5.9)."""
-    critical = [part for part in found.iter(LIST + "Extension") if part.get("Critical", "").strip() in ("true", "1")]
-    names = [part.tag.rpartition("}")[2] for extension in critical for part in extension] if critical else []
-    return len(names) < len(critical) or not set(names) <= set(EXTENSIONS)
+    critical = [part for part in found.iter(LIST + "Extension") if part.get("Critical", "0").strip() not in ("false", "0")]
+    names = [{part.tag.rpartition("}")[2] for part in extension} for extension in critical]
+    return any(not known or not known <= set(EXTENSIONS) for known in names)
 
 
 def states_of(service: ElementTree.Element) -> Iterator[State]:

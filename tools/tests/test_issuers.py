@@ -224,6 +224,21 @@ class Paths(WithWorld):
         who = self.world.by_sha1(self.world.sub)
         self.assertEqual(self.got(who, self.world.file(who), sha1=True), ([ALWAYS], []))
 
+    def test_sha1_where_openssl_allows_it(self):
+        """An OpenSSL can be built so that its level 1 allows SHA-1: `--sha1` alone does here."""
+        w, folder = self.world, folder_of(self)
+        who = w.by_sha1(w.sub)
+        changed = 'words=("$@"); for at in "${!words[@]}"; do [ "${words[at]}" = -auth_level ] && words[at+1]=0; done'
+        (folder / "openssl").write_text(f'#!/bin/bash\n{changed}\nexec {shutil.which("openssl")} "${{words[@]}}"\n')
+        (folder / "openssl").chmod(0o755)
+        words = ["--issuer", w.put("root.pem", w.root), "--tsa-issuer", w.put("clocks.pem", w.clocks)]
+        words += ["--from-files", w.put("file.p7s", w.file(who))]
+        for more, lines in (([], 0), (["--sha1"], 1)):
+            environment = {**os.environ, "PATH": f"{folder}:{os.environ['PATH']}"}
+            status, out, err = run_tool("cmsproof-trust", *words, *more, env=environment)
+            self.assertEqual((status, out.count(b"\nsigner ")), (0, lines), err)
+            self.assertIn("" if lines else "it is signed by SHA-1, which --sha1 allows", err)
+
     def test_cross_signed(self):
         """An issuer with two certificates, and only one of their roots is trusted."""
         w, other = self.world, h.root("Other root")

@@ -22,7 +22,7 @@ from cmsproof_tools import der
 from cmsproof_tools.certificates import DOCUMENTS, STAMPS, Certificate, sid_of
 from cmsproof_tools.periods import Period, seconds_of
 from cmsproof_tools.running import FAILED, Stop
-from cmsproof_tools.signatures import LEAST_BITS, is_signed, is_small, signed_in
+from cmsproof_tools.signatures import LEAST_BITS, is_signed, is_small, is_weak, signed_in
 from cmsproof_tools.verifying import Unjudged
 
 # How many certificates a path has at most, how many paths are judged for one certificate, and how many steps find them, for one
@@ -294,8 +294,8 @@ class Judge:
             self.periods[issuer.octets].append(period)
         # the rows that hold for a purpose while all of them are valid
         self.held: set[tuple[tuple[bytes, ...], str]] = set()
-        # (level 1 refuses signatures of certificates by SHA-1)
-        self.level = ["-auth_level", "0" if sha1 else "1"]
+        # (level 1 refuses signatures of certificates by SHA-1, but where who built OpenSSL has it otherwise)
+        self.sha1, self.level = sha1, ["-auth_level", "0" if sha1 else "1"]
 
     def options(self, moment: str, purpose: str) -> list[str]:
         """OpenSSL's words about what is asked. Raises Broken where it has no such time."""
@@ -325,11 +325,18 @@ class Judge:
         except Broken:
             pass  # each is judged by itself then, and has its own line
 
+    def check_digests(self, row: Row) -> None:
+        """Raises Broken where a certificate of a row is signed by SHA-1 and that is not allowed."""
+        for certificate in row[:-1]:
+            if is_weak(signed_in(certificate.octets).algorithm, self.sha1):
+                raise Broken(f"{certificate.name_text('subject')}: it is signed by SHA-1, which --sha1 allows")
+
     def judged(self, row: Row, moment: str, purpose: str) -> Path:
         """The path of a row that was checked. Raises Broken where it does not hold at the moment."""
         options = self.options(moment, purpose)
         if (key_of(row), purpose) not in self.held or not Path(row).period().has(moment):
             self.openssl.verify(row, options)
+        self.check_digests(row)
         period = next((period for period in self.periods[row[-1].octets] if period.has(moment)), None)
         if period is None:
             raise Broken(f"{row[-1].name_text('subject')}: it is not trusted as an issuer then")
@@ -354,6 +361,7 @@ class Judge:
             try:
                 if not period.is_none():
                     check_row(row, purpose)
+                    self.check_digests(row)
                     if (key_of(row), purpose) not in self.held:
                         self.openssl.verify(row, self.options(period.first, purpose))
                     return path

@@ -190,6 +190,17 @@ class Folders(WithMaker):
             self.assertEqual((status, len(rows)), (2, 0) if expected else (0, 3), err)
             self.assertEqual(err.splitlines(), [f"cmsproof-archive: {expected}"] if expected else [])
 
+    def test_carriage_returns_in_a_list_of_pairs(self):
+        """A line ends in CR LF if all do, as in a list of names; else the CR is the end of a name, which another file may lack."""
+        signed = self.maker.signed(LETTER)
+        self.put("x.p7s", signed), self.put("y.p7s", signed), self.put("a", LETTER), self.put("a\r", b"I owe a million")
+        rows = [("\n", "\n", "accepted"), ("\r\n", "\r\n", "accepted"), ("\r\n", "\n", "refused signer 1 S6")]
+        for first, second, line in rows:
+            (self.folder / "pairs").write_bytes(f"archive/x.p7s\tarchive/a{first}archive/y.p7s\tarchive/a{second}".encode())
+            found = self.lines("--pairs-from", "pairs")
+            self.assertTrue(found["x.p7s"].startswith(line), (first, second, found))
+            self.assertTrue(found["y.p7s"].startswith("accepted"), found)
+
     def test_what_is_no_regular_file(self):
         self.put("b.p7s", self.maker.attached(LETTER)), self.put("a/z.p7s", self.maker.attached(LETTER))
         (self.folder / "archive" / "link.p7s").symlink_to("b.p7s")

@@ -77,8 +77,8 @@ def ending_of(text: str) -> tuple[str, str]:
 
 
 def rows_of(path: str, null: bool) -> dict[str, str]:
-    """The names of a list of two columns, a signature and its content: with a TAB between and one pair on each line, or with each
-    name ended by an octet 00."""
+    """The names of a list of two columns, a signature and its content: with a TAB between and one pair on each line, whose end may be CR LF
+    if all have it, or with each name ended by an octet 00."""
     octets = read(path)
     if null:
         names = octets.split(b"\0")
@@ -86,7 +86,10 @@ def rows_of(path: str, null: bool) -> dict[str, str]:
             raise Stop(MALFORMED, f"{shown(path)}: no list of pairs: names, each ended by an octet 00, two for each pair")
         rows = list(zip(names[::2], names[1::2]))
     else:
-        lines = [line[:-1] if line.endswith(b"\r") else line for line in octets.split(b"\n") if line]
+        lines = [line for line in octets.split(b"\n") if line]
+        # (else a name can end so, and another file has the rest of it)
+        if all(line.endswith(b"\r") for line in lines):
+            lines = [line[:-1] for line in lines]
         rows = [(first, second) for first, _, second in (line.partition(b"\t") for line in lines)]
     found: dict[str, str] = {}
     for number, (first, second) in enumerate(rows, 1):

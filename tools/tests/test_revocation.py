@@ -243,6 +243,7 @@ class Revoking(WithWorld):
         w, old = self.world, list_pem(h.revocation_list(self.world.sub))
         new = h.revocation_list(w.sub, [(w.anna, "2024-04-15", "keyCompromise", None)])
         labelled = [list_pem(new).replace(b"X509 CRL", label) for label in (b"CRL", b"CERTIFICATE", b"NEW X509 CRL")]
+        labelled += [list_pem(new).decode().encode(coding) for coding in ("utf-16-le", "utf-16-be", "utf-16")]
         for other in (new, *labelled):
             for octets in (old + other, other + old):
                 (folder / "both.pem").write_bytes(octets)
@@ -253,6 +254,9 @@ class Revoking(WithWorld):
         # (what else such files have may be there)
         (folder / "both.pem").write_bytes(b"0 of Sub\n" + old + pem(w.sub) + "\tgültig\r\n".encode() + list_pem(new))
         self.assertEqual(w.periods(w.anna, [w.file()], folders=[str(folder)])[0], [])
+        (folder / "both.pem").write_text(list_pem(new).decode(), "utf-16")
+        with self.assertRaisesRegex(Stop, "no revocation list"):
+            w.made([w.file()], folders=[str(folder)])
         (folder / "both.pem").unlink()
 
 

@@ -214,18 +214,23 @@ def list_fault(openssl: OpenSSL, octets: bytes, row: Row) -> str:
 
 def lists_in(name: str, octets: bytes) -> Iterator[bytes]:
     """The lists of a file, each in DER: one in DER, or all that are there in PEM. Raises ValueError where none is."""
-    begins, blocks = len(BEGIN.findall(octets)), BLOCK.findall(octets)
+    begins, blocks = begins_in(octets), BLOCK.findall(octets)
     if begins and is_element(octets):
         raise ValueError("another list begins in it, as a text")
     if not begins and b"-----BEGIN " in octets:
         raise ValueError("no revocation list is in it, but other PEM")
     if begins > len(blocks):
-        raise ValueError("another list begins in it, and does not end, or has another label than X509 CRL")
+        raise ValueError("another list begins in it, and does not end, is in UTF-16, or has another label than X509 CRL")
     if blocks and others_beside(octets, BLOCK, is_list):
         raise ValueError("another list may be in it, in DER or under another label")
     yield from map(octets_in, blocks)
     if not blocks:
         yield octets
+
+
+def begins_in(octets: bytes) -> int:
+    """How many lists in PEM begin in octets, also in UTF-16, as PowerShell writes them."""
+    return len(BEGIN.findall(octets.replace(b"\0", b"")))
 
 
 def is_list(octets: bytes) -> bool:
@@ -247,7 +252,7 @@ def is_element(octets: bytes) -> bool:
 def is_meant(name: str, octets: bytes) -> bool:
     """Whether octets that cannot be read as a list were meant as one: by the name of their file, or since they begin as one, or as a
     certificate that they are not, which is how certutil writes a list."""
-    if BEGIN.search(octets) or name.lower().endswith(".crl"):
+    if begins_in(octets) or name.lower().endswith(".crl"):
         return True
     try:
         begun = octets[:1] == b"\x30" or b"-----BEGIN CERTIFICATE" in octets

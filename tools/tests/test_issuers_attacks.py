@@ -1,5 +1,6 @@
 """Tests of trust by issuer against somebody who knows how it works: each case once gave an entry, or lost a revocation, or ended
 the tool."""
+import hashlib
 import unittest
 from unittest import mock
 
@@ -7,6 +8,7 @@ from issuing_world import ALWAYS, AT, h, list_pem, pem
 from making import openssl, processor_seconds
 from test_issuers import WithWorld
 from test_revocation import NEXT, scope
+from test_verify import key_of, number, padded
 
 from cryptography import x509
 from cryptography.hazmat.primitives import hashes
@@ -503,6 +505,26 @@ class Lists(WithWorld):
                 change=lambda parts: [element(0x30, *both) if part == element(0x30, singles[0]) else part for part in parts],
             )
             self.assertEqual(self.got(responses=[response_of(mixed)], whole=False)[0], [])
+
+    def test_a_responder_with_a_key_of_anybody(self):
+        """The power of RSA with the exponent 1 is the number itself: whoever sees the certificate can sign, and OpenSSL takes it."""
+        w, use = self.world, (x509.ExtendedKeyUsage([x509.ExtendedKeyUsageOID.OCSP_SIGNING]), False)
+        named = h.issue("Named", w.sub, [use], key=rsa.generate_private_key(65537, 2048))
+        forms = h.serialization.Encoding.DER, h.serialization.PublicFormat.SubjectPublicKeyInfo
+        old = named.certificate.public_key().public_bytes(*forms)
+        new = key_of("1.2.840.113549.1.1.1", b"\5\0", sequence(number((1 << 2047) | 1), number(1)))
+        hashed = [hashlib.sha1(der.elements(der.only(0x30, key))[1].contents[1:]).digest() for key in (old, new)]
+        how = "1.2.840.10045.4.3.2", ec.ECDSA(hashes.SHA256())
+        anybody = again(named.octets, w.sub.key, *how, change=lambda parts: [new if part == old else part for part in parts])
+        response = h.response(w.anna, w.sub, named, bag=[named])
+        self.assertEqual(self.got(responses=[response], whole=False)[0], [(ALWAYS[0], NEXT)])
+        signed, algorithm, *_ = (part.whole for part in der.elements(der.only(0x30, basic_of(response))))
+        signed = signed.replace(*hashed)
+        info = sequence(sequence(oid("2.16.840.1.101.3.4.2.1"), b"\5\0"), element(4, hashlib.sha256(signed).digest()))
+        parts = [signed, algorithm, element(3, b"\0", padded(info, 256)), element(0xA0, sequence(anybody))]
+        periods, told = self.got(responses=[response_of(sequence(*parts))], whole=False)
+        self.assertEqual(periods, [])
+        self.assertIn("nobody can say that its signature holds", "".join(told))
 
     def test_a_responder_that_was_revoked(self):
         w = self.world

@@ -145,15 +145,17 @@ class Response:
         self, openssl: OpenSSL, row: Row, signers: list[Certificate], sha1: bool, told: Callable[[str], None]
     ) -> Iterator[Known]:
         """What it says of the first certificate of a path, if OpenSSL takes it; a line if not. One that OpenSSL does not take, that has a
-        critical extension which is not known, or that is signed by a weak algorithm counts for a revocation alone."""
+        critical extension which is not known, or that is signed by a weak algorithm or under anybody's key counts for a revocation alone.
+        """
         found = self.about_one(row[0], row[1])
         if not found:
             return
         fault = self.fault(openssl, row, found[0].read)
-        less = fault or self.strange(found) or self.weakness(sha1)
+        held = self.is_of(signers)
+        less = fault or self.strange(found) or self.weakness(sha1) or "nobody can say that its signature holds" * (not held)
         if less:
             told(f"{self.name}: not a response about {row[0].name_text('subject')}: {less}")
-        for single in found if not fault or self.is_of(signers) else ():
+        for single in found if not fault or held else ():
             if single.read.certificate_status in (GOOD, REVOKED):
                 yield single.known(not less)
             else:

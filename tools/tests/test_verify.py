@@ -9,6 +9,7 @@ import tracemalloc
 import unittest
 from pathlib import Path
 from typing import NamedTuple
+from unittest import mock
 
 from making import (
     DIGESTS,
@@ -28,6 +29,8 @@ from making import (
 
 need_tools()
 
+from cryptography.hazmat.primitives.asymmetric import ec
+from oracle.der import oid
 from oracle.identifiers import SHA_2
 
 PKCS_1, ECDSA, DSA = "1.2.840.113549.1.1.", "1.2.840.10045.4.", "2.16.840.1.101.3.4.3."
@@ -366,6 +369,25 @@ class Verifying(unittest.TestCase):
             digest = digest_algorithm("sha256" if of_signature in (rsa, dsa) else "sha512")
             err = self.none_vouched([(key.hex(), question(key, digest, of_signature, TAIL, signature))])
             self.assertIn("cmsproof-verify: line 2: not judged: anybody can sign under the key", err)
+
+    def test_the_point_at_infinity(self):
+        """Under it OpenSSL verifies what anybody signed, with any number in the place of a key: whether Python's library reads it or not,
+        nothing is vouched for."""
+        from cmsproof_tools import verifying
+
+        order, secret = int("ffffffff00000000ffffffffffffffffbce6faada7179e84f3b9cac2fc632551", 16), 12345
+        other = ec.derive_private_key(secret, ec.SECP256R1()).public_key()
+        hashed = int.from_bytes(hashlib.sha256(b"\x31" + TAIL).digest(), "big")
+        second = number(hashed * pow(secret, -1, order) % order)
+        signature = element(0x30, number(other.public_numbers().x % order), second)
+        infinity = key_of("1.2.840.10045.2.1", oid("1.2.840.10045.3.1.7"), b"\0")
+        # (the last one says that 7 bits of its octet are none)
+        for key in (infinity, infinity[:-2] + b"\7\0"):
+            asked = key.hex(), question(key, digest_algorithm("sha256"), algorithm(ECDSA + "3.2"), TAIL, signature)
+            self.assertIn("line 2: not judged: the key cannot be read: its point is at infinity", self.none_vouched([asked]))
+            with mock.patch.object(verifying, "load_der_public_key", lambda octets: other):
+                with self.assertRaisesRegex(verifying.Unjudged, "its point is at infinity"):
+                    verifying.key_of.__wrapped__(key)
 
     def test_a_key_that_takes_hours_to_be_judged(self):
         """RSA with 5,000,000 bits, DSA with numbers of 100,000 or a group of as many: no program signs under one."""

@@ -205,7 +205,11 @@ def pss_read(parameters: bytes) -> Pss:
 def key_of(octets: bytes) -> Key:
     """The key that a SubjectPublicKeyInfo holds (RFC 5280 4.1.2.7)."""
     try:
-        oid, parameters = der.algorithm(der.elements(der.only(der.SEQUENCE, octets))[0].whole)
+        parts = der.elements(der.only(der.SEQUENCE, octets))
+        oid, parameters = der.algorithm(parts[0].whole)
+        # (OpenSSL verifies under the point at infinity, and some versions of the library read it)
+        if oid == ELLIPTIC and parts[1].contents[1:] == b"\0":
+            raise ValueError("its point is at infinity, so that anybody can sign (SEC 1 3.2.2.1)")
         # (which some versions of the library read, and others do not)
         if oid == ELLIPTIC and parameters[:1] != bytes([der.OID]):
             raise ValueError("its curve is not named by an object identifier, but spelled out or left out (RFC 5480 2.1.1)")

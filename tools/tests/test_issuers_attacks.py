@@ -1,6 +1,8 @@
 """Tests of trust by issuer against somebody who knows how it works: each case once gave an entry, or lost a revocation, or ended
 the tool."""
 import hashlib
+import resource
+import signal
 import unittest
 from unittest import mock
 
@@ -13,7 +15,7 @@ from test_verify import key_of, number, padded
 from cryptography import x509
 from cryptography.hazmat.primitives import hashes
 from cryptography.hazmat.primitives.asymmetric import ec, padding, rsa
-from cmsproof_tools import der, issuing
+from cmsproof_tools import der, issuing, paths
 from cmsproof_tools.running import Stop
 from oracle.der import element, oid, sequence
 
@@ -90,6 +92,22 @@ class Attacks(WithWorld):
         # (and her own issuer's word counts)
         given["responses"].append(h.response(anna, sub))
         self.assertEqual(self.periods(anna, [fake, sub], **given)[0], [(ALWAYS[0], NEXT)])
+
+    def test_a_disk_that_is_full(self):
+        """A file of OpenSSL's of which a part was written is not taken for what was there before."""
+        with paths.private_folder() as folder:
+            openssl, limits = paths.OpenSSL(folder), resource.getrlimit(resource.RLIMIT_FSIZE)
+            before = signal.signal(signal.SIGXFSZ, signal.SIG_IGN)
+            openssl.write("between.pem", b"first")
+            try:
+                resource.setrlimit(resource.RLIMIT_FSIZE, (3, limits[1]))
+                with self.assertRaises(OSError):
+                    openssl.write("between.pem", b"second")
+            finally:
+                resource.setrlimit(resource.RLIMIT_FSIZE, limits)
+                signal.signal(signal.SIGXFSZ, before)
+            openssl.write("between.pem", b"first")
+            self.assertEqual((openssl.folder / "between.pem").read_bytes(), b"first")
 
     def test_names_that_are_lines_of_openssl(self):
         """Several are judged in one run: what it prints of one says nothing of another."""

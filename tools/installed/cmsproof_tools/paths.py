@@ -141,6 +141,8 @@ class OpenSSL:
     def write(self, name: str, octets: bytes) -> None:
         """Makes a file in the folder, if it is not there as it must be."""
         if self.written.get(name) != octets:
+            # (where the disk is full, a part of it is there, and not what was before)
+            self.written.pop(name, None)
             (self.folder / name).write_bytes(octets)
             self.written[name] = octets
 

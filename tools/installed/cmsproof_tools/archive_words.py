@@ -116,7 +116,7 @@ def add_judging(parser: Words, by: str) -> None:
     """The words by which evidence records are judged, which go with another one."""
     add_ends(parser, f", with {by}")
     at = f"until when the last time-stamp of a record must serve, with {by}: by default its own time"
-    parser.add_argument("--at", type=time_of, metavar="TIME", help=at)
+    parser.add_argument("--at", action="once", type=time_of, metavar="TIME", help=at)
     whole = f"a record may cover nothing else than its file, with {by}"
     parser.add_argument("--whole", action="store_true", help=whole)
 
@@ -124,9 +124,9 @@ def add_judging(parser: Words, by: str) -> None:
 def add_records(parser: Words) -> None:
     """The words that go with evidence records."""
     records = "each file must have an evidence record (RFC 4998): DIR/PATH.ers, PATH being its path in the archive"
-    parser.add_argument("--records", metavar="DIR", help=records)
+    parser.add_argument("--records", action="once", metavar="DIR", help=records)
     under = "the archive's folder, with --records: by default the one where the tool runs"
-    parser.add_argument("--under", metavar="DIR", help=under)
+    parser.add_argument("--under", action="once", metavar="DIR", help=under)
     add_judging(parser, "--records")
     shown = "judge a signed file in DER at the moment that its record shows, with --records: as `check --evidence` does"
     parser.add_argument("--by-records", action="store_true", help=shown)

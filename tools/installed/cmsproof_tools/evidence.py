@@ -266,13 +266,13 @@ def parser_of(tool: str) -> Words:
     parser.add_argument("--content", action="once", metavar="FILE", help="the content, if the file does not hold it, or the bundle")
     parser.add_argument("--sha1", action="store_true", help="allow SHA-1 as a digest of contents and stamped signatures")
     parser.add_argument(
-        "--record", metavar="FILE", help="make a bundle of this evidence record (RFC 4998), which is of the file"
+        "--record", action="once", metavar="FILE", help="make a bundle of this evidence record (RFC 4998), which is of the file"
     )
     add_judging(parser, "--record or --verify")
     parser.add_argument("--part", metavar="PART", help="which signature of the file, as it is shown behind its name")
     parser.add_argument("--without-content", action="store_true", help="put only the SHA-256 of a content into the bundle")
     parser.add_argument("--to", metavar="ZIP", help="the bundle that is made")
-    parser.add_argument("--verify", metavar="ZIP", help="a bundle, of which is asked anew what it says")
+    parser.add_argument("--verify", action="once", metavar="ZIP", help="a bundle, of which is asked anew what it says")
     parser.add_argument(
         "--list-of-the-bundle", action="store_true", help="with --verify: go by the trust list of whoever made the bundle"
     )

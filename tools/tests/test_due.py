@@ -344,7 +344,8 @@ class Held(unittest.TestCase):
     def test_tokens_in_the_unsigned_attributes_of_a_token(self):
         """Anybody can put them there, and a check of a record looks at none. What the token fails itself counts still."""
         trust, other, inner = list_of(tsa(MADE.clock, last=LATER)), list_of(tsa(MADE.other)), token_of()
-        for value in (inner, inner[:-1] + b"\x01", inner[2:], sequence(), string(b"x")):
+        # (the third is what the token contains, behind its four octets of identifier and length)
+        for value in (inner, inner[:-1] + b"\x01", inner[4:], sequence(), string(b"x")):
             unsigned = [stamp_attribute(value)]
             good, at = token_of(unsigned=unsigned), element(0xA1, *unsigned)
             last = good.index(at) - 1

@@ -1,4 +1,5 @@
 """Tests of how the tools begin and end: with signals, descriptors that are closed or full, and a library that answers otherwise."""
+import fcntl
 import gc
 import json
 import os
@@ -17,6 +18,8 @@ from cmsproof import Unexpected, library  # noqa: E402
 from cmsproof.verdicts import verdict_of  # noqa: E402
 from cmsproof_tools import running  # noqa: E402
 
+# F_SETPIPE_SZ of Linux, which Python names from 3.10 on
+PIPE_SIZE = 1031
 # a check that leaves the number of a process that it started in the folder and goes on for a minute
 SLOW = """
 def slow(work, name):
@@ -198,9 +201,11 @@ class Descriptors(WithFiles):
                 self.assertEqual(self.shell(">&-", tool, *words)[0], 4)
 
     def test_a_reader_that_leaves(self):
-        names = [self.file(f"n{number}") for number in range(40)]
+        names = [self.file(f"n{number}") for number in range(400)]
         words = [sys.executable, INSTALLED / "cmsproof-archive", "--trust", "list", *names]
         tool = subprocess.Popen(words, cwd=self.folder, stdout=subprocess.PIPE, stderr=subprocess.PIPE)
+        # (into which not all lines go)
+        fcntl.fcntl(tool.stdout, PIPE_SIZE, 4096)
         self.assertEqual(tool.stdout.readline(), f"n0: {ACCEPTED}\n".encode())
         tool.stdout.close()
         told = tool.stderr.read().decode()

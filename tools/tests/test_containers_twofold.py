@@ -12,6 +12,7 @@ import struct
 import tarfile
 import time
 import unittest
+import xml.etree.ElementTree
 import zipfile
 import zlib
 
@@ -571,6 +572,32 @@ class Lines(WithMaker):
             self.put(name + ".eml", octets)
         found = {name.partition(" ")[0]: line for name, line in self.lines().items()}
         self.assertEqual(found, {f"{name}.eml": "refused F10 Ambiguous" for name in rows})
+
+    def test_a_mail_that_begins_as_another_file(self):
+        """The head of a mail is not signed, and its first field can have nearly any octets in its name (RFC 5322 2.2)."""
+        mail, said = made.mail_signed(self.maker.signed), b"I owe you 9 euro."
+        picture = b"<s:svg\r\n xmlns:s='http://www.w3.org/2000/svg'><s:text>%s</s:text><s:desc><![CDATA[\r\n" % said
+        rows = {
+            "letter.svg": picture + mail + b"]]></s:desc></s:svg>\r\n",
+            "letter.rtf": b"{\\rtf1\\ansi:%s}\r\n" % said + mail,
+            "letter.ps": b"%%!PS-Adobe-3.0:\r\n (%s) show showpage quit\r\n" % said + mail,
+            "page": b"<!-->:<html><body>%s</body></html>\r\n" % said + mail,
+            "script": b"#!/bin/cat:\r\n" + mail,
+            # a picture whose comment goes over the head (GIF89a, 24)
+            "picture": b"GIF89a:\1d\1\1\1\1!\xfe%c\r\n" % (mail.index(b"--cut") + 2) + mail.replace(b"--cut", b"\0;\r\n--cut", 1),
+            "letter.vcf": b"BEGIN:VCARD\r\nVERSION:3.0\r\nFN:%s\r\nEND:VCARD\r\n" % said + mail,
+        }
+        self.assertEqual(xml.etree.ElementTree.fromstring(rows["letter.svg"])[0].text.encode(), said)
+        for name, octets in rows.items():
+            self.put(name, octets)
+        begins = b"Return-Path: <a>", b"received: by a", b"X-a_b.c: d", b"From: a", b"cc: a", b"Organisation: a", b"MIME-Version: 1.0"
+        rest = mail.replace(b"MIME-Version: 1.0\r\n", b"").replace(b"From: ada", b"X-From: ada")
+        for number, field in enumerate(begins):
+            self.put(f"good{number}.eml", field + b"\r\n" + rest)
+        found = self.lines()
+        self.assertEqual({name: found[name] for name in rows}, dict.fromkeys(rows, "refused F10 Ambiguous"))
+        for number, field in enumerate(begins):
+            self.assertRegex(found[f"good{number}.eml"], ACCEPTED, field)
 
     def test_a_mail_that_begins_without_an_empty_line_before_it(self):
         mail = made.mail_signed(self.maker.signed, ends=b"\n")

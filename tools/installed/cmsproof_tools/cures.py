@@ -478,14 +478,14 @@ ROWS = (
         "two programs may read it in two ways. A zip file: a name twice, octets between entries or behind "
         "what is packed, a length behind what is not packed, without a sign, a head or an end that differs "
         "from the directory, two such ends, a link. A mail: Content-Type, -Transfer-Encoding, -Disposition "
-        "or MIME-Version twice in a head, a boundary that is no token and not quoted, or with something "
+        "or MIME-Version twice in a head, a boundary that is no token and not quoted, with something "
         "behind it, or within a line; in a head a comment, a character of control or a line of white space "
-        "alone; outside of what is signed one that begins as another mail does. A PDF: octets before "
-        "`%PDF-`, a signature dictionary in a stream, or one that is an annotation; an object that goes over "
-        "the signature; a second /ByteRange over as many octets; another PDF in what is signed; an object "
-        "that programs which mend a PDF take for another one, or do not see. CMS, a mail or a zip file that "
-        "is a PDF or zip file too, by octets that are not signed, or that is called as another kind: `.pdf`, "
-        "`.html`, `.tar`, `.mp3`; a mail or bundle with such a signature",
+        "alone; outside of what is signed one that begins as another mail does; a first field as of no mail. "
+        "A PDF: octets before `%PDF-`, a signature dictionary in a stream, or one that is an annotation; an "
+        "object that goes over the signature; a second /ByteRange over as many octets; another PDF in what is "
+        "signed; an object that programs which mend a PDF mistake or miss. CMS, a mail or a zip file that is a "
+        "PDF or zip file too, by unsigned octets, or that is called as another kind: `.pdf`, `.html`, `.tar`, "
+        "`.mp3`; a mail or bundle with such a signature",
         DO_NOT_TRUST,
     ),
     Row(

@@ -45,6 +45,14 @@ BOUNDARY_END = re.compile(rb"(--)?[ \t]*(?:\r?\n|\Z)")
 # a line that begins a mail of an mbox, for RFC 4155 behind an empty one, and for others anywhere
 FROM_LINE = re.compile(rb"^From ", re.MULTILINE)
 MBOX_LINE = re.compile(rb"(?:\A|(?<=\n\n)|(?<=\n\r\n))From [^\n]*\n")
+# with what field a mail begins: one whose name has a hyphen, or one of RFC 4021, RFC 5536 or of programs for mails. Another name can be the
+# first octets of a script, a picture, a page or the like, as which other programs open the mail (RFC 5322 2.2 allows nearly each octet)
+FIRST_FIELD = re.compile(
+    rb"(?:[A-Za-z][0-9A-Z_a-z]*-[-.0-9A-Z_a-z]*|approved|archive|auto(?:forward|submitt)ed|[bf]?cc|comments|control|conversion|date|"
+    rb"distribution|encoding|encrypted|expires|face|forwarded|from|importance|keywords|language|lines|newsgroups|obsoletes|organi[sz]ation|"
+    rb"path|precedence|priority|received|references|replied|resent|sender|sensitivity|status|subject|summary|supersedes|to|xref):",
+    re.IGNORECASE,
+)
 SIGNATURES = ("application/pkcs7-signature", "application/x-pkcs7-signature")
 OPAQUE = ("application/pkcs7-mime", "application/x-pkcs7-mime")
 # a head that has one of these twice can be read in two ways
@@ -311,6 +319,8 @@ def found_in_mail(octets: memoryview) -> Iterator[Found | Unfound]:
         raise Refused("F1", UNSIGNED)
     for number, mail in enumerate(mails, 1):
         for one in found_in_one(mail, many):
+            if isinstance(one, Found) and not many and FIRST_FIELD.match(octets) is None:
+                one = Unfound(one.part, "F10", "a mail whose first field is none of a mail, as where another file begins", "s/mime")
             named = ", ".join(filter(None, [f"mail {number}" if many else "", one.part]))
             yield one._replace(part=named)
 

@@ -7,8 +7,10 @@ import hashlib
 import io
 import os
 import re
+import shutil
 import signal
 import struct
+import subprocess
 import tarfile
 import time
 import unittest
@@ -468,6 +470,9 @@ class Disguised(WithMaker):
             "letter.tar": with_tar(attached, EVIL),
             "called.docm": of_zip,
             "called.mp3": attached,
+            # endings of the same kinds (RFC 5334 10, and freedesktop's shared-mime-info)
+            **{f"letter.{end}": with_tar(attached, EVIL) for end in ("cbt", "gem", "gtar", "ova")},
+            **{f"called.{end}": attached for end in "img lha oga ogv ogx spx mpe mpga m2t adts bash php5".split()},
         }
         with tarfile.open(fileobj=io.BytesIO(evil["letter.tar"])) as file:
             self.assertEqual(file.extractfile("letter.txt").read(), EVIL)
@@ -481,9 +486,11 @@ class Disguised(WithMaker):
         }
         for name, octets in {**evil, **good}.items():
             self.put(name, octets)
-        self.put("called.odt", made.asic_s(self.maker.signed))
+        documents = [f"called.{end}" for end in ("odt", "odb", "oth", "oxt", "sxw", "stc", "vsdm", "xlam")]
+        for name in documents:
+            self.put(name, made.asic_s(self.maker.signed))
         found = self.lines()
-        self.assertEqual(found["called.odt META-INF/signature.p7s"], "refused F10 Ambiguous")
+        self.assertEqual({found[f"{name} META-INF/signature.p7s"] for name in documents}, {"refused F10 Ambiguous"})
         self.assertEqual({name: found[name] for name in evil}, dict.fromkeys(evil, "refused F10 Ambiguous"))
         for name in good:
             self.assertRegex(found[name], ACCEPTED, name)
@@ -598,6 +605,28 @@ class Lines(WithMaker):
         self.assertEqual({name: found[name] for name in rows}, dict.fromkeys(rows, "refused F10 Ambiguous"))
         for number, field in enumerate(begins):
             self.assertRegex(found[f"good{number}.eml"], ACCEPTED, field)
+
+    def test_a_mail_that_is_called_as_a_script(self):
+        """Its first field is a command behind a label, or a note, and all else of it is in a comment or a text."""
+        mail, said = made.mail_signed(self.maker.signed), "I owe you 9 euro."
+        rows = {
+            "py": b'Subject: said.append("%b") or """\r\n%b"""\r\n' % (said.encode(), mail),
+            "js": b'Subject: console.log("%b"); /*\r\n%b*/\r\n' % (said.encode(), mail),
+            "pl": b'Subject: print "%b"; exit;\r\n __END__\r\n%b' % (said.encode(), mail),
+        }
+        ran = {"said": []}
+        exec(rows["py"].decode(), ran)
+        self.assertEqual(ran["said"], [said])
+        for language, program in (("js", "node"), ("pl", "perl")):
+            path = self.put(f"letter.{language}", rows[language])
+            if shutil.which(program):
+                self.assertEqual(subprocess.run([program, path], capture_output=True, check=True).stdout.decode().strip(), said)
+        for name in ("letter.py", "letter.pyw", "letter.mjs", "letter.cjs", "letter.pm"):
+            self.put(name, rows["py"])
+        self.put("letter.eml", rows["py"])
+        found = self.lines()
+        self.assertRegex(found.pop("letter.eml"), ACCEPTED)
+        self.assertEqual((len(found), set(found.values())), (7, {"refused F10 Ambiguous"}))
 
     def test_a_mail_that_begins_without_an_empty_line_before_it(self):
         mail = made.mail_signed(self.maker.signed, ends=b"\n")

@@ -31,22 +31,28 @@ CALLED = {
     "PDF": ("pdf", (".pdf", ".ai", ".fdf")),
     "page of HTML": ("html", tuple(".hta .htm .html .mht .mhtml .shtml .xht .xhtml".split())),
     # (the first 512 octets of a tar are the head of a file, whose name may be anything)
-    "archive": ("archive", tuple(".7z .arj .cab .iso .lzh .rar .tar".split())),
+    "archive": ("archive", tuple(".7z .arj .cab .cb7 .cbr .cbt .gem .gtar .img .iso .lha .lzh .ova .rar .tar".split())),
     "zip file": ("asic", tuple(".asice .asics .sce .scs .zip .zipx".split())),
     # (which of the files are shown is said by one that is not signed, as META-INF/manifest.xml)
     "document or program in a zip file": (
         "document",
         tuple(
-            ".3mf .aab .apk .cbz .docm .docx .dotm .dotx .ear .epub .ipa .jar .kmz .nupkg .odf .odg .odm .odp .ods .odt .otg .otp .ots .ott"
-            " .oxps .potm .potx .ppsm .ppsx .pptm .pptx .sldx .vsdx .war .whl .xlsb .xlsm .xlsx .xltm .xltx .xpi .xps".split()
+            ".3mf .aab .apk .cbz .docm .docx .dotm .dotx .ear .epub .ipa .jar .kmz .nupkg .odb .odc .odf .odg .odi .odm .odp .ods .odt .otc"
+            " .otg .oth .oti .otp .ots .ott .oxps .oxt .potm .potx .ppam .ppsm .ppsx .pptm .pptx .sldm .sldx .stc .std .sti .stw .sxc .sxd"
+            " .sxg .sxi .sxm .sxw .vsdm .vsdx .vssm .vssx .vstm .vstx .war .whl .xlam .xlsb .xlsm .xlsx .xltm .xltx .xpi .xps".split()
         ),
     ),
     # (players skip what is no sound or picture, and some programs lines that are no command)
-    "film or a sound": ("film", tuple(".aac .ac3 .flac .m2ts .mp2 .mp3 .mpeg .mpg .mts .ogg .opus .vob".split())),
-    "script": ("script", tuple(".bat .cmd .php .sh".split())),
+    "film or a sound": (
+        "film",
+        tuple(".aac .ac3 .adts .flac .m2t .m2ts .mp2 .mp3 .mpe .mpeg .mpg .mpga .mts .oga .ogg .ogv .ogx .opus .spx .vob".split()),
+    ),
+    "script": ("script", tuple(".bash .bat .cmd .ksh .php .php3 .php4 .php5 .phps .phtml .sh .zsh".split())),
 }
 # each of these begins with the one point that is in it
 OF_ENDING = {end[1:]: (kind, own) for kind, (own, ends) in CALLED.items() for end in ends}
+# and what a mail alone is called that is a script too: its first field is a command, and what follows a comment or a text
+OF_MAILS = frozenset("cjs js mjs pl pm py pyw".split())
 
 
 def in_pairs(octets: bytes) -> str:
@@ -102,6 +108,8 @@ def called_as(name: str, container: str) -> str:
     if name.rpartition(".")[2] in OFTEN:
         return ""
     _, point, ending = name.lower().rstrip(" .").rpartition(".")
+    if point and container == "s/mime" and ending in OF_MAILS:
+        return "script"
     found = OF_ENDING.get(ending) if point else None
     return "" if found is None or found[1] == container else found[0]
 

@@ -694,6 +694,15 @@ class Lines(WithMaker):
             self.assertEqual(set(found), {"archive/m mail 2, part 1", *(["archive/m mail 1, part 1"] if names == ["archive"] else [])})
             self.assertEqual({line.split(" ")[0] for line in found.values()}, {"accepted"})
 
+    def test_no_complaint_ends_as_the_line_of_an_accepted_file(self):
+        files, end = [("a.txt", b"first")], b": accepted 20261122071759Z"
+        text = made.manifest("META-INF/signature1.p7s", files).replace(made.SHA256.encode(), b"a" + end)
+        entries = [("mimetype", made.ASIC_E), *files, ("META-INF/ASiCManifest1.xml", text), ("META-INF/signature1.p7s", GOOD)]
+        self.put("a.asice", made.zipped(entries))
+        self.assertEqual(self.lines()["a.asice META-INF/ASiCManifest1.xml"], "refused F3 Broken")
+        self.assertIn(r"is not known: a:\x20accepted 20261122071759Z", self.err)
+        self.assertNotIn(end.decode(), self.err)
+
     def test_long_parts_end_soon(self):
         manifest = made.manifest("META-INF/signature1.p7s", [("a.txt", b"first")])
         long_manifest = manifest.replace(b"<ds:DigestValue>", b"<ds:DigestValue>" + b"\n" * (8 << 20))

@@ -6,6 +6,7 @@ import errno
 import gc
 import importlib
 import os
+import re
 import stat
 import sys
 from contextlib import contextmanager, suppress
@@ -25,6 +26,8 @@ READING = {"archive": "archive_words"}
 OUTPUT, COMPLAINTS = 1, 2
 # how many octets are few enough to be kept
 SHORT = 1 << 14
+# how the line of a file ends that is not refused
+GOOD_END = re.compile(r": ((?:accepted|stamped|evidenced) [0-9.]+Z)\Z")
 Function = TypeVar("Function", bound=Callable[..., Any])
 
 
@@ -162,9 +165,11 @@ def check_kept(out: str, others: Iterable[str | None]) -> None:
 
 
 def tell(tool: str, line: str) -> None:
-    """Writes one line to standard error, after the name of the tool. A line that cannot be written costs the status."""
+    """Writes one line to standard error, after the name of the tool. A line that cannot be written costs the status. None ends as that of a
+    file that is accepted: a reason can end with words of the file."""
+    text = GOOD_END.sub(r":\\x20\1", one_line(line))
     try:
-        put(COMPLAINTS, f"{tool}: {one_line(line)}\n".encode("utf-8", "backslashreplace"))
+        put(COMPLAINTS, f"{tool}: {text}\n".encode("utf-8", "backslashreplace"))
     except OSError:
         Started.lost = True
 

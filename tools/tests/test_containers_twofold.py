@@ -401,12 +401,13 @@ class Bounds(unittest.TestCase):
 # --- CMS that is a file of another kind
 
 
-def with_more(signed, parameters=b"", attribute=b"", wrapped=element):
+def with_more(signed, parameters=b"", attribute=b"", wrapped=element, pieces=None):
     """A SignedData with octets that are not signed: as parameters of a digest algorithm, or as an unsigned attribute. `wrapped` makes
-    the outer elements."""
+    the outer elements, and `pieces` the parameters, if they are a string in pieces."""
     kind, explicit = der.elements(der.only(signed).body())
     parts = der.elements(der.only(explicit.body()).body())
-    digest = element(0x30, der.oid("2.16.840.1.101.3.4.2.1"), *([element(4, parameters)] if parameters else []))
+    string = element(4, parameters) if pieces is None else pieces(0x24, parameters)
+    digest = element(0x30, der.oid("2.16.840.1.101.3.4.2.1"), *([string] if parameters else []))
     info = der.elements(der.only(parts[-1].body()).body())
     more = [element(0x30, der.oid("2.999.1"), element(0x31, element(4, attribute)))] if attribute else []
     unsigned = sorted([*(one.whole() for one in der.elements(info[-1].body())), *more])
@@ -494,6 +495,42 @@ class Disguised(WithMaker):
         self.assertEqual({name: found[name] for name in evil}, dict.fromkeys(evil, "refused F10 Ambiguous"))
         for name in good:
             self.assertRegex(found[name], ACCEPTED, name)
+
+
+    def test_ber_whose_heads_are_a_part_of_another_file(self):
+        """Strings in pieces of 80 octets, whose length is the letter P: `PK` of a directory and of its end stands in BER alone."""
+        first = b"MIME-Version: 1.0\r\nContent-Type: application/pkcs7-mime; smime-type=signed-data\r\nContent-Transfer-Encoding: "
+        attached, entry = self.maker.attached(b"a letter"), Entry(b"letter.txt", EVIL)
+
+        def in_ber(at, place, behind):
+            directory = bytearray(entry.second(at))
+            directory[32:34] = struct.pack("<H", 26)
+            last = end(1, len(directory) + 26, place)[:-2] + struct.pack("<H", behind)
+            pieces = entry.first(), bytes(directory[1:]).ljust(80), last[1:].ljust(80)
+            return with_more(attached, b"".join(element(4, piece) for piece in pieces), wrapped=opened, pieces=opened)
+
+        places, head = (0, 0, 0), first + b"binary\r\n\r\n"
+        for _ in range(2):
+            ber = in_ber(*places)
+            mail = head + ber
+            places = mail.index(b"PK\3\4"), mail.index(b"PK\1\2"), len(mail) - mail.index(b"PK\5\6") - 22
+        with zipfile.ZipFile(io.BytesIO(mail)) as file:
+            self.assertEqual(file.read("letter.txt"), EVIL)
+        text = base64.encodebytes(ber)
+        rows = {
+            "binary.eml": mail,
+            "base64.eml": first + b"base64\r\n\r\n" + text,
+            "a.pem": b"-----BEGIN CMS-----\n%b-----END CMS-----\n" % text,
+            "a.b64": text,
+            "a.p7m": ber,
+        }
+        for name, octets in rows.items():
+            self.put(name, octets)
+        good = with_more(attached, element(4, b"a") + element(4, b"b"), wrapped=opened, pieces=opened)
+        self.put("good.eml", head + good)
+        found = self.lines()
+        self.assertRegex(found.pop("good.eml"), ACCEPTED)
+        self.assertEqual(found, dict.fromkeys(rows, "refused F10 Ambiguous"))
 
 
 # --- mail, lines, names

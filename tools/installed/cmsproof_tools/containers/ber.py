@@ -10,6 +10,7 @@ import subprocess
 from typing import Any, Iterator, NamedTuple
 
 from cmsproof_tools.containers.refusals import Refused
+from cmsproof_tools.containers.twofold import other_kind
 from cmsproof_tools.found import Found, Unfound
 from cmsproof_tools.signed_parts import header
 
@@ -176,10 +177,14 @@ def in_der(octets: memoryview) -> bytes:
 
 
 def signed_in(octets: memoryview) -> tuple[memoryview | bytes, str]:
-    """The SignedData in DER and what was done to get it: nothing, if the octets are not BER with open lengths."""
-    if bytes(octets[:2]) == b"\x30\x80":
-        return in_der(octets), CONVERTED
-    return octets, ""
+    """The SignedData in DER and what was done to get it: nothing, if the octets are not BER with open lengths. Raises Refused where these
+    are a file of another kind too: the heads of strings in pieces can be a part of one, and are not in DER."""
+    if bytes(octets[:2]) != b"\x30\x80":
+        return octets, ""
+    signed = in_der(octets)
+    if kind := other_kind(octets):
+        raise Refused("F10", f"it is a {kind} too, which is not signed")
+    return signed, CONVERTED
 
 
 def found_in_ber(octets: memoryview) -> Iterator[Found | Unfound]:

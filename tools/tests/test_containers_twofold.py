@@ -7,14 +7,11 @@ import hashlib
 import io
 import os
 import re
-import shutil
 import signal
 import struct
-import subprocess
 import tarfile
 import time
 import unittest
-import xml.etree.ElementTree
 import zipfile
 import zlib
 
@@ -497,41 +494,6 @@ class Disguised(WithMaker):
             self.assertRegex(found[name], ACCEPTED, name)
 
 
-    def test_ber_whose_heads_are_a_part_of_another_file(self):
-        """Strings in pieces of 80 octets, whose length is the letter P: `PK` of a directory and of its end stands in BER alone."""
-        first = b"MIME-Version: 1.0\r\nContent-Type: application/pkcs7-mime; smime-type=signed-data\r\nContent-Transfer-Encoding: "
-        attached, entry = self.maker.attached(b"a letter"), Entry(b"letter.txt", EVIL)
-
-        def in_ber(at, place, behind):
-            directory = bytearray(entry.second(at))
-            directory[32:34] = struct.pack("<H", 26)
-            last = end(1, len(directory) + 26, place)[:-2] + struct.pack("<H", behind)
-            pieces = entry.first(), bytes(directory[1:]).ljust(80), last[1:].ljust(80)
-            return with_more(attached, b"".join(element(4, piece) for piece in pieces), wrapped=opened, pieces=opened)
-
-        places, head = (0, 0, 0), first + b"binary\r\n\r\n"
-        for _ in range(2):
-            ber = in_ber(*places)
-            mail = head + ber
-            places = mail.index(b"PK\3\4"), mail.index(b"PK\1\2"), len(mail) - mail.index(b"PK\5\6") - 22
-        with zipfile.ZipFile(io.BytesIO(mail)) as file:
-            self.assertEqual(file.read("letter.txt"), EVIL)
-        text = base64.encodebytes(ber)
-        rows = {
-            "binary.eml": mail,
-            "base64.eml": first + b"base64\r\n\r\n" + text,
-            "a.pem": b"-----BEGIN CMS-----\n%b-----END CMS-----\n" % text,
-            "a.b64": text,
-            "a.p7m": ber,
-        }
-        for name, octets in rows.items():
-            self.put(name, octets)
-        good = with_more(attached, element(4, b"a") + element(4, b"b"), wrapped=opened, pieces=opened)
-        self.put("good.eml", head + good)
-        found = self.lines()
-        self.assertRegex(found.pop("good.eml"), ACCEPTED)
-        self.assertEqual(found, dict.fromkeys(rows, "refused F10 Ambiguous"))
-
 
 # --- mail, lines, names
 
@@ -616,54 +578,6 @@ class Lines(WithMaker):
             self.put(name + ".eml", octets)
         found = {name.partition(" ")[0]: line for name, line in self.lines().items()}
         self.assertEqual(found, {f"{name}.eml": "refused F10 Ambiguous" for name in rows})
-
-    def test_a_mail_that_begins_as_another_file(self):
-        """The head of a mail is not signed, and its first field can have nearly any octets in its name (RFC 5322 2.2)."""
-        mail, said = made.mail_signed(self.maker.signed), b"I owe you 9 euro."
-        picture = b"<s:svg\r\n xmlns:s='http://www.w3.org/2000/svg'><s:text>%s</s:text><s:desc><![CDATA[\r\n" % said
-        rows = {
-            "letter.svg": picture + mail + b"]]></s:desc></s:svg>\r\n",
-            "letter.rtf": b"{\\rtf1\\ansi:%s}\r\n" % said + mail,
-            "letter.ps": b"%%!PS-Adobe-3.0:\r\n (%s) show showpage quit\r\n" % said + mail,
-            "page": b"<!-->:<html><body>%s</body></html>\r\n" % said + mail,
-            "script": b"#!/bin/cat:\r\n" + mail,
-            # a picture whose comment goes over the head (GIF89a, 24)
-            "picture": b"GIF89a:\1d\1\1\1\1!\xfe%c\r\n" % (mail.index(b"--cut") + 2) + mail.replace(b"--cut", b"\0;\r\n--cut", 1),
-            "letter.vcf": b"BEGIN:VCARD\r\nVERSION:3.0\r\nFN:%s\r\nEND:VCARD\r\n" % said + mail,
-        }
-        self.assertEqual(xml.etree.ElementTree.fromstring(rows["letter.svg"])[0].text.encode(), said)
-        for name, octets in rows.items():
-            self.put(name, octets)
-        begins = b"Return-Path: <a>", b"received: by a", b"X-a_b.c: d", b"From: a", b"cc: a", b"Organisation: a", b"MIME-Version: 1.0"
-        rest = mail.replace(b"MIME-Version: 1.0\r\n", b"").replace(b"From: ada", b"X-From: ada")
-        for number, field in enumerate(begins):
-            self.put(f"good{number}.eml", field + b"\r\n" + rest)
-        found = self.lines()
-        self.assertEqual({name: found[name] for name in rows}, dict.fromkeys(rows, "refused F10 Ambiguous"))
-        for number, field in enumerate(begins):
-            self.assertRegex(found[f"good{number}.eml"], ACCEPTED, field)
-
-    def test_a_mail_that_is_called_as_a_script(self):
-        """Its first field is a command behind a label, or a note, and all else of it is in a comment or a text."""
-        mail, said = made.mail_signed(self.maker.signed), "I owe you 9 euro."
-        rows = {
-            "py": b'Subject: said.append("%b") or """\r\n%b"""\r\n' % (said.encode(), mail),
-            "js": b'Subject: console.log("%b"); /*\r\n%b*/\r\n' % (said.encode(), mail),
-            "pl": b'Subject: print "%b"; exit;\r\n __END__\r\n%b' % (said.encode(), mail),
-        }
-        ran = {"said": []}
-        exec(rows["py"].decode(), ran)
-        self.assertEqual(ran["said"], [said])
-        for language, program in (("js", "node"), ("pl", "perl")):
-            path = self.put(f"letter.{language}", rows[language])
-            if shutil.which(program):
-                self.assertEqual(subprocess.run([program, path], capture_output=True, check=True).stdout.decode().strip(), said)
-        for name in ("letter.py", "letter.pyw", "letter.mjs", "letter.cjs", "letter.pm"):
-            self.put(name, rows["py"])
-        self.put("letter.eml", rows["py"])
-        found = self.lines()
-        self.assertRegex(found.pop("letter.eml"), ACCEPTED)
-        self.assertEqual((len(found), set(found.values())), (7, {"refused F10 Ambiguous"}))
 
     def test_a_mail_that_begins_without_an_empty_line_before_it(self):
         mail = made.mail_signed(self.maker.signed, ends=b"\n")

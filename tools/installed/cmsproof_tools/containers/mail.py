@@ -18,7 +18,7 @@ from typing import Iterator, NamedTuple
 from cmsproof_tools.containers.armour import decoded
 from cmsproof_tools.containers.ber import signed_in
 from cmsproof_tools.containers.refusals import Refused, refusing
-from cmsproof_tools.containers.twofold import ZIP_END, called_as, is_pdf
+from cmsproof_tools.containers.twofold import ZIP_END, called_as, is_pdf, other_kind
 from cmsproof_tools.found import Found, Unfound
 
 LONGEST, MOST_PARTS, DEEPEST, LONGEST_HEAD = 1 << 30, 10_000, 20, 1 << 20
@@ -72,13 +72,14 @@ COVERS = "one part of the mail, and not the mail's head with From, To, Subject a
 
 
 class Entity(NamedTuple):
-    """A part of a mail: its head, its body and all its octets; which part it is, in numbers; and what stands beside it unsigned."""
+    """A part of a mail: its head, body and octets; which part it is, in numbers; what stands beside it unsigned; and the file."""
 
     head: email.message.Message
     body: memoryview
     whole: memoryview
     number: str
     beside: str
+    file: memoryview
 
     @property
     def kind(self) -> str:
@@ -92,10 +93,10 @@ class Entity(NamedTuple):
 
 
 class Walk:
-    """Goes through the parts of mails, of which there may not be too many."""
+    """Goes through the parts of mails in a file, of which there may not be too many."""
 
-    def __init__(self) -> None:
-        self.count = 0
+    def __init__(self, file: memoryview) -> None:
+        self.count, self.file = 0, file
 
     def entity(self, whole: memoryview, number: str, beside: str) -> Entity:
         """A part with its head read. Raises Refused where the head is none, or can be read in two ways."""
@@ -123,7 +124,7 @@ class Walk:
             parameters = [name.lower() for name, _ in head.get_params([], "content-type")]
             if len(set(parameters)) != len(parameters) or any(isinstance(defect, DEFECTS) for defect in head.defects):
                 raise Refused("F10", "a head that can be read in two ways")
-        return Entity(head, whole[len(begin) if end is None else end.end() :], whole, number, beside)
+        return Entity(head, whole[len(begin) if end is None else end.end() :], whole, number, beside, self.file)
 
     def signed_in(self, entity: Entity) -> Iterator[Found | Unfound]:
         """What is signed in a part."""
@@ -200,7 +201,10 @@ def unpacked(entity: Entity) -> bytes:
     """The octets of a body that is base64, or not encoded."""
     encoding = str(entity.head.get("content-transfer-encoding", "7bit")).strip().lower()
     if encoding != "base64":
-        return bytes(plain(entity))
+        octets = bytes(plain(entity))
+        if kind := other_kind(octets, entity.file):
+            raise Refused("F10", f"it is a {kind} too, which is not signed")
+        return octets
     if FROM_LINE.search(entity.body):
         raise Refused("F10", "a line in base64 that begins a mail for some programs")
     return decoded(bytes(entity.body))
@@ -318,7 +322,7 @@ def found_in_mail(octets: memoryview) -> Iterator[Found | Unfound]:
     if not mails:
         raise Refused("F1", UNSIGNED)
     for number, mail in enumerate(mails, 1):
-        for one in found_in_one(mail, many):
+        for one in found_in_one(octets, mail, many):
             if isinstance(one, Found) and not many and FIRST_FIELD.match(octets) is None:
                 one = Unfound(one.part, "F10", "a mail whose first field is none of a mail, as where another file begins", "s/mime")
             named = ", ".join(filter(None, [f"mail {number}" if many else "", one.part]))
@@ -336,9 +340,9 @@ def check_alone(entity: Entity) -> None:
             raise Refused("F10", "a mail whose Content-Length ends it before another one")
 
 
-def found_in_one(mail: memoryview, many: bool) -> Iterator[Found | Unfound]:
-    """What is signed in one mail, which may be one of an mbox, or why nothing is."""
-    walk, count = Walk(), 0
+def found_in_one(octets: memoryview, mail: memoryview, many: bool) -> Iterator[Found | Unfound]:
+    """What is signed in one mail of a file, which may be an mbox, or why nothing is."""
+    walk, count = Walk(octets), 0
     try:
         entity = walk.entity(mail, "", "")
         if many:

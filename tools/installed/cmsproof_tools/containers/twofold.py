@@ -136,8 +136,9 @@ def content_at(octets: memoryview) -> tuple[int, int]:
     return at, behind(reader, at, end)
 
 
-def other_kind(octets: Buffer) -> str:
-    """What other programs open a file of CMS as, by octets that are not in its content; no text where they do not."""
+def other_kind(octets: Buffer, whole: Buffer = b"") -> str:
+    """What other programs open a file of CMS as, by octets that are not in its content; no text where they do not. `whole` is the file in
+    which they stand as they are, if it has more than them."""
     # (nearly all files are short, and have neither word)
     if type(octets) is bytes and len(octets) <= LAST:
         pairs = in_pairs(octets)
@@ -155,6 +156,7 @@ def other_kind(octets: Buffer) -> str:
     if pdf and any(map(is_pdf, outside)):
         return "PDF"
     ends = ZIP_END.search(view[max(end, len(view) - LAST) :]) or ZIP_END.search(view[:begin][-LAST:])
-    if ends is not None and any(ZIP_ENTRY.search(part) for part in outside):
+    # (such an end may be of a directory that is signed, as of a zip file in another one)
+    if ends is not None and (ZIP_ENTRY.search(view) or ZIP_ENTRY.search(whole)):
         return "zip file"
     return ""

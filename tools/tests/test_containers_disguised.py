@@ -1,0 +1,153 @@
+"""Tests of files of CMS and mails that other programs open as a file of another kind, by octets that are not signed, or by their
+name: none is accepted. What those programs find in them is looked at with Python's libraries, and with others that are there."""
+import base64
+import io
+import shutil
+import struct
+import subprocess
+import sys
+import unittest
+import xml.etree.ElementTree
+import zipfile
+from pathlib import Path
+
+sys.path.insert(0, str(Path(__file__).resolve().parent))
+from containing import WithMaker, made  # noqa: E402
+from test_containers_twofold import ACCEPTED, EVIL, GOOD, Entry, end, opened, with_more  # noqa: E402
+
+from oracle.der import element  # noqa: E402
+
+AMBIGUOUS = "refused F10 Ambiguous"
+
+
+class Packed(WithMaker):
+    """Zip files whose parts stand in a file of CMS or a mail."""
+
+    def test_ber_whose_heads_are_a_part_of_another_file(self):
+        """Strings in pieces of 80 octets, whose length is the letter P: `PK` of a directory and of its end stands in BER alone."""
+        first = b"MIME-Version: 1.0\r\nContent-Type: application/pkcs7-mime; smime-type=signed-data\r\nContent-Transfer-Encoding: "
+        attached, entry = self.maker.attached(b"a letter"), Entry(b"letter.txt", EVIL)
+
+        def in_ber(at, place, behind):
+            directory = bytearray(entry.second(at))
+            directory[32:34] = struct.pack("<H", 26)
+            last = end(1, len(directory) + 26, place)[:-2] + struct.pack("<H", behind)
+            pieces = entry.first(), bytes(directory[1:]).ljust(80), last[1:].ljust(80)
+            return with_more(attached, b"".join(element(4, piece) for piece in pieces), wrapped=opened, pieces=opened)
+
+        places, head = (0, 0, 0), first + b"binary\r\n\r\n"
+        for _ in range(2):
+            ber = in_ber(*places)
+            mail = head + ber
+            places = mail.index(b"PK\3\4"), mail.index(b"PK\1\2"), len(mail) - mail.index(b"PK\5\6") - 22
+        with zipfile.ZipFile(io.BytesIO(mail)) as file:
+            self.assertEqual(file.read("letter.txt"), EVIL)
+        text = base64.encodebytes(ber)
+        rows = {
+            "binary.eml": mail,
+            "base64.eml": first + b"base64\r\n\r\n" + text,
+            "a.pem": b"-----BEGIN CMS-----\n%b-----END CMS-----\n" % text,
+            "a.b64": text,
+            "a.p7m": ber,
+        }
+        for name, octets in rows.items():
+            self.put(name, octets)
+        good = with_more(attached, element(4, b"a") + element(4, b"b"), wrapped=opened, pieces=opened)
+        self.put("good.eml", head + good)
+        found = self.lines()
+        self.assertRegex(found.pop("good.eml"), ACCEPTED)
+        self.assertEqual(found, dict.fromkeys(rows, AMBIGUOUS))
+
+    def test_the_end_of_a_directory_that_is_not_signed(self):
+        """An end in an unsigned attribute, of a directory that is elsewhere: in a zip file that is in the signed one, or beside what is
+        signed of a mail. The comment in the directory, or what Info-ZIP takes for it, goes up to the end."""
+        inner = made.zipped([("letter.txt", EVIL)])
+        outer = self.maker.attached(made.zipped([("letter.txt", GOOD), ("older.zip", inner)]))
+        text, entry = b"Content-Type: text/plain\r\n\r\nI owe you 1 euro.\r\n", Entry(b"letter.txt", EVIL)
+        detached, (head, _, _) = self.maker.signed(text), made.mail_signed(lambda _: b"", text).partition(b"--cut")
+        kind = b"Content-Type: application/pkcs7-signature\r\nContent-Transfer-Encoding: binary\r\n\r\n"
+
+        def signed(octets, place, length, behind):
+            return with_more(octets, attribute=end(1, length, place)[:-2] + struct.pack("<H", behind))
+
+        def mail(at, place, length, behind):
+            directory = bytearray(entry.second(at))
+            directory[32:34] = struct.pack("<H", max(0, length - len(directory)))
+            parts = head, entry.first(), directory, b"\r\n--cut\r\n", text, b"\r\n--cut\r\n", kind
+            return b"".join(parts) + signed(detached, place, length, behind) + b"\r\n--cut--\r\n"
+
+        whole, letter = signed(outer, 0, 0, 0), mail(0, 0, 0, 0)
+        for _ in range(2):
+            begin, first, last = whole.index(inner), whole.index(b"PK\1\2"), whole.rindex(b"PK\5\6")
+            whole = signed(outer, first - begin, last - first, len(whole) - last - 22)
+            at, first, last = letter.index(b"PK\3\4"), letter.index(b"PK\1\2"), letter.rindex(b"PK\5\6")
+            letter = mail(at, first, last - first, len(letter) - last - 22)
+        with zipfile.ZipFile(io.BytesIO(letter)) as file:
+            self.assertEqual(file.read("letter.txt"), EVIL)
+        path = self.put("inner.p7m", whole)
+        if shutil.which("unzip"):
+            done = subprocess.run(["unzip", "-p", path, "letter.txt"], capture_output=True, check=False)
+            self.assertEqual(done.stdout, EVIL)
+        self.put("a.eml", letter), self.put("good.p7m", outer)
+        self.put("good.eml", mail(0, 0, 0, 0).replace(b"PK\5\6", b"PK\5\7"))
+        found = self.lines()
+        for name in ("good.p7m", "good.eml"):
+            self.assertRegex(found.pop(name), ACCEPTED)
+        self.assertEqual(found, {"inner.p7m": AMBIGUOUS, "a.eml": AMBIGUOUS})
+
+
+class Begun(WithMaker):
+    """Mails that begin as other files do."""
+
+    def test_a_mail_that_begins_as_another_file(self):
+        """The head of a mail is not signed, and its first field can have nearly any octets in its name (RFC 5322 2.2)."""
+        mail, said = made.mail_signed(self.maker.signed), b"I owe you 9 euro."
+        picture = b"<s:svg\r\n xmlns:s='http://www.w3.org/2000/svg'><s:text>%s</s:text><s:desc><![CDATA[\r\n" % said
+        rows = {
+            "letter.svg": picture + mail + b"]]></s:desc></s:svg>\r\n",
+            "letter.rtf": b"{\\rtf1\\ansi:%s}\r\n" % said + mail,
+            "letter.ps": b"%%!PS-Adobe-3.0:\r\n (%s) show showpage quit\r\n" % said + mail,
+            "page": b"<!-->:<html><body>%s</body></html>\r\n" % said + mail,
+            "script": b"#!/bin/cat:\r\n" + mail,
+            # a picture whose comment goes over the head (GIF89a, 24)
+            "picture": b"GIF89a:\1d\1\1\1\1!\xfe%c\r\n" % (mail.index(b"--cut") + 2) + mail.replace(b"--cut", b"\0;\r\n--cut", 1),
+            "letter.vcf": b"BEGIN:VCARD\r\nVERSION:3.0\r\nFN:%s\r\nEND:VCARD\r\n" % said + mail,
+        }
+        self.assertEqual(xml.etree.ElementTree.fromstring(rows["letter.svg"])[0].text.encode(), said)
+        for name, octets in rows.items():
+            self.put(name, octets)
+        begins = b"Return-Path: <a>", b"received: by a", b"X-a_b.c: d", b"From: a", b"cc: a", b"Organisation: a", b"MIME-Version: 1.0"
+        rest = mail.replace(b"MIME-Version: 1.0\r\n", b"").replace(b"From: ada", b"X-From: ada")
+        for number, field in enumerate(begins):
+            self.put(f"good{number}.eml", field + b"\r\n" + rest)
+        found = self.lines()
+        self.assertEqual({name: found[name] for name in rows}, dict.fromkeys(rows, AMBIGUOUS))
+        for number, field in enumerate(begins):
+            self.assertRegex(found[f"good{number}.eml"], ACCEPTED, field)
+
+    def test_a_mail_that_is_called_as_a_script(self):
+        """Its first field is a command behind a label, or a note, and all else of it is in a comment or a text."""
+        mail, said = made.mail_signed(self.maker.signed), "I owe you 9 euro."
+        rows = {
+            "py": b'Subject: said.append("%b") or """\r\n%b"""\r\n' % (said.encode(), mail),
+            "js": b'Subject: console.log("%b"); /*\r\n%b*/\r\n' % (said.encode(), mail),
+            "pl": b'Subject: print "%b"; exit;\r\n __END__\r\n%b' % (said.encode(), mail),
+        }
+        ran = {"said": []}
+        exec(rows["py"].decode(), ran)
+        self.assertEqual(ran["said"], [said])
+        for language, program in (("js", "node"), ("pl", "perl")):
+            path = self.put(f"letter.{language}", rows[language])
+            if shutil.which(program):
+                self.assertEqual(subprocess.run([program, path], capture_output=True, check=True).stdout.decode().strip(), said)
+        for name in ("letter.py", "letter.pyw", "letter.mjs", "letter.cjs", "letter.pm"):
+            self.put(name, rows["py"])
+        self.put("letter.eml", rows["py"]), self.put("shop.pl", self.maker.attached(GOOD))
+        found = self.lines()
+        for name in ("letter.eml", "shop.pl"):
+            self.assertRegex(found.pop(name), ACCEPTED)
+        self.assertEqual((len(found), set(found.values())), (7, {AMBIGUOUS}))
+
+
+if __name__ == "__main__":
+    unittest.main()

@@ -6,6 +6,7 @@ import shutil
 import struct
 import subprocess
 import sys
+import tarfile
 import unittest
 import xml.etree.ElementTree
 import zipfile
@@ -13,7 +14,7 @@ from pathlib import Path
 
 sys.path.insert(0, str(Path(__file__).resolve().parent))
 from containing import WithMaker, made  # noqa: E402
-from test_containers_twofold import ACCEPTED, EVIL, GOOD, Entry, end, opened, with_more  # noqa: E402
+from test_containers_twofold import ACCEPTED, EVIL, GOOD, Entry, end, opened, with_more, with_tar, zipped  # noqa: E402
 
 from oracle.der import element  # noqa: E402
 
@@ -94,6 +95,40 @@ class Packed(WithMaker):
         for name in ("good.p7m", "good.eml"):
             self.assertRegex(found.pop(name), ACCEPTED)
         self.assertEqual(found, {"inner.p7m": AMBIGUOUS, "a.eml": AMBIGUOUS})
+
+    def test_a_tar_whatever_it_is_called(self):
+        """The first file of the tar is called as the file of CMS, the mail or the zip file begins (POSIX.1-2017, pax), and the next one
+        is a letter."""
+        attached = self.maker.attached(GOOD)
+
+        def block(name, text, filling=b"\0"):
+            """The head of a file, and its octets."""
+            found = bytearray(name.ljust(100, filling) + b" " * 56 + b"0" + filling * 172 + b" " * 16 + filling * 167)
+            found[124:136] = b"%011o " % len(text)
+            found[148:156] = b"%06o  " % sum(found)
+            return bytes(found) + text
+
+        letter = block(b"letter.txt", (EVIL + b"\n").ljust(511) + b"\n")
+        head, _, rest = made.mail_signed(self.maker.signed).partition(b"--cut")
+        filling = b"\n" * (512 - len(head) - 2)
+        mail = block(b"X-A: ", b"\r\n" + head + filling, b"a") + letter + b"\n--cut" + rest
+        first = Entry(b"letter.txt", GOOD, head={"extra": struct.pack("<HH", 0xCAFE, 4000) + bytes(4000)})
+        packed = zipped(first, Entry(b"META-INF/signature.p7s", self.maker.signed(GOOD)))
+        begun = block(packed[:44], b"a" * 512) + letter + bytes(1024)
+        # (Python's `tarfile` reads such a sum too)
+        number = b"\x80" + int(begun[148:154], 8).to_bytes(7, "big")
+        other = begun[:148] + number + begun[156:]
+        tar = with_tar(attached, EVIL)
+        rows = {"letter": tar, "tar.sig": tar, "mail": mail, "asic": begun + packed[len(begun) :], "binary": other + packed[len(other) :]}
+        for name, octets in rows.items():
+            with tarfile.open(fileobj=io.BytesIO(octets)) as file:
+                self.assertEqual(file.extractfile("letter.txt").read().strip(), EVIL, name)
+            self.put(name, octets)
+        self.put("good", attached), self.put("good.asics", packed)
+        found = {name.partition(" ")[0]: line for name, line in self.lines().items()}
+        self.assertRegex(found.pop("good"), ACCEPTED)
+        self.assertRegex(found.pop("good.asics"), ACCEPTED)
+        self.assertEqual(found, dict.fromkeys(rows, AMBIGUOUS))
 
 
 class Begun(WithMaker):

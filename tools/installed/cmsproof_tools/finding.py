@@ -7,7 +7,7 @@ from functools import lru_cache
 from typing import Callable, Iterator, Union
 
 from cmsproof.octets import Buffer, File
-from cmsproof_tools.containers.twofold import called_as, other_kind
+from cmsproof_tools.containers.twofold import called_as, is_tar, other_kind
 from cmsproof_tools.found import BEGINNING, Found, Unfound
 from cmsproof_tools.signed_parts import is_response
 
@@ -69,7 +69,7 @@ def as_one(name: str, found: Union[Found, Unfound], octets: Buffer) -> Union[Fou
     if isinstance(found, Unfound):
         return found
     # (a SignedData in a mail, say, is opened from there)
-    if kind := other_kind(octets if found.container in ("", "ber") else found.signed):
+    if kind := "tar" if is_tar(octets) else other_kind(octets if found.container in ("", "ber") else found.signed):
         return Unfound(found.part, "F10", f"it is a {kind} too, which is not signed", found.container)
     if kind := called_as(name, found.container):
         return Unfound(found.part, "F10", f"its name is that of a {kind}, which it is not", found.container)
@@ -101,8 +101,9 @@ def is_in_der(octets: Buffer) -> bool:
 def is_alone_in_der(name: str, octets: bytes) -> bool:
     """Whether a file is one in DER, of two octets at least, and `found_in` finds the file itself in it. (This is asked of each file of an
     archive.)"""
-    is_short = len(octets) < 2
-    return not is_short and octets[0] == 0x30 and octets[1] != 0x80 and not other_kind(octets) and not called_as(name, "")
+    if len(octets) < 2 or octets[0] != 0x30 or octets[1] == 0x80:
+        return False
+    return not is_tar(octets) and not other_kind(octets) and not called_as(name, "")
 
 
 def found_in_der(name: str, octets: Buffer) -> Union[Found, Unfound]:

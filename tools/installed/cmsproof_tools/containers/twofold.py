@@ -25,6 +25,9 @@ ZIP_END, ZIP_ENTRY, LAST = re.compile(b"PK\5\6"), re.compile(b"PK\1\2"), (1 << 1
 OF_PAIRS = ctypes.PyDLL(None).PyUnicode_FromKindAndData
 OF_PAIRS.restype = ctypes.py_object
 TWO, COUNT = ctypes.c_int.from_param(2), ctypes.c_ssize_t
+# the head of the first file of a tar: so many octets, among which is their sum in octal digits, with spaces in its place (POSIX.1-2017,
+# pax, "ustar Interchange Format"). Some programs count octets from 128 on as negative, or read a number of octets behind 80
+TAR_HEAD, TAR_SUM, TAR_SAID = 512, slice(148, 156), re.compile(rb"[\0\s]*([0-7]+)|\x80")
 # what files are called that programs open which put a file together from what they find, wherever that is; and as which container such a
 # file is read here. The octets that such a program skips need not be those that are not signed: strings of BER may be in any pieces
 CALLED = {
@@ -101,6 +104,16 @@ def is_pdf(octets: Buffer) -> bool:
     if PDF_PLACES.search(octets) is not None:
         return True
     return any(is_object(octets, found) for found in PDF_OBJECT.finditer(octets))
+
+
+def is_tar(octets: Buffer) -> bool:
+    """Whether octets begin as a tar, as some programs see by the octets alone, whatever a file is called."""
+    said = TAR_SAID.match(octets[TAR_SUM])
+    if said is None or len(octets) < TAR_HEAD:
+        return False
+    head = bytes(octets[: TAR_SUM.start]) + b" " * 8 + bytes(octets[TAR_SUM.stop : TAR_HEAD])
+    number = int(said[1], 8) if said[1] else int.from_bytes(bytes(octets[TAR_SUM])[1:], "big")
+    return number in (sum(head), sum(head) - 256 * sum(octet > 127 for octet in head))
 
 
 def called_as(name: str, container: str) -> str:

@@ -86,6 +86,19 @@ class Lines(WithFiles):
         for words, said, names in rows:
             self.assertEqual(self.run_archive(*words, said=said), (0, [f"{name}: {ACCEPTED}" for name in names], ""), words)
 
+    def test_a_name_with_the_end_of_its_line(self):
+        """A file called so, as `find` lists what is new, is not passed over for another one that is called as the rest of its line."""
+        self.file("a"), self.file("a\r", MALFORMED), self.file("c.p7s"), self.file("c\r", MALFORMED)
+        (self.folder / "names").write_bytes(b"./a\r\n"), (self.folder / "pairs").write_bytes(b"c.p7s\tc\r\n")
+        said = "is a name, and a name with the end of its line: --null reads such lists\n"
+        for word, path, name in (("--files-from", "names", "./a"), ("--pairs-from", "pairs", "c")):
+            found = self.run_archive(word, path)
+            self.assertEqual(found, (2, [], f"cmsproof-archive: {path}: {name}\\r {said}"))
+        found = self.run_archive("--null", "-", said=b"./a\r\0")
+        self.assertEqual(found[:2], (2, [f"./a\\r: {MALFORMED}"]))
+        (self.folder / "a\r").unlink()
+        self.assertEqual(self.run_archive("--files-from", "names"), (0, [f"./a: {ACCEPTED}"], ""))
+
     def test_files_that_are_called_as_options(self):
         """What a shell puts in the place of `*`: whoever made such a file would name the list."""
         self.file("a")

@@ -17,7 +17,7 @@ from cmsproof_tools.descriptors import path_of
 from cmsproof_tools.evidenced import Records, records_in
 from cmsproof_tools.issuer_words import asked_of, names_issuers
 from cmsproof_tools.outcomes import json_lines, lost, named, text_lines
-from cmsproof_tools.pairs import USUAL, Pairs, rows_of_all
+from cmsproof_tools.pairs import USUAL, Pairs, check_ends, rows_of_all
 from cmsproof_tools.progress import Progress
 from cmsproof_tools.running import DONE, FAILED, MALFORMED, USAGE, Started, Stop, Words
 from cmsproof_tools.running import check_kept, module, read, shown, tell, write
@@ -54,6 +54,7 @@ def names_in(path: str, null: bool) -> list[str]:
         raise Stop(MALFORMED, f"{shown(path)}: no list of lines, for it has octets 00: --null reads it")
     names = [name for name in octets.split(b"\0" if null else b"\n") if name]
     if not null and all(name.endswith(b"\r") for name in names):
+        check_ends(path, names)
         names = [name[:-1] for name in names if name != b"\r"]
     if sys.getfilesystemencoding() == "utf-8":
         # (of all at once: an end of a name ends what is no UTF-8, too)

@@ -6,7 +6,7 @@ from __future__ import annotations
 
 import os
 import stat
-from typing import Sequence
+from typing import Iterable, Sequence
 
 from cmsproof_tools.running import MALFORMED, Stop, read, shown
 
@@ -76,6 +76,14 @@ def ending_of(text: str) -> tuple[str, str]:
     return first, second
 
 
+def check_ends(path: str, names: Iterable[bytes]) -> None:
+    """Ends the tool where something has a name of a list with the CR that would be the end of its line: nobody knows which one is meant."""
+    for name in names:
+        if os.path.lexists(name):
+            found = shown(os.fsdecode(name))
+            raise Stop(MALFORMED, f"{shown(path)}: {found} is a name, and a name with the end of its line: --null reads such lists")
+
+
 def rows_of(path: str, null: bool) -> dict[str, str]:
     """The names of a list of two columns, a signature and its content: with a TAB between and one pair on each line, whose end may be CR LF
     if all have it, or with each name ended by an octet 00."""
@@ -89,6 +97,7 @@ def rows_of(path: str, null: bool) -> dict[str, str]:
         lines = [line for line in octets.split(b"\n") if line]
         # (else a name can end so, and another file has the rest of it)
         if all(line.endswith(b"\r") for line in lines):
+            check_ends(path, (line.partition(b"\t")[2] for line in lines))
             lines = [line[:-1] for line in lines]
         rows = [(first, second) for first, _, second in (line.partition(b"\t") for line in lines)]
     found: dict[str, str] = {}

@@ -251,7 +251,7 @@ def verify(tool: str, given: Any) -> tuple[int, str]:
         said, differ = again(bundle, beside, trust_of(trusted, f"{given.verify}, {TRUST}"))
     told = module("evidence_of_records").told(said.verdict.line) if is_of_record else said.verdict.line
     if differ:
-        return REFUSED, f"differs: {', '.join(differ)}; it is now: {told}"
+        return REFUSED, f"differs: {', '.join(differ)}; it is now {told}"
     for line in unshown(bundle, given):
         tell(tool, f"{shown(given.verify)}: {line}")
     under = ", under the trust list of its maker" if given.trust is None else ""

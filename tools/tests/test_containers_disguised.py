@@ -130,6 +130,25 @@ class Packed(WithMaker):
         self.assertRegex(found.pop("good.asics"), ACCEPTED)
         self.assertEqual(found, dict.fromkeys(rows, AMBIGUOUS))
 
+    def test_octets_at_a_place_that_make_another_file(self):
+        """What is before the mark of DICOM is anything (PS3.10 7.1)."""
+        attached, rows = self.maker.attached(GOOD), {}
+        for place, mark in ((60, b"BOOKMOBI"), (128, b"DICM"), (522, b"\0\x11\2\xff")):
+            made_so = [with_more(attached, parameters=b" " * count + mark) for count in range(place)]
+            rows[f"letter{place}"] = next(octets for octets in made_so if octets.index(mark) == place)
+            self.put(f"good{place}", next(octets for octets in made_so if octets.index(mark) == place + 1))
+        extra = struct.pack("<HH", 0xCAFE, 1000) + (bytes(84) + b"DICM").ljust(1000)
+        packed = zipped(Entry(b"letter.txt", GOOD, head={"extra": extra}), Entry(b"META-INF/signature.p7s", self.maker.signed(GOOD)))
+        self.assertEqual(packed.index(b"DICM"), 128)
+        rows["letter.asics"] = packed
+        for name, octets in rows.items():
+            self.put(name, octets)
+        found = {name.partition(" ")[0]: line for name, line in self.lines().items()}
+        self.assertEqual({name: found.pop(name) for name in rows}, dict.fromkeys(rows, AMBIGUOUS))
+        self.assertEqual(len(found), 3)
+        for name, line in found.items():
+            self.assertRegex(line, ACCEPTED, name)
+
 
 class Begun(WithMaker):
     """Mails that begin as other files do."""

@@ -484,7 +484,7 @@ ROWS = (
         "A PDF: octets before `%PDF-`, a signature dictionary in a stream, or one that is an annotation; an "
         "object that goes over the signature; a second /ByteRange over as many octets; another PDF in what is "
         "signed; an object that programs which mend a PDF mistake or miss. CMS, a mail or a zip file that is a "
-        "PDF, tar or zip file too, by unsigned octets, or that is called as another kind: `.pdf`, `.html`, "
+        "PDF, tar, zip or DICOM file too, by unsigned octets, or that is called as another kind: `.pdf`, `.html`, "
         "`.tar`, `.mp3`; a mail or bundle with such a signature",
         DO_NOT_TRUST,
     ),

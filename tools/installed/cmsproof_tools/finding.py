@@ -7,7 +7,7 @@ from functools import lru_cache
 from typing import Callable, Iterator, Union
 
 from cmsproof.octets import Buffer, File
-from cmsproof_tools.containers.twofold import called_as, is_tar, other_kind
+from cmsproof_tools.containers.twofold import begun_as, called_as, other_kind
 from cmsproof_tools.found import BEGINNING, Found, Unfound
 from cmsproof_tools.signed_parts import is_response
 
@@ -69,7 +69,7 @@ def as_one(name: str, found: Union[Found, Unfound], octets: Buffer) -> Union[Fou
     if isinstance(found, Unfound):
         return found
     # (a SignedData in a mail, say, is opened from there)
-    if kind := "tar" if is_tar(octets) else other_kind(octets if found.container in ("", "ber") else found.signed):
+    if kind := begun_as(octets) or other_kind(octets if found.container in ("", "ber") else found.signed):
         return Unfound(found.part, "F10", f"it is a {kind} too, which is not signed", found.container)
     if kind := called_as(name, found.container):
         return Unfound(found.part, "F10", f"its name is that of a {kind}, which it is not", found.container)
@@ -103,7 +103,7 @@ def is_alone_in_der(name: str, octets: bytes) -> bool:
     archive.)"""
     if len(octets) < 2 or octets[0] != 0x30 or octets[1] == 0x80:
         return False
-    return not is_tar(octets) and not other_kind(octets) and not called_as(name, "")
+    return not begun_as(octets) and not other_kind(octets) and not called_as(name, "")
 
 
 def found_in_der(name: str, octets: Buffer) -> Union[Found, Unfound]:

@@ -28,6 +28,12 @@ TWO, COUNT = ctypes.c_int.from_param(2), ctypes.c_ssize_t
 # the head of the first file of a tar: so many octets, among which is their sum in octal digits, with spaces in its place (POSIX.1-2017,
 # pax, "ustar Interchange Format"). Some programs count octets from 128 on as negative, or read a number of octets behind 80
 TAR_HEAD, TAR_SUM, TAR_SAID = 512, slice(148, 156), re.compile(rb"[\0\s]*([0-7]+)|\x80")
+# octets at a place that make a file one of another kind, whatever is before them (DICOM PS3.10 7.1, and freedesktop's shared-mime-info)
+MARKED = (
+    ("DICOM file", slice(128, 132), (b"DICM",)),
+    ("book", slice(60, 68), (b"BOOKMOBI", b"TEXtREAd")),
+    ("picture", slice(522, 526), (b"\0\x11\2\xff",)),
+)
 # what files are called that programs open which put a file together from what they find, wherever that is; and as which container such a
 # file is read here. The octets that such a program skips need not be those that are not signed: strings of BER may be in any pieces
 CALLED = {
@@ -48,7 +54,7 @@ CALLED = {
     # (players skip what is no sound or picture, and some programs lines that are no command)
     "film or a sound": (
         "film",
-        tuple(".aac .ac3 .adts .flac .m2t .m2ts .mp2 .mp3 .mpe .mpeg .mpg .mpga .mts .oga .ogg .ogv .ogx .opus .spx .vob".split()),
+        tuple(".aac .ac3 .adts .flac .m2t .m2ts .mp2 .mp3 .mpe .mpeg .mpg .mpga .mts .mxf .oga .ogg .ogv .ogx .opus .spx .vob".split()),
     ),
     "script": ("script", tuple(".bash .bat .cmd .ksh .php .php3 .php4 .php5 .phps .phtml .sh .zsh".split())),
 }
@@ -107,13 +113,20 @@ def is_pdf(octets: Buffer) -> bool:
 
 
 def is_tar(octets: Buffer) -> bool:
-    """Whether octets begin as a tar, as some programs see by the octets alone, whatever a file is called."""
+    """Whether octets begin as a tar."""
     said = TAR_SAID.match(octets[TAR_SUM])
     if said is None or len(octets) < TAR_HEAD:
         return False
     head = bytes(octets[: TAR_SUM.start]) + b" " * 8 + bytes(octets[TAR_SUM.stop : TAR_HEAD])
     number = int(said[1], 8) if said[1] else int.from_bytes(bytes(octets[TAR_SUM])[1:], "big")
     return number in (sum(head), sum(head) - 256 * sum(octet > 127 for octet in head))
+
+
+def begun_as(octets: Buffer) -> str:
+    """What octets begin as for programs that see by these alone what a file is; no text where that is nothing else."""
+    if is_tar(octets):
+        return "tar"
+    return next((kind for kind, place, marks in MARKED if bytes(octets[place]) in marks), "")
 
 
 def called_as(name: str, container: str) -> str:

@@ -10,6 +10,7 @@ import tarfile
 import unittest
 import xml.etree.ElementTree
 import zipfile
+import zlib
 from pathlib import Path
 
 sys.path.insert(0, str(Path(__file__).resolve().parent))
@@ -148,6 +149,26 @@ class Packed(WithMaker):
         self.assertEqual(len(found), 3)
         for name, line in found.items():
             self.assertRegex(line, ACCEPTED, name)
+
+    def test_the_last_entry_of_a_directory_that_goes_on(self):
+        """Its fields go over the end of the directory into the comment, where another name is (APPNOTE.TXT 4.6.9), which Info-ZIP shows."""
+        kind, signature = Entry(b"mimetype", made.ASIC_S), Entry(b"META-INF/signature.p7s", self.maker.signed(GOOD))
+        packed, name = zipped(kind, signature, Entry(b"letter.txt", GOOD)), EVIL + b"txt"
+        field = struct.pack("<HHBL", 0x7075, 5 + len(name), 1, zlib.crc32(b"letter.txt")) + name
+        # (read as the head of a field `PK` has 0605, in hexadecimal, octets behind it)
+        comment = b"mimetype=".ljust(0x605 - 18) + field
+        with_comment = packed[:-2] + struct.pack("<H", len(comment)) + comment
+        last = with_comment.rindex(b"PK\1\2")
+        rows = {"fields.asics": (30, 22 + len(comment)), "name.asics": (28, 14), "comment.asics": (32, 22)}
+        for called, (at, length) in rows.items():
+            self.put(called, with_comment[: last + at] + struct.pack("<H", length) + with_comment[last + at + 2 :])
+        self.put("good.asics", with_comment)
+        if shutil.which("unzip"):
+            words = ["unzip", "-Z1", self.folder / "archive" / "fields.asics"]
+            self.assertIn(name, subprocess.run(words, capture_output=True, check=False).stdout)
+        found = {name.partition(" ")[0]: line for name, line in self.lines().items()}
+        self.assertRegex(found.pop("good.asics"), ACCEPTED)
+        self.assertEqual(found, dict.fromkeys(rows, AMBIGUOUS))
 
 
 class Begun(WithMaker):

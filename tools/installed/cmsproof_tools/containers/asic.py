@@ -32,6 +32,7 @@ MOST_JUDGED = 16 << 30
 MAXIMUM, LONGEST_DESCRIPTOR = 0xFFFFFFFF, 24
 # the head of an entry, an entry of the directory, and the directory's end (APPNOTE.TXT 4.3.7, 4.3.12, 4.3.16)
 LOCAL, ENTRY_LENGTH, END = struct.Struct("<4sHHHHHLLLHH"), 46, struct.Struct("<4sHHHHLLH")
+ENTRY_LENGTHS = struct.Struct("<HHH")
 # what a program looks for that reads from the begin and does not know where an entry ends
 MARKS = re.compile(b"PK(?:\1\2|\3\4|\7\10)")
 # fields that may stand behind a name (APPNOTE.TXT 4.5.3, 4.6): sizes of ZIP64; another name, or another kind of file, of Unix, Macintosh
@@ -160,6 +161,14 @@ def check_places(octets: memoryview, found: zipfile.ZipFile) -> None:
         raise Refused("F10", "octets between the entries and their directory")
 
 
+def end_of_entries(octets: memoryview, at: int, count: int) -> int:
+    """Where so many entries of the directory end that begin at this place, by the lengths of name, fields and comment that each says. (Of
+    the last one Python's zipfile takes no more than is there.)"""
+    for _ in range(count):
+        at += ENTRY_LENGTH + sum(ENTRY_LENGTHS.unpack(octets[at + 28 : at + 34]))
+    return at
+
+
 def check_directory(octets: memoryview, found: zipfile.ZipFile) -> None:
     """Raises Refused unless the directory has these entries alone, and its end, the last octets of the file, says so. No directory of
     ZIP64 may stand there, which other programs look for elsewhere, or not at all; nothing that is read here needs one."""
@@ -169,7 +178,8 @@ def check_directory(octets: memoryview, found: zipfile.ZipFile) -> None:
         raise Refused("F10", "octets behind the directory")
     entries = found.infolist()
     length = sum(ENTRY_LENGTH + len(name_of(entry)) + len(entry.extra) + len(entry.comment) for entry in entries)
-    if said != [0, 0, len(entries), len(entries), length, found.start_dir] or found.start_dir + length != at:
+    is_other = said != [0, 0, len(entries), len(entries), length, found.start_dir] or found.start_dir + length != at
+    if is_other or end_of_entries(octets, found.start_dir, len(entries)) != at:
         raise Refused("F10", "the end of the directory says another thing than the directory, as with ZIP64")
     check_ends(octets[:at])
 

@@ -10,6 +10,7 @@ import zipfile
 import zlib
 from typing import Any, Callable, NamedTuple, Union
 
+from cmsproof_tools.containers.asic import end_of_entries
 from cmsproof_tools.running import FAILED, Started, Stop, shown
 from cmsproof_tools.writing import written
 
@@ -157,7 +158,8 @@ def members_in(whole: Any) -> dict[str, memoryview]:
     # the directory behind the members, and the records that end it (4.3.12, 4.3.14 to 4.3.16)
     ended = start + sum(46 + len(member.filename.encode()) + len(member.extra) + len(member.comment) for member in found)
     ends = octets[-22:-18] == b"PK\5\6" and len(octets) - ended in (22, 22 + 20 + 56)
-    if at != start or comment or not ends or any(member.comment for member in found):
+    is_whole = end_of_entries(octets, start, len(found)) == ended
+    if at != start or comment or not ends or not is_whole or any(member.comment for member in found):
         raise Malformed("octets stand in it that are no member's")
     return members
 

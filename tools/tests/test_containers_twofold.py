@@ -1,10 +1,12 @@
 """Tests of containers that two programs read in two ways: none is accepted for what only one of them sees. And of files that were
 forgotten, or took hours."""
 import base64
+import contextlib
 import email
 import email.policy
 import hashlib
 import io
+import mailbox
 import os
 import re
 import signal
@@ -590,7 +592,13 @@ class Lines(WithMaker):
         # (mutt 2.2 reads a second one at the length that is said)
         length = b"Content-Length: %d\n" % len(mail.partition(b"\n\n")[2])
         self.put("length", b"From a Mon\n" + length + mail + b"x" + evil)
+        # (Python's `mailbox` reads a second one that has no head, and begins with what is outside of the parts)
+        head, _, body = mail.partition(b"\n\n")
+        path = self.put("head", b"From a Mon\n" + head + b"\n" + evil.partition(b"Subject")[0] + b"\nI owe you 9 euro.\n" + body)
+        with contextlib.closing(mailbox.mbox(path)) as box:
+            self.assertEqual([one.get_payload()[:17] for one in box], ["", "I owe you 9 euro."])
         found = self.lines()
+        self.assertEqual(found["head mail 1"], "refused F10 Ambiguous")
         self.assertEqual(found["behind mail 1"], "refused F10 Ambiguous")
         self.assertEqual(found["before mail 1"], "refused F10 Ambiguous")
         self.assertEqual(found["within mail 1"], "refused F10 Ambiguous")

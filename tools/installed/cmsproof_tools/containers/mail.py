@@ -332,7 +332,8 @@ def found_in_mail(octets: memoryview) -> Iterator[Found | Unfound]:
 def check_alone(entity: Entity) -> None:
     """Raises Refused where some programs find another mail within one of an mbox: without an empty line before it, or, as mutt, where its
     Content-Length says."""
-    if FROM_LINE.search(entity.body):
+    # (Python's `email` says nothing of one that is the last line of a head)
+    if FROM_LINE.search(entity.whole):
         raise Refused("F10", "a line within a mail of an mbox that begins another one for some programs")
     for said in map(str, entity.head.get_all("content-length", [])):
         length = int(said) if re.fullmatch(r"\s*[0-9]{1,15}\s*", said, re.ASCII) else 0

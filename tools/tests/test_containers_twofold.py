@@ -562,6 +562,7 @@ class Lines(WithMaker):
         rows["pdf"], rows["zero"] = mail + pdf_at(len(mail)), mail.replace(b"MIME-V", b"X: a\0\r\nMIME-V")
         rows["pdf_inside"] = mail.replace(kind, kind + b"X-A: 4 0 obj <</Type/Catalog/Pages 5 0 R>> endobj\r\n")
         rows["pieces"] = mail.replace(b'boundary="cut"', b'a="; boundary=other; b"; boundary*0="cut"')
+        rows["box_line"] = b"From a\rSubject: evil\r\rI owe you 9 euro.\n" + mail
         rows["box"] = b"From 4 0 obj <</Type/Catalog/Pages 5 0 R>> endobj\r\n" + mail
         # the same with its policy of today
         inner = b"--a\r\n\r\nI owe you 9 euro.\r\n--a--\r\n"
@@ -576,6 +577,7 @@ class Lines(WithMaker):
         modern = email.message_from_bytes(rows["token"], policy=email.policy.default)
         self.assertIn("9 euro", modern.get_payload(0).get_payload())
         self.assertEqual(len(email.message_from_bytes(rows["return"]).get_payload()), 3)
+        self.assertEqual(email.message_from_bytes(rows["box_line"]).get_payload()[:17], "I owe you 9 euro.")
         for name, octets in rows.items():
             self.put(name + ".eml", octets)
         found = {name.partition(" ")[0]: line for name, line in self.lines().items()}

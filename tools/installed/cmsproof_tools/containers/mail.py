@@ -309,6 +309,8 @@ def mails_in(octets: memoryview) -> list[memoryview]:
     if len(lines) > MOST_PARTS:
         raise Refused("F4", f"more than {MOST_PARTS} mails")
     check_unsigned(*(line[0] for line in lines))
+    if any(OTHER_END.search(line[0]) for line in lines):
+        raise Refused("F10", "a line of an mbox with a CR or an octet 00 that ends it for some programs alone")
     ends = [line.start() for line in lines[1:]] + [len(octets)]
     return [octets[line.end() : end] for line, end in zip(lines, ends)]
 

@@ -93,12 +93,32 @@ def pairs_of(text):
     return pairs
 
 
+def edited(edit, texts):
+    """The texts that an edit by itself makes of some files, given all by their paths, as `rt` applies it; None, if it can't be applied."""
+    made = {}
+    for path, old, new in pairs_of(edit):
+        text = made.get(path, texts.get(path, ""))
+        if not old or text.count(old) != 1:
+            return None
+        made[path] = text.replace(old, new)
+    return made
+
+
+def opens_alike(old, new):
+    """Whether a new text opens what the old one does, so that what it opens or ends is opened or ended by no other edit."""
+    texts = (old, new)
+    depths, quotes = {it.count("{") - it.count("}") for it in texts}, {it.count('"') % 2 for it in texts}
+    return len(depths) == len(quotes) == 1 and not any(mark in it for it in texts for mark in ("/*", "*/"))
+
+
 def changed_by(edit, texts):
     """The functions whose bodies an edit changes, and nothing else; none, if it changes anything else or can't be applied."""
     functions = set()
+    if edited(edit, texts) is None:
+        return frozenset()
     for path, old, new in pairs_of(edit):
         text = texts.get(path, "")
-        if not old or text.count(old) != 1 or re.search(r"\bfn\b", old + new):
+        if text.count(old) != 1 or re.search(r"\bfn\b", old + new) or not opens_alike(old, new):
             return frozenset()
         number = text[: text.index(old)].count("\n")
         inside = [it for it in functions_of(path, text) if it.body < number < it.last]
@@ -154,6 +174,12 @@ def link(one, other):
     return shutil.copy2(one, other)
 
 
+def texts_of(top, crate):
+    """The code of a crate, by the paths of its files."""
+    place = top / "crates" / crate
+    return {it.relative_to(place).as_posix(): it.read_text() for it in (place / "src").rglob("*.rt")}
+
+
 def room_of(copy, crates, crate, folder):
     """A copy of a crate and of what stands below it, with what is proved of them."""
     room = pathlib.Path(folder)
@@ -168,14 +194,18 @@ def room_of(copy, crates, crate, folder):
 
 
 def check(copy, crates, crate, edits, until):
-    """What a check says of a crate with edits, given their texts, all of which are applied; nothing where they can't be."""
+    """What a check says of a crate with edits, given their texts: each is applied to the crate as it stands, and the lines that it
+    changes are put into one copy. So none changes what another put there, or is applied only because another was."""
     with tempfile.TemporaryDirectory(prefix="together-") as folder:
         room = room_of(copy, crates, crate, folder)
-        for path, old, new in [pair for edit in edits for pair in pairs_of(edit)]:
-            place = room / "crates" / crate / path
-            if place.read_text().count(old) != 1:
-                return 1, ""  # (another edit put the same text there, and would be another one: this tells nothing)
-            place.write_text(place.read_text().replace(old, new))
+        texts = texts_of(room, crate)
+        lines = {path: text.split("\n") for path, text in texts.items()}
+        for path, text in [made for edit in edits for made in edited(edit, texts).items()]:
+            for number, (was, now) in enumerate(zip(texts[path].split("\n"), text.split("\n"))):
+                lines[path][number] = lines[path][number] if now == was else now
+        for path, text in texts.items():
+            if "\n".join(lines[path]) != text:
+                (room / "crates" / crate / path).write_text("\n".join(lines[path]))
         return run([*kept_sums.rt(), "check", "--jobs", "1"], room / "crates" / crate, 1, until)
 
 
@@ -200,10 +230,7 @@ def try_batch(copy, crates, crate, batch, until):
 def refused_together(copy, crates, crate, edits, jobs, until):
     """The edits of a crate of a copy, paths of files, that checks of several refuse, and how many checks were begun for it.
     The crate must be proved as it stands. What is not refused in one round is tried with fewer others in the next."""
-    texts = {
-        f"src/{it.relative_to(copy / 'crates' / crate / 'src')}": it.read_text()
-        for it in (copy / "crates" / crate / "src").rglob("*.rt")
-    }
+    texts = texts_of(copy, crate)
     told = {edit: edit.read_text(errors="replace") for edit in edits}
     changed = {edit: changed_by(text, texts) for edit, text in told.items()}
     changed = {edit: functions for edit, functions in changed.items() if functions}

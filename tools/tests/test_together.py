@@ -69,6 +69,14 @@ EDITS = [
     ("old: absent\nnew: here", []),
     ("new: here", []),
     ("old: self.count\nnew: 0\nnew: 1", []),  # which `rt` takes for a bad edit
+    ("old: self.count\nnew: 0\nold: self.count\nnew: 1", []),  # the second can't be applied
+    # what another edit could end: `rt` can read none of these by itself
+    ("old: self.count\nnew: self.count /*", []),
+    ("old: self.count\nnew: self.count */", []),
+    ("old: self.count\nnew: { self.count", []),
+    ("old: self.count\nnew: self.count }", []),
+    ('old: self.count\nnew: "', []),
+    ("old: self.count\nnew: { self.count }", ["list/List/len"]),
     ("nothing", []),
 ]
 OPEN = "note: src/list.rt:5:1: it is not proved that what the function ensures holds when it returns (`returns`)"
@@ -204,6 +212,14 @@ class Rounds(unittest.TestCase):
         self.put("b_body", "wrong", "second")
         self.put("c_body", "wrong", "third")
         self.assertEqual(self.refused(), (["second", "third"], 1))
+
+    def test_what_applies_only_beside_another_is_no_edit(self):
+        # (the first is right; the second, by itself, has no place for its second pair, and beside the first it would change that one)
+        self.put("    a_body", "b_body", "first")
+        self.put("    b_body", "right\nold: b_body\nnew: wrong", "second")
+        self.put("c_body", "wrong", "third")
+        self.put("d_body", "wrong", "fourth")
+        self.assertEqual(self.refused(), (["fourth", "third"], 1))
 
     def test_one_alone_is_not_tried(self):
         self.assertEqual(self.tried(a="wrong"), ([], 0))

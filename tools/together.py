@@ -31,6 +31,8 @@ LOST_PROOF = re.compile(r"(?:\./)?proofs/(\S+)/[^/\s]+\.antt:\d+:\d+: error: (.*
 NAME_GONE = re.compile(r"has no field|is not in scope|has no `|was not admitted")
 # A line that places something in a file. What else the check says tells of no refusal.
 PLACED = re.compile(r"(?:\./)?\S+:\d+:\d+: error|.*\berror\[[\w-]+\]|note: (?:\./)?src/\S+:\d+:\d+: ")
+# What the kept work of a library that can't be used says, in the words by which `rt must-fail` knows that nothing was tried.
+STALE = re.compile(r"module .Rattle-\w+-.*Run the lower steps again")
 
 Function = collections.namedtuple("Function", "path folder first body last")
 
@@ -143,7 +145,7 @@ def in_batches(changed):
 def refused_by(told, functions):
     """The functions of some that a check's lines refuse, or None if they say anything of others, or are no such lines."""
     lines = told.split("\n")
-    if not any(line.startswith("logic=not-proved") for line in lines):
+    if STALE.search(told) or not any(line.startswith("logic=not-proved") for line in lines):
         return None
     refused = set()
     for line in lines:

@@ -105,6 +105,8 @@ TOLD = [
     ([OPEN, "src/list.rt:8:9: error: `at` is not in scope", SAID], None),
     ([OPEN, "error[E0308]: mismatched types", SAID], None),
     ([OPEN, "note: src/list.rt:8:9: this is never read", SAID], None),
+    # a library whose kept work can't be used
+    ([OPEN, "the module `Rattle-low-4f` was built of other sources. Run the lower steps again", SAID], None),
 ]
 
 

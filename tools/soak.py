@@ -32,6 +32,8 @@ LINE = re.compile(r"(\S+) ([0-9a-f]{40}|[0-9a-f]{64})")
 REFUSED, FAILED, LATE = "refused", "failed", "late"
 KEPT_ALONE = "only the edits that the gate keeps are tried"
 SHOWN = 3
+# how `rt` wants an edit to be named, and what may lie beside them to be read
+NAMED = re.compile(r"[A-Za-z0-9_-][A-Za-z0-9_.-]*\.edit|.*\.md")
 
 
 def say(*words):
@@ -42,6 +44,12 @@ def say(*words):
 def edits_of(top, crate):
     """The edits of a crate, those of the gate first."""
     return [edit for folder in changes.EDITS for edit in sorted((top / "crates" / crate / folder).glob("*.edit"))]
+
+
+def misnamed(top, crate):
+    """What lies among the edits of a crate, and by its name is none: `rt must-fail` calls it bad, and no other check would try it."""
+    there = [it for folder in changes.EDITS for it in sorted((top / "crates" / crate / folder).glob("*"))]
+    return [it.name for it in there if it.is_dir() or not NAMED.fullmatch(it.name)]
 
 
 def read_soaked(text, crates):
@@ -126,6 +134,10 @@ def try_alone(copy, crate, edits, jobs, until):
 def try_crate(copy, crates, crate, jobs, until):
     """Whether all edits of a crate of a copy are refused: many in one check, as far as that tells, the others alone."""
     edits, begun = edits_of(copy, crate), time.monotonic()
+    hidden = misnamed(copy, crate)
+    if hidden:
+        say(f"{crate}: {listed(hidden)} lies among the edits, and by its name is none, so that it would not be tried: rename it")
+        return FAILED
     # a crate that isn't proved as it stands would refuse every edit
     status, told = run([*kept_sums.rt(), "check", "--jobs", str(jobs)], copy / "crates" / crate, jobs, until)
     if status:

@@ -506,6 +506,23 @@ class Soaking(Repository):
         self.assertEqual((status, self.tried(), self.lines()), (1, ["low", "high"], [f"high {head}"]))
         self.assertIn("soak: not refused or not tried, of: low", told)
 
+    def test_an_edit_that_its_name_hides(self):
+        # (where the others are left to try alone, `rt` itself says that it is bad)
+        edit = "file: src/lib.rt\nold: 1\nnew: harmless\n"
+        for name in ("more.edits", "more.edit.txt", "more edit.edit", "more/one.edit"):
+            with self.subTest(name=name):
+                self.put({f"crates/low/more-edits/{name}": edit})
+                self.commit("an edit that is not tried")
+                status, told = self.soak("low")
+                self.assertEqual((status, self.tried(), self.lines()), (1, [], None))
+                self.assertIn(f"low: {name.partition('/')[0]} lies among the edits, and by its name is none", told)
+                self.assertIn("soak: not refused or not tried, of: low", told)
+                self.put({f"crates/low/more-edits/{name}": None})
+        shutil.rmtree(self.top / "crates/low/more-edits")
+        self.put({"crates/low/more-edits/README.md": "what they are"})
+        self.commit("what they are")
+        self.assertEqual((self.soak("low")[0], len(self.lines())), (0, 1))
+
     def test_no_history(self):
         shutil.rmtree(self.top / ".git")
         status, told = self.soak()

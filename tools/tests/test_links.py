@@ -1,5 +1,8 @@
-"""Tests that what documents, manual pages and comments name is there: documents, their sections, files."""
+"""Tests that what documents, manual pages and comments name is there: documents, their sections, files; and what commands of documents
+say of names and folders that somebody else chose."""
 import re
+import subprocess
+import tempfile
 import unittest
 from pathlib import Path
 
@@ -44,6 +47,55 @@ class Links(unittest.TestCase):
         # (a crate's own folder `data` is named by what stands before)
         found = {path for _, path in named if (TOP / path).exists() or any(TOP.glob("crates/*/" + path))}
         self.assertEqual([both for both in named if both[1] not in found], [])
+
+
+# what each of these files is, in the lines of the stand-ins below
+STAMPS = {
+    "good": "accepted 20261122071759Z",
+    " good": "refused P1 Status",
+    "[g]ood": "refused P1 Status",
+    "two words": "refused P1 Status",
+    "bad.tsr: accepted 20261122071759Z\n": "refused P1 Status",
+}
+
+
+class Recipes(unittest.TestCase):
+    """Commands of the documents, in folders that they were not written for."""
+
+    def setUp(self):
+        temporary = tempfile.TemporaryDirectory()
+        self.addCleanup(temporary.cleanup)
+        self.folder = Path(temporary.name)
+
+    def lines(self, script):
+        """What bash prints there, as lines."""
+        ran = ["bash", "-c", script]
+        return subprocess.run(ran, cwd=self.folder, stdin=subprocess.DEVNULL, capture_output=True, text=True).stdout.splitlines()
+
+    def test_each_line_of_a_loop_is_of_the_file_that_it_names(self):
+        loops = [it for file in DOCUMENTS for it in re.findall(r"^\$ (for \w+ in \*(?:.*\\\n)*.*)", file.read_text(), re.M)]
+        self.assertEqual(len(loops), 3)
+        for name, line in STAMPS.items():
+            for ending in ("tsr", "tok"):
+                (self.folder / f"{name}.{ending}").write_text(line)
+        stand_ins = 'cmsproof() { [ $# -eq 8 ] && cat "./$7"; }; verify() { cat "./${@: -1}"; }\n'
+        for loop in loops:
+            with self.subTest(loop):
+                told = self.lines(stand_ins + loop)
+                good = [line for line in told if re.search(": accepted [0-9]{14}Z$", line)]
+                wanted = [f"good.{ending}: accepted 20261122071759Z" for ending in ("tsr", "tok") if f"*.{ending}" in loop]
+                self.assertEqual((good, len(told)), (wanted, len(STAMPS) * len(wanted)))
+
+    def test_a_folder_without_files_has_no_digests(self):
+        listing = re.search(r"^\$ (list\(\) .*)", (TOP / "docs" / "GUIDE.md").read_text(), re.M).group(1)
+        (self.folder / "another").write_text("of another folder")
+        self.assertEqual(self.lines(f"{listing}\nlist sha256sum"), [])
+        (self.folder / "papers").mkdir()
+        self.assertEqual(self.lines(f"{listing}\nlist sha256sum"), [])
+        (self.folder / "papers" / "deed").write_text("a")
+        self.assertEqual(
+            self.lines(f"{listing}\nlist sha256sum"), ["ca978112ca1bbdcafac231b39a23dc4da786eff8147c4e72b9807785afee48bb  deed"]
+        )
 
 
 if __name__ == "__main__":

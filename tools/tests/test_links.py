@@ -97,6 +97,15 @@ class Recipes(unittest.TestCase):
             self.lines(f"{listing}\nlist sha256sum"), ["ca978112ca1bbdcafac231b39a23dc4da786eff8147c4e72b9807785afee48bb  deed"]
         )
 
+    def test_all_records_of_a_folder_are_renewed(self):
+        found = re.findall(r"^\$ ((?:shopt|sleep 1; cmsproof evidence renew) .*)", (TOP / "docs" / "GUIDE.md").read_text(), re.M)
+        wanted = [f"paper_records/{name}.ers" for name in (".hidden", "one", "a/two words", "a/b/three", "a/.b/c/four")]
+        for path in wanted:
+            (self.folder / path).parent.mkdir(parents=True, exist_ok=True)
+            (self.folder / path).write_text("")
+        told = self.lines("cmsproof() { printf '%s\\n' \"$@\"; }\n" + "\n".join(found))
+        self.assertEqual(sorted(it for it in told if it.endswith(".ers")), sorted(wanted))
+
 
 if __name__ == "__main__":
     unittest.main()

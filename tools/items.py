@@ -34,6 +34,7 @@ LOOKS_INSIDE = {"the_row", "TheInside", "TheSendSync", "TheLaws", "contracts", "
 MARKS = ("pub", "abbrev", "unfoldable", "pattern", "axiom", "ruleset")
 WHOLE = ("module", "mutual", "open", "deriving", "package")
 HEADS = {"Rattle", "package", "Self"}  # what a path may begin with that no file imports
+QUOTED = re.compile(r"«|\br#[^\W\d]")  # what begins a quoted name, of definitions and of code
 NAME = re.compile(r"[^\s(){}\[\].;,@\"«»]+")
 # of code and of definitions: a word, with what joins it to one before; and the parts of a word that may be names
 JOINED = (re.compile(r"(\.)?([^\s(){}\[\].;,@\"«»]+)"), re.compile(r"(\.|:: ?)?((?:(?!::)[^\s(){}\[\].;,@\"«»])+)"))
@@ -335,6 +336,6 @@ READERS = {".rt": read_code, ".antt": read_definitions}
 def file_of(path, text):
     """A file by what counts of its text; None if it can't be read for sure, as one with a quoted name, which may be a mark here."""
     try:
-        return None if "«" in text else READERS[path[path.rindex(".") :]](path, text)
+        return None if QUOTED.search(text) else READERS[path[path.rindex(".") :]](path, text)
     except (Unread, LookupError, ValueError):
         return None

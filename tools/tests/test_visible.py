@@ -93,6 +93,7 @@ class Seen(unittest.TestCase):
         (SMALL, SMALL.replace("x < 9", "x < 8"), code("fn high() { use low::f; f(1) }"), {"f"}),
         (SMALL, SMALL.replace("x < 9", "x < 8"), code("use low::{A};\nfn high() { use low::{f, g}; f(1) }"), {"f"}),
         (SMALL, SMALL.replace("x < 9", "x < 8"), code("use low::{A};\nfn high() { use low::*; f(1) }"), {"f"}),
+        (SMALL, SMALL.replace("x < 9", "x < 8"), code("fn high() { use r#low::{f, g}; f(1) }"), {"f"}),
         (SMALL, SMALL.replace("x < 9", "x < 8"), code("use {low::{A}};\nfn high() { use {low::{f, g}}; f(1) }"), {"f"}),
         # a private function, and one for the crate alone
         (OWN, OWN.replace("x < 9", "x < 8"), CALLS, set()),

@@ -26,6 +26,7 @@ def pairs_of(edit):
             old = line[len("old: ") :]
         elif line.startswith("new:"):
             pairs.append((path, old, line[len("new:") :].removeprefix(" ")))
+            old = ""  # (a second new text for it is none)
     return pairs
 
 
@@ -38,6 +39,8 @@ def fault_of(edit):
             return f"{path} is not code"
         if not (crate / path).is_file():
             return f"there is no file {path}"
+        if not old:
+            return f"a 'new:' text has no 'old:' text before it: {new}"
         text = texts.setdefault(path, (crate / path).read_text())
         if text.count(old) != 1:
             return f"an 'old:' text is in {path} {text.count(old)} times: {old}"

@@ -1,4 +1,4 @@
-"""Tests of `tools/together.py`: which edits go into one check, and what is believed of what a check says."""
+"""Tests of `tools/together.py`: which edits go into one check, and what is believed of what a check says; and of `tools/edits.py`."""
 import os
 import sys
 import tempfile
@@ -7,6 +7,7 @@ from pathlib import Path
 from unittest import mock
 
 sys.path.insert(0, str(Path(__file__).resolve().parent.parent))
+import edits  # noqa: E402
 import together  # noqa: E402
 
 CODE = """//! A list.
@@ -137,6 +138,31 @@ class Edits(unittest.TestCase):
             met = [it for name in batch for it in changed[name]]
             self.assertEqual(len(met), len(set(met)))
             self.assertLessEqual(len(batch), together.MOST)
+
+
+class Faults(unittest.TestCase):
+    """What `tools/edits.py` says of edits that `rt must-fail` calls bad."""
+
+    ROWS = [
+        ("old: two\nnew: 2", ""),
+        ("old: two\nnew: three\nold: three\nnew: 3", ""),
+        ("old: two\nnew: two + 1\nnew: 2", "a 'new:' text has no 'old:' text before it: 2"),
+        ("new: 2", "a 'new:' text has no 'old:' text before it: 2"),
+        ("old: two\nnew: 2\nold: two\nnew: 3", "an 'old:' text is in src/lib.rt 0 times: two"),
+        ("old: two\nnew: two", "it changes nothing: two"),
+        ("old: two", "it has no pair of 'old:' and 'new:'"),
+    ]
+
+    def test_faults(self):
+        with tempfile.TemporaryDirectory() as folder:
+            code, edit = Path(folder, "src/lib.rt"), Path(folder, "more-edits/one.edit")
+            for place in (code, edit):
+                place.parent.mkdir()
+            code.write_text("fn one() {\n    two\n}\n")
+            for text, wanted in self.ROWS:
+                with self.subTest(text):
+                    edit.write_text(f"file: src/lib.rt\n{text}\n")
+                    self.assertEqual(edits.fault_of(edit), wanted)
 
 
 class Lines(unittest.TestCase):

@@ -134,6 +134,25 @@ class Lines(unittest.TestCase):
                 self.assertEqual(cluster.fitting(part, names, other, frozenset()), 0)
         self.assertEqual(len(cluster.judge(names, trusted, terms).said), 1)
 
+    def test_a_worker_whose_library_is_another_file_of_the_same_number(self):
+        """What it says is told, and judged again: the state says that all is by the library of who asks."""
+        trusted, name = TRUST.read_bytes(), str(REAL / "rsa_attached_ts.p7s")
+        terms = cluster.terms_for(trusted)._replace(noted=True)
+
+        def marks(terms):
+            """The marks of the rows that are kept of a file, as outcomes and as lines, which say that it is the same."""
+            alone = cluster.judge([name], trusted, terms)
+            (lines,) = cluster.judge([name], trusted, terms, is_told=True).said
+            self.assertIn(b"accepted", lines.told[0])
+            kept = [row for rows_of_one in lines.told[4] for row in rows_of_one]
+            return [one.record[2] for (one,) in alone.outcomes], [row[rows.Row._fields.index("mark") - 1] for row in kept]
+
+        mark = rows.mark_now(name)
+        for library, expected in ((versions.digest_of_library(), mark), ("another", ""), ("", "")):
+            self.assertEqual(marks(terms._replace(library=library)), ([expected], [expected]), library)
+        with mock.patch.object(cluster, "library_here", return_value=""):
+            self.assertEqual(marks(terms), ([""], [""]))
+
 
 class WithWorkers(unittest.TestCase):
     """A scheduler and its workers, which listen on the loopback alone, and have another folder than the tool."""

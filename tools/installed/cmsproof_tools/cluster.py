@@ -19,12 +19,13 @@ from cmsproof_tools.pairs import USUAL, Pairs
 from cmsproof_tools.rows import Noting, keys_of
 from cmsproof_tools.running import shown
 from cmsproof_tools.telling import Told, joined, quietly_told
-from cmsproof_tools.versions import versions_text, versions_told
+from cmsproof_tools.versions import digest_of_library, versions_text, versions_told
 from cmsproof_tools.workers import MOST
 
 class Terms(NamedTuple):
     """By what files are judged: the SHA-256 of the trust list, the versions of all that judges, the folder of relative names, and
-    what Work has of the user's words; whether a state keeps what is said, lines are of JSON, refusals may be acknowledged."""
+    what Work has of the user's words; whether a state keeps what is said, lines are of JSON, refusals may be acknowledged; and the digest
+    of the library by which the state says that it was judged."""
 
     trust: str
     versions: str
@@ -38,6 +39,7 @@ class Terms(NamedTuple):
     records: Union[Records, None] = None
     json: bool = False
     known: bool = False
+    library: str = ""
 
 
 class Lines(NamedTuple):
@@ -59,7 +61,8 @@ def terms_of(work: Work) -> Terms:
     if records is not None:
         # (a worker has another folder: names are those from the root there)
         records = records._replace(folder=os.path.join(here, records.folder), archive=os.path.join(here, records.archive))
-    return Terms(trust, versions_text(), here, endings, *policy, records)
+    library = "" if work.noting is None else digest_of_library()
+    return Terms(trust, versions_text(), here, endings, *policy, records, library=library)
 
 
 @lru_cache(maxsize=1)
@@ -81,6 +84,23 @@ def as_named(outcome: Outcome, name: str, folder: str) -> Outcome:
         return tuple.__new__(Outcome, (name, *outcome[1:]))
     line, *notes = (text.replace(f" {shown(inside)}", " ", 1) for text in (outcome.line, *outcome.notes))
     return outcome._replace(name=name, line=line, notes=tuple(notes), content=outcome.content.removeprefix(inside))
+
+
+@lru_cache(maxsize=1)
+def library_here() -> str:
+    """The digest of the library that this process has, which another one may lie beside later."""
+    return digest_of_library()
+
+
+def is_kept(terms: Terms) -> bool:
+    """Whether what this process says is kept as by the library of who asks. (Its file may be another one, as of another machine.)"""
+    return not terms.noted or library_here() == terms.library != ""
+
+
+def unmarked(outcome: Outcome) -> Outcome:
+    """The outcome of a file that is to be judged again: nothing says that it is the same."""
+    record = outcome.record
+    return outcome if record is None else outcome._replace(record=(*record[:2], "", *record[3:]))
 
 
 def as_lines(several: list[list[Outcome]], terms: Terms) -> list[Said]:
@@ -119,6 +139,8 @@ def judge(
         group = names[at : at + MOST]
         found = all_noted(work, outcomes_of_several(work, [os.path.join(terms.folder, name) for name in group]))
         named = [[as_named(outcome, name, terms.folder) for outcome in outcomes] for name, outcomes in zip(group, found)]
+        if not is_kept(terms):
+            named = [[unmarked(outcome) for outcome in outcomes] for outcomes in named]
         if not is_told:
             said += named
             continue

@@ -113,6 +113,14 @@ class Lines(unittest.TestCase):
         lines = [outcomes.json_lines(outcome) for several in part.outcomes for outcome in several]
         self.assertEqual(lines, out.decode().splitlines()[:-1])
 
+    def test_a_flag_is_no_text(self):
+        """A text as "no" counts as true, and would let a signature count that covers a part of a file."""
+        for name in ("sha1", "partial", "stamps"):
+            for flag in ("no", "", 1, 0, None):
+                with self.assertRaises(TypeError, msg=(name, flag)):
+                    cluster.terms_for(TRUST.read_bytes(), **{name: flag})
+            self.assertIs(getattr(cluster.terms_for(TRUST.read_bytes(), **{name: True}), name), True)
+
     def test_a_worker_of_another_list_or_version_leaves_no_line_out(self):
         trusted = TRUST.read_bytes()
         terms = cluster.terms_for(trusted)

@@ -11,6 +11,7 @@ from itertools import groupby
 from typing import Any, Callable, Iterable, Iterator, NamedTuple, Sequence, Union
 
 import cmsproof
+from cmsproof.library import Flag
 from cmsproof_tools.checking import Work, all_noted, outcomes_of_several
 from cmsproof_tools.evidenced import Records
 from cmsproof_tools.handing import LONGEST, Cluster, Part, Task, sum_of
@@ -164,7 +165,10 @@ def terms_for(
     records: Union[Records, None] = None,
 ) -> Terms:
     """The terms of a trust list and of what else is allowed or demanded, in the folder of this process, for an engine that has no other way
-    to get them: contents are beside their signatures as usual. Raises ListRefused if it is no trust list."""
+    to get them: contents are beside their signatures as usual. Raises ListRefused if it is no trust list, and TypeError where a flag is
+    neither True nor False."""
+    for flag in (sha1, partial, stamps):
+        Flag.from_param(flag)
     pairs, trust = Pairs({}, USUAL), cmsproof.TrustList(trusted)
     return terms_of(Work(trust, None, sha1, False, {}, pairs, frozenset(), partial, stamps, None, records))
 

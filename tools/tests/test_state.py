@@ -1,5 +1,6 @@
 """Tests of cmsproof-archive --state: what is judged again, a run that is killed, and states that are damaged or another's."""
 import argparse
+import functools
 import hashlib
 import os
 import random
@@ -12,6 +13,7 @@ import tempfile
 import time
 import unittest
 from pathlib import Path
+from unittest import mock
 
 from archiving import CHANGED
 from making import INSTALLED, MODULES, PROGRAM, REAL, as_nobody, folder_of, need_tools, run_tool
@@ -22,7 +24,7 @@ from cmsproof.octets import COPIED, File
 from cmsproof_tools import rows
 from cmsproof_tools.resuming import moment_of
 from cmsproof_tools.running import Stop
-from cmsproof_tools.state import Basis, State, grounds_in
+from cmsproof_tools.state import INSERT, Basis, State, grounds_in
 
 TRUST = REAL / "trust.txt"
 DIFFERS = "refused signer 1 S6 DigestDiffers"
@@ -378,6 +380,30 @@ class Killed(unittest.TestCase):
         found = {row.name: row.grounds for row in kept(path)}
         self.assertGreater(len(found), 0)
         self.assertEqual([name for name in found if found[name] != texts[int(name)]], [])
+
+    def test_memory_that_is_short_for_a_while(self):
+        """SQLite takes back what it was putting where it is refused memory too (sqlite.org/lang_transaction.html), which is no error of its own
+        in Python."""
+        path, refused = folder_of(self) / "state", []
+
+        class Short(sqlite3.Connection):
+            def executemany(self, statement, values):
+                if statement == INSERT and not refused:
+                    refused.append(statement)
+                    self.rollback()
+                    raise MemoryError
+                return super().executemany(statement, values)
+
+        said = rows.Row("", "", 1, 1, "", b"", b"", 0, "accepted 20261122071759Z", "", 1)
+        texts = {name: rows.grounds_text((("tsa", (rows.Listed(name * 64, b""),), "1.2"),), ()) for name in "ab"}
+        with mock.patch.object(sqlite3, "connect", functools.partial(sqlite3.connect, factory=Short)):
+            with State(str(path)) as state:
+                state.judge_by(Basis("0" * 64, "", "", ""), b"")
+                state.put("a", [said._replace(grounds=texts["a"])])
+                self.assertRaises(MemoryError, state.commit)
+                # (those that are put first now get the first number)
+                state.pending = {b"b": [said._replace(grounds=texts["b"])[1:]], **state.pending}
+        self.assertEqual({row.name: row.grounds for row in kept(path)}, texts)
 
 
 class Deciding(unittest.TestCase):

@@ -292,8 +292,9 @@ class State:
         """Writes for good what was put. Nobody else can write meanwhile, and before and behind it all can."""
         try:
             self.write()
-        except sqlite3.Error:
-            # (SQLite may have taken back the grounds that were put just now, as where the disk is full, and gives their numbers to others)
+        except BaseException:
+            # (SQLite may have taken back the grounds that were put just now, as where the disk is full, or with MemoryError where memory is
+            # short, and gives their numbers to others)
             self.grounds.clear()
             raise
         self.next = time.monotonic() + SECONDS

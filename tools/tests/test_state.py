@@ -669,6 +669,24 @@ report.members = written
             done = subprocess.run(words, cwd=self.folder, capture_output=True, text=True, check=False)
             self.assertEqual((done.returncode, done.stderr, done.stdout[:11]), expected)
 
+    def test_a_run_that_begins_between_two_looks_at_a_state_there(self):
+        """Nobody is seen who writes, and a part may be written by when the state is read."""
+        shutil.copyfile(self.path, self.folder / "new")
+        path, was, (row, *_) = str(self.folder / "new"), os.path.lexists, kept(self.path)
+
+        def looked(name):
+            found = was(name)
+            if name.endswith("-wal"):
+                with mock.patch.object(os.path, "lexists", was), State(path) as other:
+                    other.put("z", [row])
+            return found
+
+        with mock.patch.object(os, "access", return_value=False), mock.patch.object(os.path, "lexists", looked):
+            with State(path, is_new=False) as state:
+                self.assertRaises(Stop, state.check_unwritten)
+            with mock.patch.object(os.path, "lexists", was), State(path, is_new=False) as state:
+                state.check_unwritten()
+
     def test_a_long_content_that_is_cut_while_it_is_summed(self):
         code = """
 import os, sys

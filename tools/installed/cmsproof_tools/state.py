@@ -119,10 +119,14 @@ def made_of(database: sqlite3.Connection) -> list[tuple[str, str, str]]:
 def connected(path: str, is_new: bool) -> tuple[sqlite3.Connection, str]:
     """The database at a path. In a folder where this user may make no file, SQLite reads one of its kind only as one that nobody writes,
     which holds where no run left what is to be put into it, and as long as the file has the mark that is given with it."""
-    place, words, mark = checked_path(path, is_new), "", ""
+    place, words = checked_path(path, is_new), ""
     real = os.path.realpath(place)
-    if not is_new and not os.access(os.path.dirname(real), os.W_OK) and not os.path.lexists(beside(real)[1]):
-        place, words, mark = f"file:{quote(os.fsencode(real))}", "?mode=ro&immutable=1", mark_now(real)
+    # (the mark is that before anybody is looked for: whoever begins to write behind that changes it)
+    mark = "" if is_new or os.access(os.path.dirname(real), os.W_OK) else mark_now(real)
+    if mark and os.path.lexists(beside(real)[1]):
+        mark = ""
+    if mark:
+        place, words = f"file:{quote(os.fsencode(real))}", "?mode=ro&immutable=1"
     return sqlite3.connect(place + words, timeout=60, isolation_level=None, uri=bool(words)), mark
 
 

@@ -1,5 +1,6 @@
 """Tests of cmsproof-archive --state: what is judged again, a run that is killed, and states that are damaged or another's."""
 import argparse
+import ctypes
 import functools
 import hashlib
 import os
@@ -21,7 +22,7 @@ from making import INSTALLED, MODULES, PROGRAM, REAL, as_nobody, folder_of, need
 need_tools()
 
 from cmsproof.octets import COPIED, File
-from cmsproof_tools import rows
+from cmsproof_tools import rows, versions
 from cmsproof_tools.resuming import moment_of
 from cmsproof_tools.running import Stop
 from cmsproof_tools.state import INSERT, Basis, State, grounds_in
@@ -283,6 +284,28 @@ class Again(unittest.TestCase):
                     library.write(b"\0")
             status, out, err = run_tool(folder / "run.py", *words, cwd=folder)
             self.assertEqual((status, b"accepted" in out, "1 are as before" in err), (0, judged, not judged), err)
+
+    def test_a_library_of_which_nobody_says_which_file_it_is(self):
+        """As one that a link of another name leads to: any run may have another one."""
+        folder, words = folder_of(self), ["--trust", TRUST, "--state", "state", "--jobs", "1", REAL / GOOD]
+        shutil.copytree(MODULES, folder / "code", ignore=shutil.ignore_patterns("__pycache__"))
+        (folder / "run.py").write_text(CHANGED.format(installed=str(folder / "code"), code=""))
+        library = folder / "code" / "cmsproof" / "libcmsproof.so.1"
+        library.rename(folder / "another.so")
+        library.symlink_to(folder / "another.so")
+        for _ in range(2):
+            status, out, err = run_tool(folder / "run.py", *words, cwd=folder)
+            self.assertEqual((status, b"accepted" in out, "as before" in err), (0, True, False), err)
+
+    def test_another_file_in_a_folder_that_is_called_as_the_library(self):
+        """Its octets say nothing of the library."""
+        place = folder_of(self) / "libcmsproof.so.1.d" / "other.so"
+        place.parent.mkdir()
+        place.write_bytes((MODULES / "cmsproof" / "libcmsproof.so.1").read_bytes() + b"\0")
+        expected = hashlib.sha256((MODULES / "cmsproof" / "libcmsproof.so.1").read_bytes()).hexdigest()[:12]
+        self.assertEqual(versions.digest_of_library(), expected)
+        ctypes.CDLL(str(place))
+        self.assertEqual(versions.digest_of_library(), expected)
 
     def test_what_a_verdict_hangs_on(self):
         entries = [line.split()[-1] for line in TRUST.read_text().splitlines() if line.startswith(("signer ", "tsa "))]

@@ -3,6 +3,7 @@ from __future__ import annotations
 
 import hashlib
 import importlib.util
+import os
 import pathlib
 import platform
 
@@ -42,9 +43,10 @@ def digest_of_library() -> str:
     library()
     try:
         with open("/proc/self/maps", encoding="utf-8", errors="surrogateescape") as maps:
-            paths = [line.rstrip("\n").split(" ", 5)[5].lstrip(" ") for line in maps if f"/{SONAME}" in line]
-        return hashlib.sha256(pathlib.Path(paths[0]).read_bytes()).hexdigest()[:12]
-    except (OSError, IndexError):
+            paths = [pathlib.Path(line.rstrip("\n").split(" ", 5)[5].lstrip(" ")) for line in maps if f"/{SONAME}" in line]
+        # (a folder may be called so too)
+        return hashlib.sha256(next(path for path in paths if path.name.startswith(SONAME)).read_bytes()).hexdigest()[:12]
+    except (OSError, IndexError, StopIteration):
         return ""
 
 
@@ -67,8 +69,9 @@ def versions_text() -> str:
 
 
 def versions_kept() -> str:
-    """The versions by which a state says that rows were judged, on one line. (Workers elsewhere may have a library of another machine.)"""
-    return f"{versions_text()}, {SONAME} {digest_of_library()}"
+    """The versions by which a state says that rows were judged, on one line: where nobody says which file the library is, those of no other
+    run. (Workers elsewhere may have a library of another machine.)"""
+    return f"{versions_text()}, {SONAME} {digest_of_library() or os.urandom(6).hex()}"
 
 
 # what was said first, when the code was read that this process has

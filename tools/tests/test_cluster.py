@@ -15,7 +15,7 @@ from making import INSTALLED, MODULES, REAL, TOP, folder_of, need_tools, run_too
 
 need_tools()
 
-from cmsproof_tools import cluster, outcomes, rows, versions
+from cmsproof_tools import cluster, evidenced, outcomes, rows, versions
 from cmsproof_tools.state import State
 
 HAS_DASK = subprocess.run([sys.executable, "-c", "import distributed"], capture_output=True, check=False).returncode == 0
@@ -114,12 +114,18 @@ class Lines(unittest.TestCase):
         self.assertEqual(lines, out.decode().splitlines()[:-1])
 
     def test_a_flag_is_no_text(self):
-        """A text as "no" counts as true, and would let a signature count that covers a part of a file."""
+        """A text as "no" counts as true, and would let a signature count that covers a part of a file, or SHA-1 until its end."""
         for name in ("sha1", "partial", "stamps"):
             for flag in ("no", "", 1, 0, None):
                 with self.assertRaises(TypeError, msg=(name, flag)):
                     cluster.terms_for(TRUST.read_bytes(), **{name: flag})
             self.assertIs(getattr(cluster.terms_for(TRUST.read_bytes(), **{name: True}), name), True)
+        for name in ("whole", "signed"):
+            for flag in ("no", 1, None):
+                with self.assertRaises(TypeError, msg=(name, flag)):
+                    cluster.terms_for(TRUST.read_bytes(), records=evidenced.records_in("records", **{name: flag}))
+            records = evidenced.records_in("records", **{name: True})
+            self.assertIs(getattr(cluster.terms_for(TRUST.read_bytes(), records=records).records, name), True)
 
     def test_a_worker_of_another_list_or_version_leaves_no_line_out(self):
         trusted = TRUST.read_bytes()

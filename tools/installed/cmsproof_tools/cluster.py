@@ -167,7 +167,7 @@ def terms_for(
     """The terms of a trust list and of what else is allowed or demanded, in the folder of this process, for an engine that has no other way
     to get them: contents are beside their signatures as usual. Raises ListRefused if it is no trust list, and TypeError where a flag is
     neither True nor False."""
-    for flag in (sha1, partial, stamps):
+    for flag in (sha1, partial, stamps, *(() if records is None else (records.whole, records.signed))):
         Flag.from_param(flag)
     pairs, trust = Pairs({}, USUAL), cmsproof.TrustList(trusted)
     return terms_of(Work(trust, None, sha1, False, {}, pairs, frozenset(), partial, stamps, None, records))

@@ -22,7 +22,7 @@ from making import INSTALLED, MODULES, PROGRAM, REAL, as_nobody, folder_of, need
 need_tools()
 
 from cmsproof.octets import COPIED, File
-from cmsproof_tools import rows, versions
+from cmsproof_tools import report, rows, versions
 from cmsproof_tools.resuming import moment_of
 from cmsproof_tools.running import Stop
 from cmsproof_tools.state import INSERT, Basis, State, grounds_in
@@ -405,8 +405,8 @@ class Killed(unittest.TestCase):
         self.assertEqual([name for name in found if found[name] != texts[int(name)]], [])
 
     def test_memory_that_is_short_for_a_while(self):
-        """SQLite takes back what it was putting where it is refused memory too (sqlite.org/lang_transaction.html), which is no error of its own
-        in Python."""
+        """SQLite takes back what it was putting where it is refused memory too (sqlite.org/lang_transaction.html), which in Python is
+        no error of SQLite's."""
         path, refused = folder_of(self) / "state", []
 
         class Short(sqlite3.Connection):
@@ -670,7 +670,7 @@ class Hostile(unittest.TestCase):
         self.assertEqual(os.listdir(inside), ["st%te"])
 
     def test_a_state_that_is_written_while_it_is_read_there(self):
-        """Nobody keeps a run from writing then, and rows may be missing in what was read: nothing is said of them."""
+        """Nobody keeps a run from writing then, and rows may be missing in what was read, or look damaged: nothing is said of them."""
         code = """
 import os
 from cmsproof_tools import report, state
@@ -679,12 +679,14 @@ def written(row, basis):
     if MORE:
         with state.State("new") as other:
             other.put("z", [row])
+    if MORE == 2:
+        raise state.damaged("new", "database disk image is malformed")
     report.members = was
     return was(row, basis)
 report.members = written
 """
         line = "cmsproof-archive: failed state new: it was written while it was read: run this again\n"
-        for more, expected in ((0, (0, "", '{"file": "a')), (1, (4, line, ""))):
+        for more, expected in ((0, (0, "", '{"file": "a')), (1, (4, line, "")), (2, (4, line, ""))):
             shutil.copyfile(self.path, self.folder / "new")
             changed = CHANGED.format(installed=str(MODULES), code=code.replace("MORE", str(more)))
             (self.folder / "changed.py").write_text(changed)
@@ -709,6 +711,29 @@ report.members = written
                 self.assertRaises(Stop, state.check_unwritten)
             with mock.patch.object(os.path, "lexists", was), State(path, is_new=False) as state:
                 state.check_unwritten()
+
+    def test_a_state_that_looks_damaged_since_it_is_written_there(self):
+        """It is not: half of what is read is of before, and half of behind."""
+        path, (row, *_), was, seen = str(self.folder / "new"), kept(self.path), report.members, []
+
+        def put(first):
+            with State(path) as other:
+                for at in range(20000):
+                    other.put(f"{first}{at:05}", [row])
+
+        def members(*words):
+            seen.append(words)
+            if len(seen) == 500:
+                with mock.patch.object(os, "access", return_value=True):
+                    put("a"), put("n")
+            return was(*words)
+
+        put("m")
+        with mock.patch.object(os, "access", return_value=False), mock.patch.object(report, "members", members):
+            with self.assertRaises(Stop) as raised:
+                report.main("report", [path, "--json", str(self.folder / "out")])
+        self.assertIn("it was written while it was read: run this again", raised.exception.line)
+        self.assertFalse((self.folder / "out").exists())
 
     def test_a_long_content_that_is_cut_while_it_is_summed(self):
         code = """

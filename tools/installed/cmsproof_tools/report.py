@@ -153,10 +153,15 @@ def main(tool: str, words: list[str]) -> int:
     records = None if given.records is None else records_in(given.records, given.under or "")
     with State(given.state, is_new=False) as state:
         for name, out in asked:
-            if name == "html":
-                text = module("page").page(state, given.only or "", known, records)
-            else:
-                text = "".join((csv_text if name == "csv" else json_text)(state, given.only or "", known))
+            try:
+                if name == "html":
+                    text = module("page").page(state, given.only or "", known, records)
+                else:
+                    text = "".join((csv_text if name == "csv" else json_text)(state, given.only or "", known))
+            except Stop:
+                # (a part of what is written meanwhile can look damaged)
+                state.check_unwritten()
+                raise
             state.check_unwritten()
             write(out, text.encode("utf-8", "backslashreplace"))
     for line in () if known is None else known.left_to_tell(given.only is None):

@@ -246,7 +246,7 @@ class State:
 
     def __init__(self, path: str, is_new: bool = True) -> None:
         """Opens it, and makes it if there is none and `is_new`. Raises Stop, with a line, if it is none or cannot be written."""
-        self.path, self.basis_number, self.next = path, 0, time.monotonic() + SECONDS
+        self.path, self.is_new, self.basis_number, self.next = path, is_new, 0, time.monotonic() + SECONDS
         self.grounds: dict[str, int] = {}
         # the rows of files that are to be written, without the name, by its octets
         self.pending: dict[bytes, list[tuple[Any, ...]]] = {}
@@ -265,7 +265,9 @@ class State:
 
     def __exit__(self, *_: object) -> None:
         with told(self.path):
-            self.commit()
+            # (to end what was only read can fail once more where it looks damaged, and would hide what was told)
+            if self.is_new:
+                self.commit()
             self.database.close()
 
     def check_unwritten(self) -> None:

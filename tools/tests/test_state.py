@@ -404,6 +404,17 @@ class Killed(unittest.TestCase):
         self.assertGreater(len(found), 0)
         self.assertEqual([name for name in found if found[name] != texts[int(name)]], [])
 
+    def test_rows_that_wait_have_the_basis_by_which_they_were_judged(self):
+        path = folder_of(self) / "state"
+        said = rows.Row("", "", 1, 1, "", b"", b"", 0, "accepted 20261122071759Z", rows.NOTHING[5], 1)
+        with State(str(path)) as state:
+            for name, policy in (("a", ""), ("b", "--sha1")):
+                state.judge_by(Basis("0" * 64, "", policy, ""), b"")
+                state.put(name, [said])
+        with State(str(path), is_new=False) as state:
+            bases = state.bases()
+            self.assertEqual({row.name: bases[basis].policy for row, basis in state.rows()}, {"a": "", "b": "--sha1"})
+
     def test_memory_that_is_short_for_a_while(self):
         """SQLite takes back what it was putting where it is refused memory too (sqlite.org/lang_transaction.html), which in Python is
         no error of SQLite's."""

@@ -285,9 +285,12 @@ class State:
     def judge_by(self, basis: Basis, trusted: bytes) -> None:
         """Says by what files are judged from now on; the trust list is kept."""
         with told(self.path):
-            self.basis_number = self.number("bases", json.dumps(basis))
+            # (what was put before was judged by another one, and only what is written for good has a number)
+            self.commit()
+            number = self.number("bases", json.dumps(basis))
             self.database.execute("INSERT OR REPLACE INTO lists VALUES (?, ?)", (basis.trust, trusted))
             self.commit()
+            self.basis_number = number
 
     def begin(self) -> None:
         """Begins to write, unless it has begun."""

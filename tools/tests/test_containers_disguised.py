@@ -8,6 +8,7 @@ import subprocess
 import sys
 import tarfile
 import unittest
+import wave
 import xml.etree.ElementTree
 import zipfile
 import zlib
@@ -187,6 +188,9 @@ class Begun(WithMaker):
             # a picture whose comment goes over the head (GIF89a, 24)
             "picture": b"GIF89a:\1d\1\1\1\1!\xfe%c\r\n" % (mail.index(b"--cut") + 2) + mail.replace(b"--cut", b"\0;\r\n--cut", 1),
             "letter.vcf": b"BEGIN:VCARD\r\nVERSION:3.0\r\nFN:%s\r\nEND:VCARD\r\n" % said + mail,
+            # (the same, and a part of FLAC that is passed over, whose names have the hyphen of a field)
+            "wide picture": b"GIF89a-:\1\1\1\1\1!\xfe%c\r\n" % (mail.index(b"--cut") + 2) + mail.replace(b"--cut", b"\0;\r\n--cut", 1),
+            "sound": b"fLaC-AAA: a\r\n" + mail,
         }
         self.assertEqual(xml.etree.ElementTree.fromstring(rows["letter.svg"])[0].text.encode(), said)
         for name, octets in rows.items():
@@ -199,6 +203,22 @@ class Begun(WithMaker):
         self.assertEqual({name: found[name] for name in rows}, dict.fromkeys(rows, AMBIGUOUS))
         for number, field in enumerate(begins):
             self.assertRegex(found[f"good{number}.eml"], ACCEPTED, field)
+
+    def test_a_mail_that_is_a_sound(self):
+        """A piece that is passed over has all of the mail, and the sound is behind it; no length has an octet 00."""
+        length, heard = 0x01010101, b"I owe you 9 euro.\n"
+        mail = b"RIFF-:\1\1WAVEJUNK\1\1\1\1\r\n" + made.mail_signed(self.maker.signed)
+        sound = b"fmt " + struct.pack("<LHHLLHH", 16, 1, 1, 8000, 8000, 1, 8) + b"data" + struct.pack("<L", len(heard)) + heard
+        lines, rest = divmod(20 + length + length % 2 - len(mail), 998)
+        path = self.put("sound", mail + b"\n".rjust(998) * lines + b" " * rest + sound)
+        with wave.open(str(path)) as file:
+            self.assertEqual(file.readframes(99), heard)
+        for name in (b"Riff-Raff", b"X-RIFF", b"Id3-a", b"form-id"):
+            self.put(name.decode(), name + b": a\r\n" + made.mail_signed(self.maker.signed))
+        found = self.lines()
+        self.assertEqual(found.pop("sound"), AMBIGUOUS)
+        for name, line in found.items():
+            self.assertRegex(line, ACCEPTED, name)
 
     def test_a_mail_that_is_called_as_a_script(self):
         """Its first field is a command behind a label, or a note, and all else of it is in a comment or a text."""

@@ -46,8 +46,13 @@ BOUNDARY_END = re.compile(rb"(--)?[ \t]*(?:\r?\n|\Z)")
 FROM_LINE = re.compile(rb"^From ", re.MULTILINE)
 MBOX_LINE = re.compile(rb"(?:\A|(?<=\n\n)|(?<=\n\r\n))From [^\n]*\n")
 # with what field a mail begins: one whose name has a hyphen, or one of RFC 4021, RFC 5536 or of programs for mails. Another name can be the
-# first octets of a script, a picture, a page or the like, as which other programs open the mail (RFC 5322 2.2 allows nearly each octet)
+# first octets of a script, a picture, a page or the like, as which other programs open the mail (RFC 5322 2.2 allows nearly each octet).
+# Nor has it the letters, in their case, by which pictures, sounds, films, disks and the like are told that may go on with a hyphen, as the
+# width of a GIF (freedesktop's shared-mime-info)
 FIRST_FIELD = re.compile(
+    rb"(?!(?-i:ADIF|ALZ|ARROW1|AVF0|BIK|BLENDER|BSDIF|CCMX|CISO|CWS|FLV|FORM|FOVb|FRM8|FWS|GIF8|HXCPICFE|ID3|IIN1|IMPM|KDMV|MComprHD|MMMD|"
+    rb"MO3|MOVI|MPCK|MSCF|MThd|MZ|NSVf|OTTO|OggS|PAR[12]|PSID|RIF[FX]|SDPX|SMK|TTA1|WBFS|XMF_|XPDS|ZWS|bplist|caff|conectix|fLaC|glTF|"
+    rb"icns|qoif|vhdxfile|wOF[2F]|wvpk))"
     rb"(?:[A-Za-z][0-9A-Z_a-z]*-[-.0-9A-Z_a-z]*|approved|archive|auto(?:forward|submitt)ed|[bf]?cc|comments|control|conversion|date|"
     rb"distribution|encoding|encrypted|expires|face|forwarded|from|importance|keywords|language|lines|newsgroups|obsoletes|organi[sz]ation|"
     rb"path|precedence|priority|received|references|replied|resent|sender|sensitivity|status|subject|summary|supersedes|to|xref):",

@@ -200,6 +200,10 @@ class Lines(WithFiles):
             ([*by_list, "--pairs-from", "-", "--files-from", "-"], b"a\tb\n"),
             (["due", *by_list, "--months", "1", "-", "-"], b"a\n"),
             (["--trust", "/dev/stdin", "a", "-"], trusted),
+            ([*by_list, "--files-from", "-", "--files-from", "/dev/stdin"], b"a\n"),
+            ([*by_list, "--files-from", "/dev/stdin", "-"], b"a\n"),
+            ([*by_list, "--files-from", "/dev/stdin", "--pairs-from", "/dev/fd/0"], b"a\tb\n"),
+            (["--trust", "/dev/stdin", "--files-from", "/proc/self/fd/0"], trusted),
         ):
             found = run_tool("cmsproof-archive", *words, said=said, cwd=self.folder)
             twice = "cmsproof-archive: standard input is named twice, and can be read once\n"

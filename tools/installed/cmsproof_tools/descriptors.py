@@ -25,6 +25,8 @@ STANDARD = ("stdin", "stdout", "stderr")
 MOST_DIGITS = 10
 # the copies that were made, by the number of the descriptor: what is named twice is the same
 COPIES: dict[int, int] = {}
+# the numbers of those of which nothing is left, for they were read to their end and not kept
+EMPTIED: set[int] = set()
 
 
 class Unfit(Exception):
@@ -166,6 +168,8 @@ def taken(path: str, own: frozenset[int]) -> int:
         return reached(path_of(number))
     except Unfit:
         pass
+    if number in EMPTIED:
+        raise Unfit("it is named twice, and can be read once")
     try:
         if number not in COPIES:
             COPIES[number] = kept(number)

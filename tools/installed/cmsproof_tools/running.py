@@ -40,10 +40,10 @@ class Stop(Exception):
 
 
 class Started:
-    """What a tool was started with: its open descriptors. And whether standard input was read, and a line on standard error was lost."""
+    """What a tool was started with: its open descriptors. And whether a line on standard error was lost."""
 
     descriptors: frozenset[int] = frozenset()
-    emptied = lost = False
+    lost = False
 
 
 @lru_cache(maxsize=None)
@@ -117,18 +117,22 @@ def shown_apart(name: str, part: str) -> str:
 
 def read(path: str) -> bytes:
     """The octets of a file; `-` is standard input. A descriptor that a path names is one that the tool was started with. Ends the tool where
-    standard input was read before: nothing is left of it, and what it should name would be left out."""
-    done = "open"
+    standard input, or such a descriptor, was read before: nothing is left of it, and what it should name would be left out."""
+    done, number = "open", 0 if path == "-" else descriptors.number_named(path)
+    if number in descriptors.EMPTIED or number in descriptors.COPIES:
+        raise Stop(USAGE, f"{shown(path) if number else 'standard input'} is named twice, and can be read once")
     try:
         if path == "-":
-            if Started.emptied or 0 in descriptors.COPIES:
-                raise Stop(USAGE, "standard input is named twice, and can be read once")
-            done, Started.emptied = "read", True
+            done = "read"
+            descriptors.EMPTIED.add(0)
             return b"".join(descriptors.pieces_of(0))
-        if descriptors.number_named(path) not in {None, *Started.descriptors}:
+        if number not in {None, *Started.descriptors}:
             raise OSError(errno.ENOENT, os.strerror(errno.ENOENT))
         with open(path, "rb") as file:
             done = "read"
+            # (a regular file is opened again, and read from its beginning)
+            if number is not None and not stat.S_ISREG(os.fstat(file.fileno()).st_mode):
+                descriptors.EMPTIED.add(number)
             return file.read()
     except OSError as error:
         raise Stop(FAILED, f"failed {done} {shown(path)}: {error.strerror}") from error

@@ -135,10 +135,12 @@ class Packed(WithMaker):
     def test_octets_at_a_place_that_make_another_file(self):
         """What is before the mark of DICOM is anything (PS3.10 7.1)."""
         attached, rows = self.maker.attached(GOOD), {}
-        for place, mark in ((60, b"BOOKMOBI"), (128, b"DICM"), (522, b"\0\x11\2\xff")):
-            made_so = [with_more(attached, parameters=b" " * count + mark) for count in range(place)]
-            rows[f"letter{place}"] = next(octets for octets in made_so if octets.index(mark) == place)
-            self.put(f"good{place}", next(octets for octets in made_so if octets.index(mark) == place + 1))
+        marks = [(60, b"BOOKMOBI"), (128, b"DICM"), (522, b"\0\x11\2\xff"), (60, b"DataPlkr"), (32769, b"CD001"), (32769, b"BEA01")]
+        for place, mark in marks:
+            counts = range(max(0, place - 60), place)
+            made_so = [with_more(attached, parameters=b" " * count + mark) for count in counts]
+            rows[f"letter{place}{mark.hex()}"] = next(octets for octets in made_so if octets.index(mark) == place)
+            self.put(f"good{place}{mark.hex()}", next(octets for octets in made_so if octets.index(mark) == place + 1))
         extra = struct.pack("<HH", 0xCAFE, 1000) + (bytes(84) + b"DICM").ljust(1000)
         packed = zipped(Entry(b"letter.txt", GOOD, head={"extra": extra}), Entry(b"META-INF/signature.p7s", self.maker.signed(GOOD)))
         self.assertEqual(packed.index(b"DICM"), 128)
@@ -147,7 +149,7 @@ class Packed(WithMaker):
             self.put(name, octets)
         found = {name.partition(" ")[0]: line for name, line in self.lines().items()}
         self.assertEqual({name: found.pop(name) for name in rows}, dict.fromkeys(rows, AMBIGUOUS))
-        self.assertEqual(len(found), 3)
+        self.assertEqual(len(found), len(marks))
         for name, line in found.items():
             self.assertRegex(line, ACCEPTED, name)
 

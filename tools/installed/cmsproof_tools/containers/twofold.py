@@ -28,10 +28,12 @@ TWO, COUNT = ctypes.c_int.from_param(2), ctypes.c_ssize_t
 # the head of the first file of a tar: so many octets, among which is their sum in octal digits, with spaces in its place (POSIX.1-2017,
 # pax, "ustar Interchange Format"). Some programs count octets from 128 on as negative, or read a number of octets behind 80
 TAR_HEAD, TAR_SUM, TAR_SAID = 512, slice(148, 156), re.compile(rb"[\0\s]*([0-7]+)|\x80")
-# octets at a place that make a file one of another kind, whatever is before them (DICOM PS3.10 7.1, and freedesktop's shared-mime-info)
+# octets at a place that make a file one of another kind, whatever is before them (DICOM PS3.10 7.1, ECMA-119 8.1, ECMA-167 2/9, and
+# freedesktop's shared-mime-info)
 MARKED = (
     ("DICOM file", slice(128, 132), (b"DICM",)),
-    ("book", slice(60, 68), (b"BOOKMOBI", b"TEXtREAd")),
+    ("book", slice(60, 68), (b"BOOKMOBI", b"TEXtREAd", b"TEXtTlDc", b"DataPlkr")),
+    ("disk image", slice(32769, 32774), (b"CD001", b"BEA01")),
     ("picture", slice(522, 526), (b"\0\x11\2\xff",)),
 )
 # what files are called that programs open which put a file together from what they find, wherever that is; and as which container such a

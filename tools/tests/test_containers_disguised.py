@@ -239,11 +239,14 @@ class Begun(WithMaker):
                 self.assertEqual(subprocess.run([program, path], capture_output=True, check=True).stdout.decode().strip(), said)
         for name in ("letter.py", "letter.pyw", "letter.mjs", "letter.cjs", "letter.pm"):
             self.put(name, rows["py"])
-        self.put("letter.eml", rows["py"]), self.put("shop.pl", self.maker.attached(GOOD))
+        # (TypeScript has labels and comments as JavaScript has them; a time-stamp may be called so)
+        for name in ("letter.ts", "letter.cts", "letter.tsx", "letter.jsx"):
+            self.put(name, rows["js"])
+        self.put("stamp.ts", self.maker.attached(GOOD)), self.put("letter.eml", rows["py"]), self.put("shop.pl", self.maker.attached(GOOD))
         found = self.lines()
-        for name in ("letter.eml", "shop.pl"):
+        for name in ("letter.eml", "shop.pl", "stamp.ts"):
             self.assertRegex(found.pop(name), ACCEPTED)
-        self.assertEqual((len(found), set(found.values())), (7, {AMBIGUOUS}))
+        self.assertEqual((len(found), set(found.values())), (11, {AMBIGUOUS}))
 
 
 if __name__ == "__main__":

@@ -63,7 +63,7 @@ CALLED = {
 # each of these begins with the one point that is in it
 OF_ENDING = {end[1:]: (kind, own) for kind, (own, ends) in CALLED.items() for end in ends}
 # and what a mail alone is called that is a script too: its first field is a command, and what follows a comment or a text
-OF_MAILS = frozenset("cjs js mjs pl pm py pyw".split())
+OF_MAILS = frozenset("cjs cts js jsx mjs pl pm py pyw ts tsx".split())
 
 
 def in_pairs(octets: bytes) -> str:

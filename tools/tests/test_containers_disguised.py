@@ -98,6 +98,34 @@ class Packed(WithMaker):
             self.assertRegex(found.pop(name), ACCEPTED)
         self.assertEqual(found, {"inner.p7m": AMBIGUOUS, "a.eml": AMBIGUOUS})
 
+    def test_the_end_of_a_directory_that_is_signed_and_leads_elsewhere(self):
+        """Programs that count from the begin of the file, as sqlite3, find another directory there than the one before its end."""
+        entry = Entry(b"letter.txt", GOOD, extra=struct.pack("<HH", 0xCAFE, 300) + bytes(300))
+        packed, evil = zipped(entry), Entry(b"letter.txt", EVIL)
+        at, attached = packed.index(b"PK\1\2"), self.maker.attached(packed)
+        comment = bytes(len(packed) - 22 - at - len(evil.second(0)))
+
+        def signed(place, count):
+            directory = bytearray(evil.second(place))
+            directory[32:34] = struct.pack("<H", len(comment))
+            return with_more(attached, parameters=evil.first() + b" " * count + directory + comment)
+
+        found = [octets for count in range(at) if (octets := signed(signed(0, count).index(b"PK\3\4"), count)).index(b"PK\1\2") == at]
+        path = self.put("letter.p7m", found[0])
+        if shutil.which("sqlite3"):
+            words = ["sqlite3", ":memory:", f"select data from zipfile('{path}')"]
+            done = subprocess.run(words, capture_output=True, check=False)
+            self.assertIn(done.stdout.strip(), (EVIL.strip(), b""))
+        # the same beside what is signed of a mail, before the first of its parts
+        text = b"Content-Type: application/zip\r\nContent-Transfer-Encoding: binary\r\n\r\n" + packed.replace(b"\n", b" ")
+        mail = made.mail_signed(self.maker.signed, text=text)
+        self.put("a.eml", mail.replace(b"--cut", evil.second(0) + b"\r\n--cut", 1))
+        self.put("good.p7m", attached), self.put("good.eml", mail)
+        lines = self.lines()
+        for name in ("good.p7m", "good.eml"):
+            self.assertRegex(lines.pop(name), ACCEPTED)
+        self.assertEqual(lines, {"letter.p7m": AMBIGUOUS, "a.eml": AMBIGUOUS})
+
     def test_a_tar_whatever_it_is_called(self):
         """The first file of the tar is called as the file of CMS, the mail or the zip file begins (POSIX.1-2017, pax), and the next one
         is a letter."""

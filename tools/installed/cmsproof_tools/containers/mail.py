@@ -18,7 +18,7 @@ from typing import Iterator, NamedTuple
 from cmsproof_tools.containers.armour import decoded
 from cmsproof_tools.containers.ber import signed_in
 from cmsproof_tools.containers.refusals import Refused, refusing
-from cmsproof_tools.containers.twofold import ZIP_END, called_as, is_pdf, other_kind
+from cmsproof_tools.containers.twofold import LAST, ZIP_END, ZIP_ENTRY, called_as, is_pdf, other_kind
 from cmsproof_tools.found import Found, Unfound
 
 LONGEST, MOST_PARTS, DEEPEST, LONGEST_HEAD = 1 << 30, 10_000, 20, 1 << 20
@@ -117,7 +117,7 @@ class Walk:
             raise Refused("F10", "a head with a CR or an octet 00 that ends a line for some programs alone")
         if BLANK.search(begin[:cut]):
             raise Refused("F10", "a head with a line of white space alone, which ends it for some programs")
-        check_unsigned(begin[:cut])
+        check_unsigned(self.file, begin[:cut])
         with refusing("F3", ValueError, LookupError, TypeError, AttributeError, RuntimeError):
             head = email.parser.BytesParser(policy=email.policy.compat32).parsebytes(begin[:cut], headersonly=True)
             for name in ONCE:
@@ -179,9 +179,11 @@ class Walk:
         yield from self.signed_in(inside)
 
 
-def check_unsigned(*texts: bytes | memoryview) -> None:
-    """Raises Refused where text that is not signed makes another file of a mail for other programs."""
-    if any(ZIP_END.search(text) for text in texts):
+def check_unsigned(file: memoryview, *texts: bytes | memoryview) -> None:
+    """Raises Refused where text that is not signed makes another file of a mail for other programs. (To a directory in it an end may lead
+    that is signed.)"""
+    ends_so = any(map(ZIP_ENTRY.search, texts)) and ZIP_END.search(file[max(0, len(file) - LAST) :])
+    if ends_so or any(map(ZIP_END.search, texts)):
         raise Refused("F10", "a zip file in what is not signed of a mail")
     if any(map(is_pdf, texts)):
         raise Refused("F10", "a PDF in what is not signed of a mail")
@@ -288,7 +290,7 @@ def split(entity: Entity) -> tuple[list[memoryview], bool]:
         raise Refused("F10", "a line outside of the parts of a multipart that begins a mail for some programs")
     if any(map(has_long_line, outside)):
         raise Refused("F10", "a line outside of the parts of a multipart that is longer than mails have")
-    check_unsigned(line, *outside)
+    check_unsigned(entity.file, line, *outside)
     return found, any(re.search(rb"\S", text) for text in outside)
 
 
@@ -313,7 +315,7 @@ def mails_in(octets: memoryview) -> list[memoryview]:
     lines = list(islice(MBOX_LINE.finditer(octets), MOST_PARTS + 1))
     if len(lines) > MOST_PARTS:
         raise Refused("F4", f"more than {MOST_PARTS} mails")
-    check_unsigned(*(line[0] for line in lines))
+    check_unsigned(octets, *(line[0] for line in lines))
     if any(OTHER_END.search(line[0]) for line in lines):
         raise Refused("F10", "a line of an mbox with a CR or an octet 00 that ends it for some programs alone")
     ends = [line.start() for line in lines[1:]] + [len(octets)]

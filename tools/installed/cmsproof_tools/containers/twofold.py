@@ -187,4 +187,7 @@ def other_kind(octets: Buffer, whole: Buffer = b"") -> str:
     # (such an end may be of a directory that is signed, as of a zip file in another one)
     if ends is not None and (ZIP_ENTRY.search(view) or ZIP_ENTRY.search(whole)):
         return "zip file"
+    # (and one that is signed leads elsewhere for programs that count from the begin of the file, APPNOTE.TXT 4.4.24)
+    if any(map(ZIP_ENTRY.search, outside)) and ZIP_END.search(view[max(0, len(view) - LAST) :]):
+        return "zip file"
     return ""

@@ -11,6 +11,7 @@ import zlib
 from typing import Any, Callable, NamedTuple, Union
 
 from cmsproof_tools.containers.asic import end_of_entries
+from cmsproof_tools.containers.twofold import begun_as
 from cmsproof_tools.running import FAILED, Started, Stop, shown
 from cmsproof_tools.writing import written
 
@@ -161,6 +162,9 @@ def members_in(whole: Any) -> dict[str, memoryview]:
     is_whole = end_of_entries(octets, start, len(found)) == ended
     if at != start or comment or not ends or not is_whole or any(member.comment for member in found):
         raise Malformed("octets stand in it that are no member's")
+    # (by octets of a member, which is looked at as it is by itself)
+    if kind := begun_as(octets):
+        raise Malformed(f"it is a {kind} too")
     return members
 
 

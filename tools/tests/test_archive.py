@@ -208,6 +208,16 @@ class Lines(WithFiles):
             found = run_tool("cmsproof-archive", *words, said=said, cwd=self.folder)
             twice = "cmsproof-archive: standard input is named twice, and can be read once\n"
             self.assertEqual(found, (3, b"", twice), words)
+        for words, twice in (
+            (["due", *by_list, "--months", "12", "--months", "1", "a"], "--months"),
+            (["due", *by_list, "--by", "20300101000000Z", "--by", "20270101000000Z", "a"], "--by"),
+            (["renew", *by_list, "--records", "r", "--records", "s", "--months", "1", "--tsa", "http://a"], "--records"),
+            (["report", "s", "--html", "h", "--records", "r", "--records", "s"], "--records"),
+            (["report", "s", "--html", "h", "--records", "r", "--under", "r", "--under", "s"], "--under"),
+            (["evidence", *by_list, "a", "--to", "b", "--part", "1", "--part", "2"], "--part"),
+        ):
+            line = f"cmsproof-archive: {twice} is said twice (see cmsproof-archive {words[0]} --help)\n"
+            self.assertEqual(run_tool("cmsproof-archive", *words, cwd=self.folder), (3, b"", line), words)
         status, out, err = run_tool("cmsproof-archive", "a")
         self.assertEqual((status, out, err), (3, b"", f"cmsproof-archive: the following arguments are required: --trust{see}"))
         missing = "cmsproof-archive: failed open missing: No such file or directory\n"

@@ -64,8 +64,8 @@ def months_of(text: str) -> int:
 def add_moment(parser: Words) -> None:
     """The words by which records are due."""
     parser.add_argument("--trust", action="once", required=True, metavar="LIST", help="the trust list, which is read once")
-    parser.add_argument("--months", type=months_of, metavar="N", help="those that are due within so many months from now")
-    parser.add_argument("--by", type=time_of, metavar="TIME", help="those that are due by this moment")
+    parser.add_argument("--months", action="once", type=months_of, metavar="N", help="those that are due within so many months from now")
+    parser.add_argument("--by", action="once", type=time_of, metavar="TIME", help="those that are due by this moment")
     add_ends(parser, "")
 
 

@@ -41,7 +41,7 @@ RENEWALS = ".renewals"
 def parser_of(tool: str) -> Words:
     """The parser of the words."""
     parser = Words(tool, description=ABOUT)
-    parser.add_argument("--records", required=True, metavar="DIR", help="the folder of the records, which end in .ers")
+    parser.add_argument("--records", action="once", required=True, metavar="DIR", help="the folder of the records, which end in .ers")
     add_moment(parser)
     add_authority(parser, f"that of --records with {RENEWALS} behind it")
     jobs = "records that are judged at a time; as many as there are processors by default"

@@ -178,8 +178,8 @@ def parser_of(tool: str) -> Words:
     parser.add_argument("--json", metavar="OUT", help="write a line of JSON for each row")
     parser.add_argument("--known", metavar="FILE", help="a text of refusals that are known: it is told what is new beside them")
     records = "the folder of evidence records: the page has the hash trees of those that must be renewed first"
-    parser.add_argument("--records", metavar="DIR", help=records)
+    parser.add_argument("--records", action="once", metavar="DIR", help=records)
     under = "the archive's folder, with --records: by default the one where the tool runs"
-    parser.add_argument("--under", metavar="DIR", help=under)
+    parser.add_argument("--under", action="once", metavar="DIR", help=under)
     parser.add_argument("--only", choices=VERDICTS, metavar="VERDICT", help="only rows of this verdict: " + ", ".join(VERDICTS))
     return parser

@@ -150,6 +150,10 @@ class Packed(WithMaker):
         other = begun[:148] + number + begun[156:]
         tar = with_tar(attached, EVIL)
         rows = {"letter": tar, "tar.sig": tar, "mail": mail, "asic": begun + packed[len(begun) :], "binary": other + packed[len(other) :]}
+        said = tar[148:154]
+        for number, form in enumerate((b"+%b", b"0o%b", b"0O_%b", b"\x1c%b", b"%b_%b")):
+            other = form % (said[1:] if form.count(b"%b") == 1 else (said[:3], said[3:]))
+            rows[f"form{number}"] = tar[:148] + other.ljust(8, b"\0") + tar[156:]
         for name, octets in rows.items():
             with tarfile.open(fileobj=io.BytesIO(octets)) as file:
                 self.assertEqual(file.extractfile("letter.txt").read().strip(), EVIL, name)

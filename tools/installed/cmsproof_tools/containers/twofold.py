@@ -26,8 +26,10 @@ OF_PAIRS = ctypes.PyDLL(None).PyUnicode_FromKindAndData
 OF_PAIRS.restype = ctypes.py_object
 TWO, COUNT = ctypes.c_int.from_param(2), ctypes.c_ssize_t
 # the head of the first file of a tar: so many octets, among which is their sum in octal digits, with spaces in its place (POSIX.1-2017,
-# pax, "ustar Interchange Format"). Some programs count octets from 128 on as negative, or read a number of octets behind 80
-TAR_HEAD, TAR_SUM, TAR_SAID = 512, slice(148, 156), re.compile(rb"[\0\s]*([0-7]+)|\x80")
+# pax, "ustar Interchange Format"). Some programs count octets from 128 on as negative, or read a number of octets behind 80, or ff if it is
+# negative; and Python's tarfile whatever its `int` reads
+TAR_HEAD, TAR_SUM = 512, slice(148, 156)
+TAR_SAID = re.compile(rb"[\0\s\x1c-\x1f]*([-+]?(?:0[oO]_?)?[0-7]+(?:_[0-7]+)*)|\x80|\xff")
 # octets at a place that make a file one of another kind, whatever is before them (DICOM PS3.10 7.1, ECMA-119 8.1, ECMA-167 2/9, and
 # freedesktop's shared-mime-info)
 MARKED = (
@@ -120,7 +122,7 @@ def is_tar(octets: Buffer) -> bool:
     if said is None or len(octets) < TAR_HEAD:
         return False
     head = bytes(octets[: TAR_SUM.start]) + b" " * 8 + bytes(octets[TAR_SUM.stop : TAR_HEAD])
-    number = int(said[1], 8) if said[1] else int.from_bytes(bytes(octets[TAR_SUM])[1:], "big")
+    number = int(said[1], 8) if said[1] else int.from_bytes(bytes(octets[TAR_SUM])[1:], "big", signed=said[0] == b"\xff")
     return number in (sum(head), sum(head) - 256 * sum(octet > 127 for octet in head))
 
 

@@ -21,6 +21,8 @@ from test_containers_twofold import ACCEPTED, EVIL, GOOD, Entry, end, opened, wi
 from oracle.der import element  # noqa: E402
 
 AMBIGUOUS = "refused F10 Ambiguous"
+# whether Perl has its library of tar, which some systems leave out
+PERL = shutil.which("perl") and not subprocess.run(["perl", "-MArchive::Tar", "-e", "1"], capture_output=True).returncode
 
 
 class Packed(WithMaker):
@@ -158,6 +160,13 @@ class Packed(WithMaker):
             with tarfile.open(fileobj=io.BytesIO(octets)) as file:
                 self.assertEqual(file.extractfile("letter.txt").read().strip(), EVIL, name)
             self.put(name, octets)
+        # (Perl's Archive::Tar reads it in hexadecimal digits)
+        for name, form in (("hex", b"0x%x"), ("hex2", b"x%x")):
+            path = self.put(name, tar[:148] + (form % int(said, 8)).ljust(8, b"\0") + tar[156:])
+            rows[name] = path.read_bytes()
+            listed = "print map {$_->get_content} Archive::Tar->new($ARGV[0])->get_files('letter.txt')"
+            done = subprocess.run(["perl", "-MArchive::Tar", "-e", listed, path], capture_output=True, check=False) if PERL else None
+            self.assertTrue(done is None or (EVIL in done.stdout and b"checksum" not in done.stderr), done)
         self.put("good", attached), self.put("good.asics", packed)
         found = {name.partition(" ")[0]: line for name, line in self.lines().items()}
         self.assertRegex(found.pop("good"), ACCEPTED)

@@ -27,9 +27,12 @@ OF_PAIRS.restype = ctypes.py_object
 TWO, COUNT = ctypes.c_int.from_param(2), ctypes.c_ssize_t
 # the head of the first file of a tar: so many octets, among which is their sum in octal digits, with spaces in its place (POSIX.1-2017,
 # pax, "ustar Interchange Format"). Some programs count octets from 128 on as negative, or read a number of octets behind 80, or ff if it is
-# negative; and Python's tarfile whatever its `int` reads
-TAR_HEAD, TAR_SUM = 512, slice(148, 156)
-TAR_SAID = re.compile(rb"[\0\s\x1c-\x1f]*([-+]?(?:0[oO]_?)?[0-7]+(?:_[0-7]+)*)|\x80|\xff")
+# negative; Python's tarfile whatever its `int` reads, and Perl's Archive::Tar what its `oct` reads, of which it compares the last 16 bits
+TAR_HEAD, TAR_SUM, TAR_BITS = 512, slice(148, 156), 0xFFFF
+TAR_SAID = re.compile(
+    rb"[\0\s\x1c-\x1f]*(?:0?[xX](?P<hex>[0-9A-Fa-f]+)|0?[bB](?P<bits>[01]+)|(?P<octal>[-+]?(?:0[oO]_?)?[0-7]+(?:_[0-7]+)*))|\x80|\xff"
+)
+TAR_BASES = {"hex": 16, "bits": 2, "octal": 8}
 # octets at a place that make a file one of another kind, whatever is before them (DICOM PS3.10 7.1, ECMA-119 8.1, ECMA-167 2/9, and
 # freedesktop's shared-mime-info)
 MARKED = (
@@ -122,8 +125,12 @@ def is_tar(octets: Buffer) -> bool:
     if said is None or len(octets) < TAR_HEAD:
         return False
     head = bytes(octets[: TAR_SUM.start]) + b" " * 8 + bytes(octets[TAR_SUM.stop : TAR_HEAD])
-    number = int(said[1], 8) if said[1] else int.from_bytes(bytes(octets[TAR_SUM])[1:], "big", signed=said[0] == b"\xff")
-    return number in (sum(head), sum(head) - 256 * sum(octet > 127 for octet in head))
+    if said.lastgroup is None:
+        number = int.from_bytes(bytes(octets[TAR_SUM])[1:], "big", signed=said[0] == b"\xff")
+    else:
+        number = int(said[said.lastgroup], TAR_BASES[said.lastgroup])
+    sums = sum(head), sum(head) - 256 * sum(octet > 127 for octet in head)
+    return number & TAR_BITS in (sums[0] & TAR_BITS, sums[1] & TAR_BITS)
 
 
 def begun_as(octets: Buffer) -> str:

@@ -239,6 +239,7 @@ class Begun(WithMaker):
         for name, octets in rows.items():
             self.put(name, octets)
         begins = b"Return-Path: <a>", b"received: by a", b"X-a_b.c: d", b"From: a", b"cc: a", b"Organisation: a", b"MIME-Version: 1.0"
+        begins += b"Autocrypt: a", b"OpenPGP: a", b"Comment: a", b"Solicitation: a", b"acceptlanguage: de", b"spamdiagnosticoutput: 1:99"
         rest = mail.replace(b"MIME-Version: 1.0\r\n", b"").replace(b"From: ada", b"X-From: ada")
         for number, field in enumerate(begins):
             self.put(f"good{number}.eml", field + b"\r\n" + rest)

@@ -53,9 +53,10 @@ FIRST_FIELD = re.compile(
     rb"(?!(?-i:ADIF|ALZ|ARROW1|AVF0|BIK|BLENDER|BSDIF|CCMX|CISO|CWS|FLV|FORM|FOVb|FRM8|FWS|GIF8|HXCPICFE|ID3|IIN1|IMPM|KDMV|MComprHD|MMMD|"
     rb"MO3|MOVI|MPCK|MSCF|MThd|MZ|NSVf|OTTO|OggS|PAR[12]|PSID|RIF[FX]|SDPX|SMK|TTA1|WBFS|XMF_|XPDS|ZWS|bplist|caff|conectix|fLaC|glTF|"
     rb"icns|qoif|vhdxfile|wOF[2F]|wvpk))"
-    rb"(?:[A-Za-z][0-9A-Z_a-z]*-[-.0-9A-Z_a-z]*|approved|archive|auto(?:forward|submitt)ed|[bf]?cc|comments|control|conversion|date|"
-    rb"distribution|encoding|encrypted|expires|face|forwarded|from|importance|keywords|language|lines|newsgroups|obsoletes|organi[sz]ation|"
-    rb"path|precedence|priority|received|references|replied|resent|sender|sensitivity|status|subject|summary|supersedes|to|xref):",
+    rb"(?:[A-Za-z][0-9A-Z_a-z]*-[-.0-9A-Z_a-z]*|acceptlanguage|approved|archive|auto(?:crypt|forwarded|submitted)|[bf]?cc|comments?|control|"
+    rb"conversion|date|distribution|encoding|encrypted|expires|face|forwarded|from|importance|keywords|language|lines|newsgroups|obsoletes|"
+    rb"openpgp|organi[sz]ation|path|precedence|priority|received|references|replied|resent|sender|sensitivity|solicitation|"
+    rb"spamdiagnostic(?:metadata|output)|status|subject|summary|supersedes|to|xref):",
     re.IGNORECASE,
 )
 SIGNATURES = ("application/pkcs7-signature", "application/x-pkcs7-signature")

@@ -381,8 +381,9 @@ class Verifying(unittest.TestCase):
         second = number(hashed * pow(secret, -1, order) % order)
         signature = element(0x30, number(other.public_numbers().x % order), second)
         infinity = key_of("1.2.840.10045.2.1", oid("1.2.840.10045.3.1.7"), b"\0")
-        # (the last one says that 7 bits of its octet are none)
-        for key in (infinity, infinity[:-2] + b"\7\0"):
+        # (OpenSSL cuts as many bits of the octet as the one before says, and puts pieces together)
+        pieces = element(0x30, element(0x30, oid("1.2.840.10045.2.1"), oid("1.2.840.10045.3.1.7")), element(0x23, element(3, b"\0\0")))
+        for key in (infinity, *(infinity[:-2] + bits for bits in (b"\7\0", b"\7\x7f", b"\1\1")), pieces):
             asked = key.hex(), question(key, digest_algorithm("sha256"), algorithm(ECDSA + "3.2"), TAIL, signature)
             self.assertIn("line 2: not judged: the key cannot be read: its point is at infinity", self.none_vouched([asked]))
             with mock.patch.object(verifying, "load_der_public_key", lambda octets: other):

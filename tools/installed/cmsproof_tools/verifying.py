@@ -32,7 +32,7 @@ warnings.filterwarnings("ignore", category=CryptographyDeprecationWarning)
 SHA_2, PKCS_1, MGF_1 = "2.16.840.1.101.3.4.2.", "1.2.840.113549.1.1.", "1.2.840.113549.1.1.8"
 PSS_ALGORITHM = PKCS_1 + "10"
 # keys on elliptic curves, which name their curve by an object identifier (RFC 5480 2.1.1)
-ELLIPTIC = "1.2.840.10045.2.1"
+ELLIPTIC, BITS = "1.2.840.10045.2.1", 0x03
 HASHES = {
     "SHA-1": hashes.SHA1(),
     "SHA-224": hashes.SHA224(),
@@ -207,8 +207,9 @@ def key_of(octets: bytes) -> Key:
     try:
         parts = der.elements(der.only(der.SEQUENCE, octets))
         oid, parameters = der.algorithm(parts[0].whole)
-        # (OpenSSL verifies under the point at infinity, and some versions of the library read it)
-        if oid == ELLIPTIC and parts[1].contents[1:] == b"\0":
+        # (OpenSSL verifies under the point at infinity, and some versions of the library read it, also as an octet of which bits are cut, or
+        # as a string in pieces; no other point has one octet)
+        if oid == ELLIPTIC and (parts[1].identifier != BITS or len(parts[1].contents) < 3):
             raise ValueError("its point is at infinity, so that anybody can sign (SEC 1 3.2.2.1)")
         # (which some versions of the library read, and others do not)
         if oid == ELLIPTIC and parameters[:1] != bytes([der.OID]):

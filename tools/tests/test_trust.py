@@ -4,7 +4,7 @@ import tempfile
 import unittest
 from pathlib import Path
 
-from making import PROGRAM, REAL, need_tools, openssl, run_tool, without_library
+from making import PROGRAM, REAL, need_tools, openssl, processor_seconds, run_tool, without_library
 
 need_tools()
 
@@ -171,6 +171,19 @@ class Trusting(unittest.TestCase):
                     self.assertEqual((out, err), (b"", f"cmsproof-trust: {path}: {line}\n"))
             if status == 1:
                 self.assertEqual(len(entries(run_tool("cmsproof-trust", "--all", "--signer", path)[1].decode())), int(line[0]))
+
+    def test_many_certificates_that_do_not_end(self):
+        """A megabyte of first lines took minutes, as did one of their beginnings in one line."""
+        from cmsproof_tools import certificates, revocation
+
+        many = b"-----BEGIN CERTIFICATE-----\n" * 40_000
+        for octets in (many, many + self.pem("alice"), self.pem("alice") + b"-----BEGIN " * 100_000 + b"CERTIFICATE-----"):
+            began = processor_seconds()
+            with self.assertRaises(ValueError):
+                certificates.certificates_in(octets)
+            with self.assertRaises(ValueError):
+                list(revocation.lists_in("many.crl", octets.replace(b"CERTIFICATE", b"X509 CRL")))
+            self.assertLess(processor_seconds() - began, 10)
 
     def test_a_warning_of_an_issuer(self):
         line = "an issuer's certificate (CA:TRUE): those that it issued are not trusted by it"

@@ -21,10 +21,10 @@ warnings.filterwarnings("ignore", category=CryptographyDeprecationWarning)
 # (anybody's certificate can have such a name, which is shown as it is)
 warnings.filterwarnings("ignore", message="Country names should be two characters")
 
-# a certificate in PEM (RFC 7468 5), by its label of today or the older one
-BLOCK = re.compile(rb"-----BEGIN (?:X509 )?CERTIFICATE-----(.*?)-----END (?:X509 )?CERTIFICATE-----", re.DOTALL)
+# a certificate in PEM (RFC 7468 5), by its label of today or the older one: how it begins and ends
+BLOCK = re.compile(rb"-----BEGIN (?:X509 )?CERTIFICATE-----"), re.compile(rb"-----END (?:X509 )?CERTIFICATE-----")
 # where another program may find one, as OpenSSL does behind BEGIN TRUSTED CERTIFICATE
-BEGIN = re.compile(rb"-----BEGIN [^\n]*?CERTIFICATE *-----")
+BEGIN = re.compile(rb"-----BEGIN (?:(?!-----BEGIN )[^\n])*?CERTIFICATE *-----")
 # a block under any label, as Java reads it; and what no text has, but each certificate and each list in DER, as the identifier octet of an
 # object identifier
 ANY, NO_TEXT = re.compile(rb"-----BEGIN [^\n-]*-----([^-]*)-----END "), re.compile(rb"[\x01-\x08\x0e-\x19]")
@@ -212,10 +212,21 @@ def is_in(block: bytes, is_one: Callable[[bytes], object]) -> bool:
         return False
 
 
-def others_beside(octets: bytes, blocks: re.Pattern[bytes], is_one: Callable[[bytes], object]) -> bool:
+def parts_of(octets: bytes, block: tuple[re.Pattern[bytes], re.Pattern[bytes]]) -> tuple[list[bytes], bytes]:
+    """What stands in the blocks of a text in PEM, and what is around them. (Behind one that does not end no other is looked for: that took
+    the square of their number.)"""
+    begin, end = block
+    found, around, at = [], [], 0
+    while (first := begin.search(octets, at)) and (last := end.search(octets, first.end())):
+        found.append(octets[first.end() : last.start()])
+        around.append(octets[at : first.start()])
+        at = last.end()
+    return found, b"\n".join([*around, octets[at:]])
+
+
+def others_beside(around: bytes, is_one: Callable[[bytes], object]) -> bool:
     """Whether around the blocks of a file stands what may be another one in DER, or is one under another label."""
-    rest = blocks.sub(b"\n", octets)
-    return bool(NO_TEXT.search(rest)) or any(is_in(block, is_one) for block in ANY.findall(rest))
+    return bool(NO_TEXT.search(around)) or any(is_in(block, is_one) for block in ANY.findall(around))
 
 
 def certificate_in_der(octets: bytes) -> Certificate | None:
@@ -234,7 +245,7 @@ def certificates_in(octets: bytes) -> list[Certificate]:
         if BEGIN.search(octets):
             raise ValueError("another certificate begins in it, as a text, which is not read here, but is elsewhere")
         return [alone]
-    blocks = BLOCK.findall(octets)
+    blocks, around = parts_of(octets, BLOCK)
     if not blocks and b"-----BEGIN " in octets:
         raise ValueError("no certificate is in it, but other PEM")
     if not blocks and (kind := kind_of(octets[:BEGINNING])):
@@ -248,7 +259,7 @@ def certificates_in(octets: bytes) -> list[Certificate]:
             raise ValueError(f"{what}: {error}") from error
     if blocks and len(BEGIN.findall(octets)) > len(blocks):
         raise ValueError("another certificate begins in it, which is not read here, but is elsewhere")
-    if blocks and others_beside(octets, BLOCK, certificate_in_der):
+    if blocks and others_beside(around, certificate_in_der):
         raise ValueError(
             "another certificate may be in it, in DER or under another label, which is not read here, but is elsewhere"
         )

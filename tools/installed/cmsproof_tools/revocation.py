@@ -22,7 +22,7 @@ from typing import Any, Callable, Iterable, Iterator, NamedTuple, Optional
 from cryptography import x509
 
 from cmsproof_tools import der
-from cmsproof_tools.certificates import Certificate, certificates_in, name_key, octets_in, others_beside
+from cmsproof_tools.certificates import Certificate, certificates_in, name_key, octets_in, others_beside, parts_of
 from cmsproof_tools.paths import Broken, OpenSSL, Path, Row
 from cmsproof_tools.periods import OPEN, Period, just_before, moment_of, utc
 from cmsproof_tools.running import shown
@@ -31,7 +31,7 @@ from cmsproof_tools.texts import in_order, time_in
 
 # where a list may begin, also by a label that nobody reads here (RFC 7468 6)
 BEGIN = re.compile(rb"-----BEGIN [^\n-]*CRL *-----")
-BLOCK = re.compile(rb"-----BEGIN X509 CRL-----(.*?)-----END X509 CRL-----", re.DOTALL)
+BLOCK = re.compile(rb"-----BEGIN X509 CRL-----"), re.compile(rb"-----END X509 CRL-----")
 DELTA, EXPIRED_ON_LIST, DISTRIBUTION, CERTIFICATE_ISSUER = "2.5.29.27", "2.5.29.60", "2.5.29.28", "2.5.29.29"
 DISTRIBUTION_POINTS, POINT_NAME = "2.5.29.31", 0xA0
 # what a list counts for that OpenSSL does not take
@@ -214,14 +214,14 @@ def list_fault(openssl: OpenSSL, octets: bytes, row: Row) -> str:
 
 def lists_in(name: str, octets: bytes) -> Iterator[bytes]:
     """The lists of a file, each in DER: one in DER, or all that are there in PEM. Raises ValueError where none is."""
-    begins, blocks = begins_in(octets), BLOCK.findall(octets)
+    begins, (blocks, around) = begins_in(octets), parts_of(octets, BLOCK)
     if begins and is_element(octets):
         raise ValueError("another list begins in it, as a text")
     if not begins and b"-----BEGIN " in octets:
         raise ValueError("no revocation list is in it, but other PEM")
     if begins > len(blocks):
         raise ValueError("another list begins in it, and does not end, is in UTF-16, or has another label than X509 CRL")
-    if blocks and others_beside(octets, BLOCK, is_list):
+    if blocks and others_beside(around, is_list):
         raise ValueError("another list may be in it, in DER or under another label")
     yield from map(octets_in, blocks)
     if not blocks:

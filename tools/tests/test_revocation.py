@@ -242,7 +242,7 @@ class Revoking(WithWorld):
 
         w, old = self.world, list_pem(h.revocation_list(self.world.sub))
         new = h.revocation_list(w.sub, [(w.anna, "2024-04-15", "keyCompromise", None)])
-        labelled = [list_pem(new).replace(b"X509 CRL", label) for label in (b"CRL", b"CERTIFICATE", b"NEW X509 CRL")]
+        labelled = [list_pem(new).replace(b"X509 CRL", label) for label in (b"CRL", b"CERTIFICATE", b"NEW X509 CRL", b"A-B")]
         labelled += [list_pem(new).decode().encode(coding) for coding in ("utf-16-le", "utf-16-be", "utf-16")]
         for other in (new, *labelled):
             for octets in (old + other, other + old):

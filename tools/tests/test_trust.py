@@ -2,6 +2,7 @@
 import subprocess
 import tempfile
 import unittest
+from base64 import b64encode
 from pathlib import Path
 
 from making import PROGRAM, REAL, need_tools, openssl, processor_seconds, run_tool, without_library
@@ -153,7 +154,7 @@ class Trusting(unittest.TestCase):
             (self.alice + second, 2, beside),
             (second + self.alice, 2, beside),
             (bytes([0x30, 0x80]) + self.alice[4:] + bytes(2) + second, 2, beside),
-            (first.replace(b" CERTIFICATE", b" LETTER") + second, 2, beside),
+            *((block + second, 2, beside) for block in self.labelled_otherwise()),
             (first + second, 1, several.format(2)),
             (second + b"x" + first, 1, several.format(2)),
             (first + second + self.pem("authority") + second, 1, several.format(3)),
@@ -171,6 +172,19 @@ class Trusting(unittest.TestCase):
                     self.assertEqual((out, err), (b"", f"cmsproof-trust: {path}: {line}\n"))
             if status == 1:
                 self.assertEqual(len(entries(run_tool("cmsproof-trust", "--all", "--signer", path)[1].decode())), int(line[0]))
+
+    def labelled_otherwise(self):
+        """Certificates as `keytool` shows them: under any label, also one with a hyphen, whatever ends a line, in BER, and without the signs
+        `=` at the end."""
+        first = self.pem("alice").replace(b" CERTIFICATE", b" LETTER")
+        padded = next(octets for octets in map(self.certificate, ("a", "ab", "abc")) if len(octets) % 3)
+        return (
+            first,
+            first.replace(b" LETTER", b" A-B"),
+            first.replace(b" LETTER", b" A-B").replace(b"\n", b"\r"),
+            b"-----BEGIN A-----\n" + b64encode(bytes([0x30, 0x80]) + self.alice[4:] + bytes(2)) + b"\n-----END A-----\n",
+            b"-----BEGIN A-----\n" + b64encode(padded).rstrip(b"=") + b"\n-----END A-----\n",
+        )
 
     def test_many_certificates_that_do_not_end(self):
         """A megabyte of first lines took minutes, as did one of their beginnings in one line."""

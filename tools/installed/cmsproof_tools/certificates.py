@@ -27,7 +27,10 @@ BLOCK = re.compile(rb"-----BEGIN (?:X509 )?CERTIFICATE-----"), re.compile(rb"---
 BEGIN = re.compile(rb"-----BEGIN (?:(?!-----BEGIN )[^\n])*?CERTIFICATE *-----")
 # a block under any label, as Java reads it; and what no text has, but each certificate and each list in DER, as the identifier octet of an
 # object identifier
-ANY, NO_TEXT = re.compile(rb"-----BEGIN [^\n-]*-----([^-]*)-----END "), re.compile(rb"[\x01-\x08\x0e-\x19]")
+ANY, NO_TEXT = re.compile(rb"-----([^-]*)-----END "), re.compile(rb"[\x01-\x08\x0e-\x19]")
+# how a certificate of version 2 or 3 begins, also in BER, which Java reads: two sequences, and the version (X.690 8.1.3)
+LENGTH = rb"(?:[\x00-\x80]|\x81.|\x82..|\x83...|\x84....)"
+BEGINS = re.compile(b"\x30" + LENGTH + b"\x30" + LENGTH + b"\xa0", re.DOTALL)
 EXTENSIONS, TRUE, FALSE, VERSION, KEY_IDENTIFIER = 0xA3, b"\xff", b"\0", 0xA0, 0x80
 SUBJECT_KEY_IDENTIFIER, BASIC_CONSTRAINTS, EXTENDED_KEY_USAGE = "2.5.29.14", "2.5.29.19", "2.5.29.37"
 KEY_USAGE, BITS, DIGITAL_SIGNATURE_OR_NON_REPUDIATION = "2.5.29.15", 0x03, 0xC0
@@ -205,9 +208,10 @@ def octets_in(block: bytes) -> bytes:
 
 
 def is_in(block: bytes, is_one: Callable[[bytes], object]) -> bool:
-    """Whether a block of PEM holds what is looked for."""
+    """Whether a block of PEM holds what is looked for, also without the signs `=` at its end, of which Java needs none."""
+    text = b"".join(block.split()).rstrip(b"=")
     try:
-        return bool(is_one(octets_in(block)))
+        return bool(is_one(octets_in(text + b"=" * (-len(text) % 4))))
     except ValueError:
         return False
 
@@ -227,6 +231,11 @@ def parts_of(octets: bytes, block: tuple[re.Pattern[bytes], re.Pattern[bytes]]) 
 def others_beside(around: bytes, is_one: Callable[[bytes], object]) -> bool:
     """Whether around the blocks of a file stands what may be another one in DER, or is one under another label."""
     return bool(NO_TEXT.search(around)) or any(is_in(block, is_one) for block in ANY.findall(around))
+
+
+def may_be_certificate(octets: bytes) -> bool:
+    """Whether another program may read octets as a certificate."""
+    return BEGINS.match(octets) is not None or certificate_in_der(octets) is not None
 
 
 def certificate_in_der(octets: bytes) -> Certificate | None:
@@ -259,7 +268,7 @@ def certificates_in(octets: bytes) -> list[Certificate]:
             raise ValueError(f"{what}: {error}") from error
     if blocks and len(BEGIN.findall(octets)) > len(blocks):
         raise ValueError("another certificate begins in it, which is not read here, but is elsewhere")
-    if blocks and others_beside(around, certificate_in_der):
+    if blocks and others_beside(around, may_be_certificate):
         raise ValueError(
             "another certificate may be in it, in DER or under another label, which is not read here, but is elsewhere"
         )

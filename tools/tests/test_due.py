@@ -183,6 +183,10 @@ class Listed(WithRecords):
         self.assertEqual((status, lines), (0, []))
         status, _, err = self.due()
         self.assertEqual((status, err.count("no record is named")), (3, 1))
+        # (of two moments the later one would leave nothing out)
+        for words in (("--by", BY, "--by", LATER), ("--months", "90", "--months", "0")):
+            status, lines, err = self.due("records", by=words)
+            self.assertEqual((status, lines, f"{words[0]} is said twice" in err), (3, [], True), err)
         (self.folder / "empty").mkdir()
         status, lines, err = self.due("empty")
         self.assertEqual((status, lines), (3, []))

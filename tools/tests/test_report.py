@@ -188,8 +188,11 @@ class Report(unittest.TestCase):
             text = (self.folder / "out").read_text()
             self.assertEqual((text.count("a" * 64), "later.p7s" in text), (1, False), out)
 
+    # (one of the two would not be written)
+    TWICE = ["state", "--csv", "one", "--csv", "-"]
+
     def test_words(self):
-        for words in ([], ["state"], ["state", "--html"], ["state", "--only", "good", "--csv", "-"]):
+        for words in ([], ["state"], ["state", "--html"], ["state", "--only", "good", "--csv", "-"], self.TWICE):
             status, out, err = run_tool("cmsproof-archive", "report", *words, cwd=self.folder)
             self.assertEqual((status, out, len(err.splitlines())), (3, b"", 1), words)
         status, out, err = run_tool("cmsproof-archive", "report", "state", "--csv", "/dev/full", cwd=self.folder)

@@ -140,13 +140,13 @@ def add_dask(parser: Words, done: str) -> None:
 def add_state(parser: Words) -> None:
     """The words that go with a state."""
     kept = "a file with a row for each file: only what changed is judged again"
-    parser.add_argument("--state", metavar="FILE", help=kept)
+    parser.add_argument("--state", action="once", metavar="FILE", help=kept)
     since = "with --state: judge again what was judged before this time"
-    parser.add_argument("--since", type=moment_of, metavar="TIME", help=since)
-    parser.add_argument("--only", choices=VERDICTS, metavar="VERDICT", help="with --state: only files of this verdict")
+    parser.add_argument("--since", action="once", type=moment_of, metavar="TIME", help=since)
+    parser.add_argument("--only", action="once", choices=VERDICTS, metavar="VERDICT", help="with --state: only files of this verdict")
     parser.add_argument("--recheck", action="store_true", help="with --state: judge all files again")
     known = "with --state: a text of refusals that are known, a code and a name on each line: the status is that of what is new"
-    parser.add_argument("--known", metavar="FILE", help=known)
+    parser.add_argument("--known", action="once", metavar="FILE", help=known)
 
 
 def parser_of(tool: str) -> Words:
@@ -154,7 +154,7 @@ def parser_of(tool: str) -> Words:
     parser = Words(tool, description=ABOUT)
     parser.add_argument("--trust", action="once", metavar="LIST", help="the trust list, which is read once")
     add_words(parser, several=False)
-    parser.add_argument("--write-trust", metavar="FILE", help="with an issuer: the list that was made and used")
+    parser.add_argument("--write-trust", action="once", metavar="FILE", help="with an issuer: the list that was made and used")
     add_contents(parser)
     add_records(parser)
     jobs = "files that are checked at a time; as many as there are processors by default"

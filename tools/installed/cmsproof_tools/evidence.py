@@ -271,7 +271,7 @@ def parser_of(tool: str) -> Words:
     add_judging(parser, "--record or --verify")
     parser.add_argument("--part", action="once", metavar="PART", help="which signature of the file, as it is shown behind its name")
     parser.add_argument("--without-content", action="store_true", help="put only the SHA-256 of a content into the bundle")
-    parser.add_argument("--to", metavar="ZIP", help="the bundle that is made")
+    parser.add_argument("--to", action="once", metavar="ZIP", help="the bundle that is made")
     parser.add_argument("--verify", action="once", metavar="ZIP", help="a bundle, of which is asked anew what it says")
     parser.add_argument(
         "--list-of-the-bundle", action="store_true", help="with --verify: go by the trust list of whoever made the bundle"

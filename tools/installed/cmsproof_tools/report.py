@@ -173,13 +173,15 @@ def parser_of(tool: str) -> Words:
     """The parser of the words."""
     parser = Words(tool, description=ABOUT)
     parser.add_argument("state", metavar="STATE", help="the file that cmsproof-archive --state wrote")
-    parser.add_argument("--html", metavar="OUT", help="write a page")
-    parser.add_argument("--csv", metavar="OUT", help="write a table, a line for each row")
-    parser.add_argument("--json", metavar="OUT", help="write a line of JSON for each row")
-    parser.add_argument("--known", metavar="FILE", help="a text of refusals that are known: it is told what is new beside them")
+    parser.add_argument("--html", action="once", metavar="OUT", help="write a page")
+    parser.add_argument("--csv", action="once", metavar="OUT", help="write a table, a line for each row")
+    parser.add_argument("--json", action="once", metavar="OUT", help="write a line of JSON for each row")
+    known = "a text of refusals that are known: it is told what is new beside them"
+    parser.add_argument("--known", action="once", metavar="FILE", help=known)
     records = "the folder of evidence records: the page has the hash trees of those that must be renewed first"
     parser.add_argument("--records", action="once", metavar="DIR", help=records)
     under = "the archive's folder, with --records: by default the one where the tool runs"
     parser.add_argument("--under", action="once", metavar="DIR", help=under)
-    parser.add_argument("--only", choices=VERDICTS, metavar="VERDICT", help="only rows of this verdict: " + ", ".join(VERDICTS))
+    only = "only rows of this verdict: " + ", ".join(VERDICTS)
+    parser.add_argument("--only", action="once", choices=VERDICTS, metavar="VERDICT", help=only)
     return parser

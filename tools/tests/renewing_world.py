@@ -82,9 +82,10 @@ class WithRecords(WithAuthority):
         return lambda request, _: (200, REPLY, response_to(request, *words, **rest))
 
     def words(self, *words, by=("--by", BY), trust="list"):
-        """The words of a run."""
-        more = ["--state", "state", "--trust", trust, "--program", PROGRAM, *by, *words]
-        return ["renew", "--records", "records", "--tsa", self.authority.address + "/stamp", *more]
+        """The words of a run: these, and those that are not among them."""
+        usual = {"--records": "records", "--tsa": self.authority.address + "/stamp", "--state": "state"}
+        more = [part for word, value in usual.items() if word not in words for part in (word, value)]
+        return ["renew", *more, "--trust", trust, "--program", PROGRAM, *by, *words]
 
     def renew(self, *words, **rest):
         """The status of the tool, its lines, and its standard error."""

@@ -139,9 +139,10 @@ class WithAuthority(unittest.TestCase):
             file.write(given)
 
     def words(self, *words, trust=("--trust", "list"), folder="files"):
-        """The words of a run."""
-        more = ["--into", "records", "--state", "state", "--program", PROGRAM, *trust, *words]
-        return ["stamp", folder, "--tsa", self.authority.address + "/stamp", *more]
+        """The words of a run: these, and those that are not among them."""
+        usual = {"--tsa": self.authority.address + "/stamp", "--into": "records", "--state": "state"}
+        more = [part for word, value in usual.items() if word not in words for part in (word, value)]
+        return ["stamp", folder, *more, "--program", PROGRAM, *trust, *words]
 
     def stamp(self, *words, **rest):
         """The status of the tool, its lines, and its standard error. No proxy of this machine is used."""

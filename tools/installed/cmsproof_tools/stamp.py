@@ -44,10 +44,10 @@ def seconds_of(text: str) -> float:
 
 def add_authority(parser: Words, beside: str) -> None:
     """The words that say which authority is asked, and how, and where is kept what was done, by default in a folder of this name."""
-    parser.add_argument("--tsa", required=True, metavar="URL", help="the address of the authority, http or https")
+    parser.add_argument("--tsa", action="once", required=True, metavar="URL", help="the address of the authority, http or https")
     state = f"a folder with what was done so far, {beside} by default, which is made if it is not there"
-    parser.add_argument("--state", metavar="DIR", help=state)
-    parser.add_argument("--policy", metavar="OID", help="the policy under which the authority is asked to stamp")
+    parser.add_argument("--state", action="once", metavar="DIR", help=state)
+    parser.add_argument("--policy", action="once", metavar="OID", help="the policy under which the authority is asked to stamp")
     took = "how many seconds the authority may take, 60 by default"
     parser.add_argument("--timeout", type=seconds_of, default=60.0, metavar="N", help=took)
     program = "the program cmsproof, by default the one beside this tool or on PATH"
@@ -60,12 +60,12 @@ def parser_of(tool: str) -> Words:
     """The parser of the words."""
     parser = Words(tool, description=ABOUT)
     into = f"the folder of the records, FOLDER{RECORDS} by default, which is made if it is not there"
-    parser.add_argument("--into", metavar="DIR", help=into)
+    parser.add_argument("--into", action="once", metavar="DIR", help=into)
     add_authority(parser, f"FOLDER{STAMPS}")
     parser.add_argument("--trust", action="once", metavar="LIST", help="the trust list that has the authority")
     add_ends(parser, ", with --trust")
     digest = "the digest algorithm, sha256 by default"
-    parser.add_argument("--alg", choices=ALGORITHMS, default="sha256", metavar="NAME", help=digest)
+    parser.add_argument("--alg", action="once", choices=ALGORITHMS, default="sha256", metavar="NAME", help=digest)
     jobs = "files that are read at a time; as many as there are processors by default"
     parser.add_argument("--jobs", type=jobs_of, default=len(os.sched_getaffinity(0)), metavar="N", help=jobs)
     add_dask(parser, "read the files")

@@ -4,7 +4,7 @@ import shutil
 import unittest
 
 from issuing_world import ALWAYS, AT, CLOCK_AT, h, list_pem, pem
-from making import folder_of
+from making import folder_of, openssl
 from test_issuers import JARS, WithWorld, said_by_bouncy_castle
 
 from cryptography import x509
@@ -244,6 +244,9 @@ class Revoking(WithWorld):
         new = h.revocation_list(w.sub, [(w.anna, "2024-04-15", "keyCompromise", None)])
         labelled = [list_pem(new).replace(b"X509 CRL", label) for label in (b"CRL", b"CERTIFICATE", b"NEW X509 CRL", b"A-B")]
         labelled += [list_pem(new).decode().encode(coding) for coding in ("utf-16-le", "utf-16-be", "utf-16")]
+        (folder / "new").write_bytes(list_pem(new))
+        labelled.append(openssl("crl2pkcs7", "-in", folder / "new"))
+        (folder / "new").unlink()
         for other in (new, *labelled):
             for octets in (old + other, other + old):
                 (folder / "both.pem").write_bytes(octets)

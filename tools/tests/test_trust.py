@@ -174,8 +174,8 @@ class Trusting(unittest.TestCase):
                 self.assertEqual(len(entries(run_tool("cmsproof-trust", "--all", "--signer", path)[1].decode())), int(line[0]))
 
     def labelled_otherwise(self):
-        """Certificates as `keytool` shows them: under any label, also one with a hyphen, whatever ends a line, in BER, and without the signs
-        `=` at the end."""
+        """Certificates as `keytool` shows them: under any label, also one with a hyphen, whatever ends a line, in BER, without the signs `=` at
+        the end, and in a SignedData."""
         first = self.pem("alice").replace(b" CERTIFICATE", b" LETTER")
         padded = next(octets for octets in map(self.certificate, ("a", "ab", "abc")) if len(octets) % 3)
         return (
@@ -184,6 +184,7 @@ class Trusting(unittest.TestCase):
             first.replace(b" LETTER", b" A-B").replace(b"\n", b"\r"),
             b"-----BEGIN A-----\n" + b64encode(bytes([0x30, 0x80]) + self.alice[4:] + bytes(2)) + b"\n-----END A-----\n",
             b"-----BEGIN A-----\n" + b64encode(padded).rstrip(b"=") + b"\n-----END A-----\n",
+            openssl("crl2pkcs7", "-nocrl", "-certfile", self.folder / "alice.pem"),
         )
 
     def test_many_certificates_that_do_not_end(self):

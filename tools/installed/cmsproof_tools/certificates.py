@@ -31,6 +31,8 @@ ANY, NO_TEXT = re.compile(rb"-----([^-]*)-----END "), re.compile(rb"[\x01-\x08\x
 # how a certificate of version 2 or 3 begins, also in BER, which Java reads: two sequences, and the version (X.690 8.1.3)
 LENGTH = rb"(?:[\x00-\x80]|\x81.|\x82..|\x83...|\x84....)"
 BEGINS = re.compile(b"\x30" + LENGTH + b"\x30" + LENGTH + b"\xa0", re.DOTALL)
+# how a SignedData begins (RFC 5652 3, 5.1), which brings certificates and lists along
+SIGNED_DATA = re.compile(b"\x30" + LENGTH + re.escape(bytes.fromhex("06092a864886f70d010702")), re.DOTALL)
 EXTENSIONS, TRUE, FALSE, VERSION, KEY_IDENTIFIER = 0xA3, b"\xff", b"\0", 0xA0, 0x80
 SUBJECT_KEY_IDENTIFIER, BASIC_CONSTRAINTS, EXTENDED_KEY_USAGE = "2.5.29.14", "2.5.29.19", "2.5.29.37"
 KEY_USAGE, BITS, DIGITAL_SIGNATURE_OR_NON_REPUDIATION = "2.5.29.15", 0x03, 0xC0
@@ -208,10 +210,12 @@ def octets_in(block: bytes) -> bytes:
 
 
 def is_in(block: bytes, is_one: Callable[[bytes], object]) -> bool:
-    """Whether a block of PEM holds what is looked for, also without the signs `=` at its end, of which Java needs none."""
+    """Whether a block of PEM holds what is looked for, or a SignedData, out of which Java takes it; also without the signs `=` at its end,
+    of which Java needs none."""
     text = b"".join(block.split()).rstrip(b"=")
     try:
-        return bool(is_one(octets_in(text + b"=" * (-len(text) % 4))))
+        octets = octets_in(text + b"=" * (-len(text) % 4))
+        return SIGNED_DATA.match(octets) is not None or bool(is_one(octets))
     except ValueError:
         return False
 

@@ -2,9 +2,10 @@
 say of names and folders that somebody else chose."""
 import re
 import subprocess
-import tempfile
 import unittest
 from pathlib import Path
+
+from making import folder_of
 
 TOP = Path(__file__).resolve().parent.parent.parent
 DOCUMENTS = [TOP / "README.md", *sorted(TOP.glob("docs/*.md"))]
@@ -63,9 +64,7 @@ class Recipes(unittest.TestCase):
     """Commands of the documents, in folders that they were not written for."""
 
     def setUp(self):
-        temporary = tempfile.TemporaryDirectory()
-        self.addCleanup(temporary.cleanup)
-        self.folder = Path(temporary.name)
+        self.folder = folder_of(self)
 
     def lines(self, script):
         """What bash prints there, as lines."""

@@ -196,6 +196,16 @@ class Lines(WithFiles):
         ]
         for words, said, line in rows:
             self.assertEqual(self.run_archive(*words, said=said), (3, [], f"cmsproof-archive: {line}{see}"))
+        status, out, err = run_tool("cmsproof-archive", "a")
+        self.assertEqual((status, out, err), (3, b"", f"cmsproof-archive: the following arguments are required: --trust{see}"))
+        missing = "cmsproof-archive: failed open missing: No such file or directory\n"
+        self.assertEqual(self.run_archive("--files-from", "missing"), (4, [], missing))
+        for words in (["--help"], ["--version"]):
+            status, out, err = run_tool("cmsproof-archive", *words)
+            self.assertEqual((status, out.startswith((b"usage: cmsproof-archive", b"cmsproof-archive ")), err), (0, True, ""))
+
+    def test_standard_input_that_is_named_twice(self):
+        self.file("a")
         by_list, trusted = ["--trust", "list"], (self.folder / "list").read_bytes()
         for words, said in (
             ([*by_list, "-", "-"], b"a\n"),
@@ -211,6 +221,9 @@ class Lines(WithFiles):
             found = run_tool("cmsproof-archive", *words, said=said, cwd=self.folder)
             twice = "cmsproof-archive: standard input is named twice, and can be read once\n"
             self.assertEqual(found, (3, b"", twice), words)
+
+    def test_words_of_its_commands_that_are_said_twice(self):
+        by_list = ["--trust", "list"]
         for words, twice in (
             (["due", *by_list, "--months", "12", "--months", "1", "a"], "--months"),
             (["due", *by_list, "--by", "20300101000000Z", "--by", "20270101000000Z", "a"], "--by"),
@@ -221,13 +234,6 @@ class Lines(WithFiles):
         ):
             line = f"cmsproof-archive: {twice} is said twice (see cmsproof-archive {words[0]} --help)\n"
             self.assertEqual(run_tool("cmsproof-archive", *words, cwd=self.folder), (3, b"", line), words)
-        status, out, err = run_tool("cmsproof-archive", "a")
-        self.assertEqual((status, out, err), (3, b"", f"cmsproof-archive: the following arguments are required: --trust{see}"))
-        missing = "cmsproof-archive: failed open missing: No such file or directory\n"
-        self.assertEqual(self.run_archive("--files-from", "missing"), (4, [], missing))
-        for words in (["--help"], ["--version"]):
-            status, out, err = run_tool("cmsproof-archive", *words)
-            self.assertEqual((status, out.startswith((b"usage: cmsproof-archive", b"cmsproof-archive ")), err), (0, True, ""))
 
     def test_what_is_missing(self):
         self.file("a")

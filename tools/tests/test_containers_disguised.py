@@ -25,6 +25,14 @@ AMBIGUOUS = "refused F10 Ambiguous"
 PERL = shutil.which("perl") and not subprocess.run(["perl", "-MArchive::Tar", "-e", "1"], capture_output=True).returncode
 
 
+def block(name, text, filling=b"\0"):
+    """The head of a file in a tar, and its octets."""
+    found = bytearray(name.ljust(100, filling) + b" " * 56 + b"0" + filling * 172 + b" " * 16 + filling * 167)
+    found[124:136] = b"%011o " % len(text)
+    found[148:156] = b"%06o  " % sum(found)
+    return bytes(found) + text
+
+
 class Packed(WithMaker):
     """Zip files whose parts stand in a file of CMS or a mail."""
 
@@ -132,14 +140,6 @@ class Packed(WithMaker):
         """The first file of the tar is called as the file of CMS, the mail or the zip file begins (POSIX.1-2017, pax), and the next one
         is a letter."""
         attached = self.maker.attached(GOOD)
-
-        def block(name, text, filling=b"\0"):
-            """The head of a file, and its octets."""
-            found = bytearray(name.ljust(100, filling) + b" " * 56 + b"0" + filling * 172 + b" " * 16 + filling * 167)
-            found[124:136] = b"%011o " % len(text)
-            found[148:156] = b"%06o  " % sum(found)
-            return bytes(found) + text
-
         letter = block(b"letter.txt", (EVIL + b"\n").ljust(511) + b"\n")
         head, _, rest = made.mail_signed(self.maker.signed).partition(b"--cut")
         filling = b"\n" * (512 - len(head) - 2)

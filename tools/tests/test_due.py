@@ -8,7 +8,7 @@ import sys
 import time
 import unittest
 
-from making import INSTALLED, MODULES, as_nobody, folder_of, need_tools, run_tool
+from making import INSTALLED, MODULES, PROGRAM, as_nobody, folder_of, need_tools, run_tool
 
 need_tools()
 
@@ -25,6 +25,8 @@ from samples.building import stamp_attribute, type_attribute  # noqa: E402
 from recorded_world import AGAIN, BEGUN, DATA, FILE, MADE, RENEWED, ROWS, record_of  # noqa: E402
 
 BY, LATER = "20300101000000Z", "20280101000000Z"
+# until when revocation lists know something
+KNOWN = "20261220000000Z"
 GOOD, TWICE, STRANGE = MADE.record(), MADE.record(times=(BEGUN, RENEWED, AGAIN)), MADE.record(by=MADE.other)
 UNKNOWN = f"W4 K10 UnknownTsa, its last time-stamp, of {BEGUN}"
 SHA256 = sequence(oid(DIGEST_OIDS["sha256"]))
@@ -53,6 +55,11 @@ def list_of(*entries):
 def tsa(who, first="-", last="-"):
     """The entry of an authority."""
     return f"tsa {first} {last} {who.octets.hex()}"
+
+
+def known(who, serves, last=KNOWN, said=None):
+    """The entry of an authority that ends with what is known, and above it the line that says until when its certificate serves."""
+    return f"# known until {said or last}, serves until {serves}\n{tsa(who, last=last)}"
 
 
 class WithRecords(unittest.TestCase):
@@ -129,6 +136,68 @@ class Listed(WithRecords):
         self.assertEqual(self.due("records/a.ers", by=("--by", until))[:2], (0, []))
         just = f"{until[:14]}.000000001Z"
         self.assertEqual(self.due("records/a.ers", by=("--by", just))[:2], (1, [f"due {until} records/a.ers"]))
+
+    def test_until_when_certificates_serve(self):
+        """What is due goes by the line above an entry, if that is of the entry; the time-stamp is of a time at which the entry holds; and a
+        check goes by the entry alone."""
+        self.put("records/a.ers")
+        late, entry = [f"due {LATER} records/a.ers"], tsa(MADE.clock, last=KNOWN)
+        short, outside = [f"due {KNOWN} records/a.ers"], [f"due now records/a.ers: W4 K13 Period, its last time-stamp, of {BEGUN}"]
+        for text, expected in (
+            (known(MADE.clock, LATER), late),
+            (known(MADE.clock, LATER).replace("\n", "\r\n"), late),
+            (known(MADE.clock, "-"), []),
+            (known(MADE.clock, "99991231235959Z"), []),
+            (f"{known(MADE.clock, LATER)}\n{entry}", late),
+            (f"{entry}\n{known(MADE.clock, LATER)}", late),
+            # (the last time-stamp is of a time at which only the second entry holds)
+            (f"{known(MADE.clock, '-', '20210101000000Z')}\n{entry}", short),
+            (known(MADE.clock, "-", "20210101000000Z"), outside),
+            (known(MADE.clock, BEGUN, BEGUN), [f"due {BEGUN} records/a.ers"]),
+            # what is no such line, or none of this entry
+            (known(MADE.clock, LATER, said="20261221000000Z"), short),
+            (known(MADE.clock, LATER).replace("\n", "\n#\n"), short),
+            (known(MADE.clock, LATER).replace("\n", "\n\n"), short),
+            (known(MADE.clock, LATER).replace(", ", ","), short),
+            (known(MADE.clock, f"{LATER} "), short),
+            (known(MADE.clock, "20281301000000Z"), short),
+            (known(MADE.clock, LATER).replace("# ", "#"), short),
+        ):
+            self.put("list", list_of(text))
+            status, lines, err = self.due("records")
+            self.assertEqual((status, lines), (1 if expected else 0, expected), (text[:80], err))
+            trust, plain = (cmsproof.TrustList(list_of(*some)) for some in ([text], self.entries_of(text)))
+            for at in (None, KNOWN, "20261220000000.000000001Z", LATER):
+                said = cmsproof.evidence.check(GOOD, FILE, trust=trust, at=at)
+                self.assertEqual(said.line, cmsproof.evidence.check(GOOD, FILE, trust=plain, at=at).line)
+                self.assertEqual(said.accepted, expected != outside and (at is None or (at == KNOWN and "20261220" in text)))
+
+    def entries_of(self, text):
+        """The lines of a list that the program reads."""
+        return [line for line in text.split("\n") if line.startswith("tsa ")]
+
+    def test_a_list_made_with_revocation_lists(self):
+        """An authority whose issuer's revocation list is one of 30 days serves until its certificate ends: the list that is made says both,
+        and that which is migrated only what is known."""
+        for name, octets in (
+            ("clocks.pem", MADE.root.certificate.public_bytes(h.serialization.Encoding.PEM)),
+            ("clocks.crl", h.revocation_list(MADE.root, this="2026-11-20", next="2026-12-20")),
+            ("letter.p7s", h.signed(MADE.anna, [(MADE.clock, "20261121000000Z")], [MADE.clock.octets])),
+            ("records/a.ers", GOOD),
+        ):
+            self.put(name, octets)
+        words = ["--tsa-issuer", "clocks.pem", "--crl", "clocks.crl", "--from-files", "letter.p7s"]
+        status, made, err = run_tool("cmsproof-trust", *words, cwd=self.folder)
+        self.assertEqual(status, 0, err)
+        entry, ends = f"tsa 20200101000000Z {KNOWN} {MADE.clock.octets.hex()}\n", "20400101000000Z"
+        self.assertIn(f"\n# known until {KNOWN}, serves until {ends}\n{entry}", made.decode())
+        self.put("list", made)
+        self.assertEqual(self.due("records")[:2], (0, []))
+        self.assertEqual(self.due("records", by=("--by", ends))[:2], (0, []))
+        self.assertEqual(self.due("records", by=("--by", "20400101000001Z"))[:2], (1, [f"due {ends} records/a.ers"]))
+        if PROGRAM.exists():
+            subprocess.run([PROGRAM, "migrate", "list", "list2"], cwd=self.folder, check=True)
+            self.assertEqual(self.due("records", trust="list2")[:2], (1, [f"due {KNOWN} records/a.ers"]))
 
     def test_what_no_check_accepts(self):
         """What the last time-stamp fails is named, by the rules of the check."""
@@ -292,19 +361,31 @@ class Held(unittest.TestCase):
     ALGORITHMS = ("sha1", "sha224", "sha256", "sha384", "sha512")
 
     def made(self, chance):
-        """A trust list of the entries in data/records, each dropped, doubled, cut or in the other role."""
+        """A trust list of the entries in data/records, each dropped, doubled, cut, cut for what is known alone, or in the other role."""
         lines = []
         for entry in trust_entries((DATA / "trust.txt").read_bytes()):
             for _ in range(chance.choice([0, 1, 1, 1, 2, 2])):
                 first, last = (chance.choice(["-", "-", chance.choice(self.MOMENTS)]) for _ in range(2))
                 role = chance.choice(["tsa"] * 7 + ["signer"])
                 if "-" in (first, last) or in_order(first, last):
-                    lines.append(f"{role} {first} {last} {entry.octets.hex()}")
+                    above = f"# known until {last}, serves until {chance.choice(['-', *self.MOMENTS])}\n"
+                    lines.append(f"{chance.choice(['', above])}{role} {first} {last} {entry.octets.hex()}")
         chance.shuffle(lines)
         return cmsproof.TrustList(list_of(*lines)) if lines else self.made(chance)
 
+    def ahead(self, trust, time):
+        """The list in which what holds at a time ends when it serves."""
+        rows = []
+        for one in trust_entries(trust.text):
+            holds = (one.first == "-" or in_order(one.first, time)) and (one.last == "-" or in_order(time, one.last))
+            last = one.serves if one.serves and holds else one.last
+            rows += [f"{one.role} {one.first} {last} {one.octets.hex()}"] * ("-" in (one.first, last) or in_order(one.first, last))
+        return cmsproof.TrustList(list_of(*rows))
+
     def compared(self, octets, data, trust, ends, moment):
         """Compares what is said of a record, and answers how."""
+        own = cmsproof.evidence.check(octets, data, trust=trust, ends=ends).accepted
+        ahead = self.ahead(trust, lasting.last_of(octets).time)
         try:
             end = lasting.end_of(octets, lasting.By(trust, ends, moment))
             said = "lasts" if in_order(moment, end) else "due"
@@ -312,9 +393,8 @@ class Held(unittest.TestCase):
             end, said = "", "now"
 
         def accepted(at):
-            return cmsproof.evidence.check(octets, data, trust=trust, ends=ends, at=at).accepted
+            return cmsproof.evidence.check(octets, data, trust=ahead, ends=ends, at=at).accepted
 
-        own = accepted(None)
         self.assertEqual(accepted(moment), own and said == "lasts", (moment, ends))
         if own and said == "due" and accepted(end):
             fraction = end[15:-1].ljust(9, "0")

@@ -5,10 +5,10 @@ from typing import Iterable, Iterator, NamedTuple
 
 from cmsproof import ListRefused, TrustList
 from cmsproof_tools.certificates import Certificate
-from cmsproof_tools.listing import HEAD, NO_TIME, is_for_no_time
+from cmsproof_tools.listing import HEAD, NO_TIME, entry_lines, is_for_no_time
 from cmsproof_tools.periods import OPEN, Period
 from cmsproof_tools.running import FAILED, MALFORMED, Stop, one_line, read, shown
-from cmsproof_tools.texts import numbered_lines, trust_entries
+from cmsproof_tools.texts import SERVES, numbered_lines, trust_entries
 
 ENDS = b"# ends: "
 Key = tuple[str, bytes]
@@ -37,7 +37,12 @@ class Row(NamedTuple):
 
     def text(self) -> str:
         """It in one line."""
-        return f"{self.role} {self.period.first} {self.period.last} {self.subject()}, sha256 {self.certificate.fingerprint()}"
+        who = f"{self.subject()}, sha256 {self.certificate.fingerprint()}"
+        return f"{self.role} {self.period.first} {self.period.last} {who}{self.served()}"
+
+    def served(self) -> str:
+        """What is said of it where its certificate serves until another moment than that at which it ends."""
+        return f"; serves until {self.period.serves}" if self.period.serves else ""
 
     def why(self) -> str:
         """Why it ends when it ends: by its comment, which whoever wrote the list wrote."""
@@ -46,13 +51,13 @@ class Row(NamedTuple):
         expires = self.certificate.time_text("not_valid_after")
         if self.period.last == OPEN or not Period(last=expires).cut(self.period).ends:
             return f"the certificate expires {expires}"
-        return self.period.ends
+        return self.period.ends + self.served()
 
     def lines(self) -> Iterator[bytes]:
         """The lines of it in a list."""
         yield b""
         yield from self.comments
-        yield f"{self.role} {self.period.first} {self.period.last} {self.certificate.octets.hex()}".encode()
+        yield from (line.encode() for line in entry_lines(self.role, self.period, self.certificate))
 
 
 def list_at(path: str) -> bytes:
@@ -85,10 +90,10 @@ def rows_of(path: str) -> list[Row]:
     text = list_at(path)
     comments, rows = comments_of(text), []
     for entry in trust_entries(text):
-        above = comments[entry.number]
+        above = tuple(line for line in comments[entry.number] if not SERVES.fullmatch(line))
         ends = [line[len(ENDS) :].decode("utf-8", "replace") for line in above if line.startswith(ENDS)]
         why = one_line(ends[-1]) if ends else "the list does not say why"
-        rows.append(Row(entry.role, Period(entry.first, entry.last, why), Certificate(entry.octets), above))
+        rows.append(Row(entry.role, Period(entry.first, entry.last, why, entry.serves), Certificate(entry.octets), above))
     return rows
 
 
@@ -140,7 +145,7 @@ def merged(paths: Iterable[str]) -> tuple[bytes, list[str]]:
             if known and known[0].is_for_no_time():
                 known = None
             whole[key] = found if known is None else in_both(known, found)
-            if known is not None and {row.period[:2] for row in known} != {row.period[:2] for row in found}:
+            if known is not None and {row.text() for row in known} != {row.text() for row in found}:
                 told.append(
                     f"{shown(path)}: {found[0].role} {found[0].subject()}: other periods than before: what they have in common"
                 )

@@ -16,7 +16,7 @@ from cmsproof_tools.found import Found
 from cmsproof_tools.issuer_words import Asked
 from cmsproof_tools.issuers import Entry, Growing, Trusted
 from cmsproof_tools.paths import Judge, OpenSSL, Statuses, private_folder
-from cmsproof_tools.listing import HEAD, JUDGED, warnings_of
+from cmsproof_tools.listing import HEAD, JUDGED, entry_lines, warnings_of
 from cmsproof_tools.outcomes import called
 from cmsproof_tools.periods import Period
 from cmsproof_tools.responses import Response
@@ -260,7 +260,7 @@ def lines_of(head: Iterable[str], entries: Iterable[Entry]) -> Iterator[str]:
             yield "# path " + entry.path.text()
         if entry.period.ends:
             yield "# ends: " + entry.period.ends
-        yield f"{entry.role} {entry.period.first} {entry.period.last} {entry.certificate.octets.hex()}"
+        yield from entry_lines(entry.role, entry.period, entry.certificate)
 
 
 def list_text(
@@ -308,7 +308,7 @@ def once(told: Told) -> Told:
 def entries_of(trusted: bytes, name: str) -> list[Entry]:
     """The entries of a list that the library took for one."""
     rows = list(trust_entries(trusted))
-    return [Entry(row.role, Period(row.first, row.last), Certificate(row.octets), shown(name)) for row in rows]
+    return [Entry(row.role, Period(row.first, row.last, "", row.serves), Certificate(row.octets), shown(name)) for row in rows]
 
 
 def list_for(

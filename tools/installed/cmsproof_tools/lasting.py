@@ -138,8 +138,8 @@ def names_certificate(tail: bytes) -> bool:
 
 
 class Entry:
-    """An entry of an authority in a trust list: when it holds, whether its certificate is for time-stamping alone, and itself as a list that
-    has it as a signer's, which is made if it is needed."""
+    """An entry of an authority in a trust list: when it holds, as a check goes by it, and until when its certificate serves, by which what lies
+    ahead is judged; whether that is for time-stamping alone; and itself as a list that has it as a signer's, which is made if it is needed."""
 
     def __init__(self, octets: bytes, period: Period, is_stamping: bool) -> None:
         self.octets, self.period, self.is_stamping = octets, period, is_stamping
@@ -172,7 +172,7 @@ class By:
         for one in trust_entries(trust.text):
             if one.role == "tsa":
                 said = cmsproof.show("certificate", one.octets)
-                period = Period(said["from"], said["until"]).cut(Period(one.first, one.last))
+                period = Period(said["from"], said["until"]).cut(Period(one.first, one.last, "", one.serves))
                 entry = Entry(one.octets, period, said["stamping"] == "yes")
                 self.entries.setdefault(bytes.fromhex(said["key"]), []).append(entry)
 
@@ -194,9 +194,9 @@ class By:
         if line.split(" ")[1] in BEFORE_IMPRINT:
             raise last.failing("W4 " + line.removeprefix("refused "))
         asked = tuple(read_questions(asked_of(last.alone, self.trust)))
-        periods = [entry.period.last for entry in self.under(last, asked)]
-        lasts = periods[0]
-        for one in periods:
+        served = [entry.period.served for entry in self.under(last, asked)]
+        lasts = served[0]
+        for one in served:
             lasts = one if in_order(lasts, one) else lasts
         return Passed(lasts, digest_of(asked[0].digest))
 

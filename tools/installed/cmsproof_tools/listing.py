@@ -1,7 +1,7 @@
 """How trust lists are written: the first line, and what a reader is warned of."""
 from __future__ import annotations
 
-from typing import TYPE_CHECKING
+from typing import TYPE_CHECKING, Iterator
 
 from cmsproof_tools.periods import OPEN, Period
 
@@ -34,6 +34,13 @@ def no_time(until: str, why: str) -> Period:
         raise ValueError("a validity with a fraction of a second")
     moment = until[:-1] + LAST_NANOSECOND
     return Period(moment, moment, why)
+
+
+def entry_lines(role: str, period: Period, certificate: Certificate) -> Iterator[str]:
+    """The line of an entry, and above it until when its certificate serves where that is not until the entry ends."""
+    if period.serves:
+        yield f"# known until {period.last}, serves until {period.serves}"
+    yield f"{role} {period.first} {period.last} {certificate.octets.hex()}"
 
 
 def is_for_no_time(first: str, last: str, certificate: Certificate) -> bool:

@@ -15,6 +15,7 @@ from cmsproof_tools.cures import known_cures, plain
 from cmsproof_tools.evidenced import Records
 from cmsproof_tools.known import Known as Acknowledged
 from cmsproof_tools.lines import parts_of
+from cmsproof_tools.periods import Period
 from cmsproof_tools.report import is_new
 from cmsproof_tools.rows import Row, time_text
 from cmsproof_tools.running import DONE, shown
@@ -36,6 +37,8 @@ DIGESTS = {
 
 
 ROLES, GOOD = ("tsa", "signer"), ("accepted", "stamped", "evidenced")
+# by what it is said how long a certificate lasts
+SERVING = "Certificates last here until they serve no more, also where it is known for a shorter time that nobody revoked them."
 # how many kinds of evidence records are told apart, and how many of these have a picture: those that must be renewed first
 MOST_KINDS, MOST_PICTURES = 10_000, 20
 # what says when the last time-stamp of a record must be renewed: by what it was judged, its algorithms and its authority
@@ -125,14 +128,13 @@ class Hanging:
 
 
 def known_in(trusted: bytes, wanted: set[Place]) -> dict[Place, Known]:
-    """What a trust list says of certificates in their roles: until when it lists them, at the latest, but not longer than they last."""
+    """What a trust list says of certificates in their roles: until when they serve, at the latest, but not longer than they last."""
     found: dict[Place, Known] = {}
     for entry in trust_entries(trusted):
         place = entry.role, hashlib.sha256(entry.octets).hexdigest()
         if place in wanted:
-            certificate = Certificate(entry.octets)
-            ends = [end for end in (certificate.time_text("not_valid_after"), entry.last) if end != "-"]
-            until = ends[0] if len(ends) == 1 or in_order(ends[0], ends[1]) else ends[1]
+            certificate, listed = Certificate(entry.octets), Period(last=entry.last, serves=entry.serves)
+            until = Period(last=certificate.time_text("not_valid_after")).cut(listed).served
             before = found.get(place)
             if before is None or in_order(before.until, until):
                 found[place] = Known(certificate.name_text("subject"), until)
@@ -300,7 +302,7 @@ def sections(tally: Tally, hanging: Hanging, known: dict[Place, Known], bases: d
     found = [section("totals", "In all", totals(tally))]
     if tally.years:
         what = "Counted are the accepted files with a valid stamp of the authority. What lasts "
-        what += "shortest must be stamped anew first, above all files with stamps of no other authority."
+        what += "shortest must be stamped anew first, above all files with stamps of no other authority. " + SERVING
         found += [
             section(
                 "years",
@@ -318,7 +320,7 @@ def sections(tally: Tally, hanging: Hanging, known: dict[Place, Known], bases: d
     if tally.shown_times:
         plot = plots.columns(tally.shown_times, "Files with evidence records by the year of their moment")
         what = "A time-stamp serves until the next one takes over; the last one must be renewed before its authority or its algorithm ends. "
-        what += "Dark is how long it serves, light how long it could."
+        what += "Dark is how long it serves, light how long it could. " + SERVING
         found.append(section("evidenced", "With evidence records: by which year", f'<div class="scroll">{plot}</div>'))
         found.append(section("renewals", "What of them must be renewed first", f"<p>{what}</p>{renewed}"))
     if tally.codes:

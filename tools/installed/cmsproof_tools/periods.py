@@ -11,11 +11,18 @@ EARLIEST = datetime.min.replace(tzinfo=timezone.utc) + timedelta(days=1)
 
 
 class Period(NamedTuple):
-    """A period, both ends of which belong to it, and why it ends, for a reader."""
+    """A period, both ends of which belong to it, and why it ends, for a reader. Where it ends since no more is known, as of revocations, `serves`
+    is until when the certificate serves if nobody revokes it; "" is the same end."""
 
     first: str = OPEN
     last: str = OPEN
     ends: str = ""
+    serves: str = ""
+
+    @property
+    def served(self) -> str:
+        """Until when the certificate serves."""
+        return self.serves or self.last
 
     def has(self, moment: str) -> bool:
         """Whether a moment is in it."""
@@ -24,13 +31,17 @@ class Period(NamedTuple):
     def cut(self, other: Period) -> Period:
         """What it has in common with another; the earlier end says why."""
         first = other.first if self.first == OPEN or (other.first != OPEN and in_order(self.first, other.first)) else self.first
-        if other.last == OPEN or (self.last != OPEN and in_order(self.last, other.last)):
-            return Period(first, self.last, self.ends)
-        return Period(first, other.last, other.ends)
+        last, serves = earlier(self.last, other.last), earlier(self.served, other.served)
+        return Period(first, last, self.ends if last == self.last else other.ends, "" if serves == last else serves)
 
     def is_none(self) -> bool:
         """Whether no moment is in it."""
         return OPEN not in self[:2] and not in_order(self.first, self.last)
+
+
+def earlier(end: str, other: str) -> str:
+    """The earlier of two ends."""
+    return end if other == OPEN or (end != OPEN and in_order(end, other)) else other
 
 
 def utc(time: datetime) -> datetime:

@@ -16,6 +16,8 @@ PLACE = slice(60, 124)
 # why a signature is not vouched for that can be judged
 UNHOLDING = "the signature does not hold"
 MOMENT = r"[0-9]{14}(?:\.[0-9]{0,8}[1-9])?Z"
+# the line above an entry of a trust list that says until when its certificate serves
+SERVES = re.compile(rf"# known until ({MOMENT}), serves until (-|{MOMENT})".encode())
 
 
 class Question(NamedTuple):
@@ -35,13 +37,15 @@ class Question(NamedTuple):
 
 
 class TrustEntry(NamedTuple):
-    """An entry of a trust list: the number of its line, its role, the moments from when and until when, and the certificate."""
+    """An entry of a trust list: the number of its line, its role, the moments from when and until when, and the certificate; and until when that
+    serves, if the line above says so, "" if not."""
 
     number: int
     role: str
     first: str
     last: str
     octets: bytes
+    serves: str = ""
 
 
 def is_moment(text: str) -> bool:
@@ -157,12 +161,22 @@ def answers_text(questions: Iterable[Question]) -> bytes:
     return answers_of(question.line for question in questions)
 
 
+def serves_in(line: bytes, last: str) -> str:
+    """Until when the certificate of an entry with this end serves, by the line above it; "" where that line says nothing of it."""
+    found = SERVES.fullmatch(line)
+    if found is None:
+        return ""
+    known, serves = found[1].decode(), found[2].decode()
+    return serves if known == last != serves and (serves == "-" or is_moment(serves)) else ""
+
+
 def trust_entries(text: bytes) -> Iterator[TrustEntry]:
     """The entries of a trust list, which the program took for one."""
-    lines = numbered_lines(text)
+    lines, above = numbered_lines(text), b""
     periods = ["-", "-"] if next(lines)[1] == TRUST_1 else []
     for number, line in lines:
         if line and not line.startswith(b"#"):
             role, *period, octets = line.decode("ascii").split(" ")
             first, last = period or periods
-            yield TrustEntry(number, role, first, last, bytes.fromhex(octets))
+            yield TrustEntry(number, role, first, last, bytes.fromhex(octets), serves_in(above, last))
+        above = line

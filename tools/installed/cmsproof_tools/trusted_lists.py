@@ -191,7 +191,7 @@ def periods_of(states: list[State], until: str) -> Iterator[tuple[str, Period]]:
     ordered = sorted(reversed(states), key=lambda state: state.since)
     for at, state in enumerate(ordered):
         if state.good and state.since <= states[0].since:
-            first, last = moment_of(state.since), Period(OPEN, until, "the list is to be renewed then" if until != OPEN else "")
+            first, last = moment_of(state.since), Period(OPEN, until, "the list is to be renewed then" if until != OPEN else "", OPEN)
             if at + 1 < len(ordered):
                 last = last.cut(Period(OPEN, just_before(ordered[at + 1].since), "the status of the service changes"))
             period = Period(first).cut(last)

@@ -112,6 +112,33 @@ class Lists(unittest.TestCase):
             [(FIRST, "20220101000000Z"), ("20230101000000Z", "20240501000000Z")],
         )
 
+    def test_until_when_certificates_serve(self):
+        """Of both ends of a certificate in several lists the first one counts; a table and what differs say the other end too."""
+        early, late, ends = "20261220000000Z", "20270119000000Z", "# ends: no more is known"
+
+        def list_of(name, last, serves):
+            above = [f"# known until {last}, serves until {serves}"] if serves else []
+            return self.list(name, ("tsa", FIRST, last, self.clock, "# a clock", ends, *above))
+
+        old, new = list_of("old", early, LAST), list_of("new", late, "20350101000000Z")
+        for others, last, serves in [
+            ([old], early, LAST),
+            ([old, new], early, "20350101000000Z"),
+            ([old, list_of("revoked", "20270101000000Z", "")], early, "20270101000000Z"),
+            ([new, list_of("gone", "20261201000000Z", "")], "20261201000000Z", ""),
+            ([new, list_of("until", "-", "")], late, "20350101000000Z"),
+            ([old, list_of("same", early, early)], early, ""),
+        ]:
+            for paths in (others, others[::-1]):
+                status, lines, err = self.said("--merge", *paths)
+                above = [f"# known until {last}, serves until {serves}"] if serves else []
+                entry = f"tsa {FIRST} {last} {self.clock.octets.hex()}"
+                self.assertEqual((status, lines), (0, ["cmsproof trust 2", "", "# a clock", ends, *above, entry]), err)
+        self.assertRegex(self.said("--explain", old)[1][1], f"  no more is known; serves until {LAST}$")
+        status, lines, _ = self.said("--diff", old, list_of("other", early, "20350101000000Z"))
+        self.assertEqual(status, 1)
+        self.assertRegex("\n".join(lines), f"^- tsa .*; serves until {LAST}\n\\+ tsa .*; serves until 20350101000000Z$")
+
     def test_other_words(self):
         """None is left out without a word, as a period would be, or a list that a second --merge names."""
         one, other = (self.list(name, ("signer", "-", last, self.anna)) for name, last in (("one", LAST), ("other", "-")))

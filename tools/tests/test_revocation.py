@@ -7,6 +7,8 @@ from issuing_world import ALWAYS, AT, CLOCK_AT, h, list_pem, pem
 from making import folder_of, openssl
 from test_issuers import JARS, WithWorld, said_by_bouncy_castle
 
+from cmsproof_tools.periods import Period
+from cmsproof_tools.texts import trust_entries
 from cryptography import x509
 from cryptography.hazmat.primitives import hashes
 
@@ -76,6 +78,29 @@ class Revoking(WithWorld):
             asked.append(paths + [w.put(f"bc{number}.{at}.crl", found) for at, found in enumerate(lists)])
         for (date, reason, *_), line in zip(DATES, said_by_bouncy_castle(asked)):
             self.assertEqual(line == "good", date > CLOCK_AT and reason in ("superseded", "certificateHold"), line)
+
+    def test_until_when_certificates_serve(self):
+        """An entry that ends with what is known has a line with the end of its path, which a revocation, or the user, may put before that; a
+        check goes by the entry."""
+        w, cut = self.world, "20240519235959.999999999Z"
+        short = h.issue("Sub", w.root, h.authority(0), last="2035-01-01")
+        under, revoked = h.issue("Anna", short), [(w.anna, "2024-05-20", "superseded", None)]
+        most, later = Period(last="20300101000000Z"), h.revocation_list(short, next="2035-02-01")
+        for who, between, lists, rest, last, serves in [
+            (w.anna, None, self.lists(), {}, NEXT, ALWAYS[1]),
+            (under, [short], [*self.lists()[1:], h.revocation_list(short)], {}, NEXT, "20350101000000Z"),
+            (under, [short], [h.revocation_list(w.root, next="2035-02-01"), later, self.lists()[2]], {}, "20350101000000Z", ""),
+            (w.anna, None, self.lists(), {"most": most}, NEXT, most.last),
+            (w.anna, None, self.lists(), {"most": Period(last=NEXT)}, NEXT, ""),
+            (w.anna, None, self.lists(revoked), {}, cut, ""),
+            (w.anna, None, [], {}, ALWAYS[1], ""),
+        ]:
+            w.made([w.file(who, between)], lists=lists, **rest)
+            found = [one for one in trust_entries(w.text) if one.octets == who.octets]
+            self.assertEqual([(one.last, one.serves) for one in found], [(last, serves)])
+        w.made([w.file()], lists=self.lists())
+        self.assertEqual(w.checked(w.file()), "accepted " + AT)
+        self.assertEqual(w.checked(w.file(times=["20240701000001Z"])), "refused signer 1 token 1 K13 Period")
 
     def by_openssl(self, file, lists, moment):
         """Whether OpenSSL takes a file at a moment, with these lists."""

@@ -11,6 +11,7 @@ from issuing_world import ALWAYS, AT, h, pem
 from making import run_tool
 from test_issuers import WithWorld
 
+from cmsproof_tools.texts import trust_entries
 from cryptography.hazmat.primitives.asymmetric import ec, rsa
 
 TYPES, STATUS = "http://uri.etsi.org/TrstSvc/Svctype/", "http://uri.etsi.org/TrstSvc/TrustedList/Svcstatus/"
@@ -223,6 +224,8 @@ class Lists(WithWorld):
         self.assertEqual(self.said(document(*self.both(), following="").encode())[1][1][1:], ALWAYS)
         lacking = document(*self.both()).replace("<HistoricalInformationPeriod>65535</HistoricalInformationPeriod>", "")
         self.assertEqual(list(form_faults(lacking)), ["{http://uri.etsi.org/02231/v2#}SchemeInformation"])
+        self.said(document(*self.both()).encode())
+        self.assertEqual([(one.last, one.serves) for one in trust_entries(w.text)], [(NEXT, ALWAYS[1])] * 2)
         last = "20240601000000Z"
         _, entries, _ = self.said(document(*self.both()).encode(), "--until", last)
         self.assertEqual(entries, [("tsa", ALWAYS[0], last), ("signer", ALWAYS[0], last)])

@@ -121,6 +121,21 @@ class Drawn(WithFolder):
         # the only script is the page's own
         self.assertEqual(page.count("<script"), 2)
 
+    def test_until_when_certificates_serve(self):
+        """The line of time goes by that, and the check by what is known of revocations."""
+        both = "# known until 20261220000000Z, serves until 20350301000000Z\ntsa - 20261220000000Z"
+        (self.folder / "list").write_bytes(MADE.list.replace(b"tsa - -", both.encode()))
+        self.put_with("a")
+        self.assertEqual(self.run_archive("--state", "state", "files")[:2], (0, [f"files/a: {EVIDENCED}"]))
+        _, out, _ = run_tool("cmsproof-archive", "report", "state", "--html", "-", cwd=self.folder)
+        text = out.decode()
+        self.assertIn("<small>renew before 2035-03-01</small>", text)
+        self.assertIn("its authority lasts until 2035-03-01; renew it before 2035-03-01.", text)
+        self.assertNotIn("2026-12-20", text)
+        self.assertIn("also where it is known for a shorter time that nobody revoked them", text)
+        status, lines, _ = self.run_archive("--at", "20261220000001Z", "files")
+        self.assertEqual((status, lines), (1, ["files/a a.ers: refused chain 1 stamp 1 W7 Lapsed"]))
+
     def test_many_time_stamps(self):
         """The last one of a record is the last one of its picture, however many there are."""
         (self.folder / "list").write_bytes(MADE.list)

@@ -15,8 +15,8 @@ from cmsproof.octets import COPIED  # noqa: E402
 from cmsproof_tools import renewing  # noqa: E402
 from oracle.der import element, number, sequence  # noqa: E402
 from recorded_world import BEGUN, FILE, MADE, RENEWED  # noqa: E402
-from test_due import BY, LATER, list_of, record_with, token_of, tsa  # noqa: E402
-from renewing_world import GOOD, OTHER, SHA256, SHA512, STRANGE, WithRecords  # noqa: E402
+from test_due import BY, LATER, known, list_of, record_with, token_of, tsa  # noqa: E402
+from renewing_world import GOOD, LIST, OTHER, SHA256, SHA512, STRANGE, WithRecords  # noqa: E402
 from renewing_world import by_sha512, chains_of, now, response_to  # noqa: E402
 from stamping_world import ASKED, CONFIG, REPLY, other_nonce  # noqa: E402
 
@@ -38,6 +38,28 @@ class Renewed(WithRecords):
         status, lines, err = self.renew()
         self.assertEqual((status, lines, len(self.authority.asked)), (0, [], 1), err)
         self.assertEqual([self.record(name) for name in ("a", "e")], before)
+
+    def test_what_revocation_lists_know(self):
+        """Where they know something for a month, records are due by when certificates serve, and a token that is made now serves as its own one
+        does; but one that is made when they know nothing counts no more than in a check."""
+        ten, month, year = (now(days * 86400) for days in (10, 30, 400))
+        months = ("--months", "12")
+        for first, second, line in (
+            (known(MADE.clock, year, month), known(MADE.second, "-", month), ""),
+            (known(MADE.clock, ten, month), known(MADE.second, "-", now(-1)), "W4 K13 Period, its last time-stamp, of "),
+            (known(MADE.clock, ten, month), known(MADE.second, ten, month), f"it serves until {ten} alone: "),
+        ):
+            self.put("list", list_of(first, second))
+            status, lines, err = self.renew(by=months)
+            self.assertEqual((status, lines), (1 if line else 0, []), err)
+            self.assertIn(f"the token of the authority: {line}" if line else "4 records: 0 due by ", err)
+        self.assert_nothing_done(2)
+        self.put("list", list_of(known(MADE.clock, ten, month), known(MADE.second, "-", month)))
+        status, lines, err = self.renew(by=months)
+        self.assertEqual((status, len(lines)), (0, 1), err)
+        self.assertIn(": 4 renewed\n", err)
+        self.put("list", LIST)
+        self.assert_renewed("a", "b/c.tif", "b/d"), self.assert_renewed("e", old=OTHER)
 
     def test_by_openssl(self):
         """An archive that was stamped by an authority is renewed by another one, whose certificate lasts longer."""

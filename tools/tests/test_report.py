@@ -278,6 +278,7 @@ class Report(unittest.TestCase):
             return "\n".join(["cmsproof trust 2", *entries, ""]).encode()
 
         long, short = f"tsa - 20270101000000Z {tsa}", f"tsa - 20261201000000Z {tsa}"
+        known = "# known until 20261201000000Z, serves until 20270601000000Z"
         # (the first certificates of data/real end in 2126)
         table = [
             ([trusted(long)], "2027-01-01"),
@@ -285,6 +286,10 @@ class Report(unittest.TestCase):
             ([trusted(long), trusted(short)], "2026-12-01"),
             ([trusted(short), trusted(long)], "2026-12-01"),
             ([trusted(long, f"signer - 20261126000000Z {tsa}")], "2027-01-01"),
+            # until when it serves counts, where that is said of this entry
+            ([trusted(f"{known}\n{short}")], "2027-06-01"),
+            ([trusted(f"{known}\n{long}")], "2027-01-01"),
+            ([trusted(f"{known}\n{short}"), trusted(long)], "2027-01-01"),
             ([trusted(long), trusted(f"signer - - {signer}")], "2027-01-01"),
         ]
         for number, (lists, day) in enumerate(table):

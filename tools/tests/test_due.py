@@ -141,8 +141,8 @@ class Listed(WithRecords):
         """What is due goes by the line above an entry, if that is of the entry; the time-stamp is of a time at which the entry holds; and a
         check goes by the entry alone."""
         self.put("records/a.ers")
-        late, entry = [f"due {LATER} records/a.ers"], tsa(MADE.clock, last=KNOWN)
-        short, outside = [f"due {KNOWN} records/a.ers"], [f"due now records/a.ers: W4 K13 Period, its last time-stamp, of {BEGUN}"]
+        late, short, entry = *([f"due {last} records/a.ers"] for last in (LATER, KNOWN)), tsa(MADE.clock, last=KNOWN)
+        outside = [f"due now records/a.ers: W4 K13 Period, its last time-stamp, of {BEGUN}"]
         for text, expected in (
             (known(MADE.clock, LATER), late),
             (known(MADE.clock, LATER).replace("\n", "\r\n"), late),
@@ -379,7 +379,8 @@ class Held(unittest.TestCase):
         for one in trust_entries(trust.text):
             holds = (one.first == "-" or in_order(one.first, time)) and (one.last == "-" or in_order(time, one.last))
             last = one.serves if one.serves and holds else one.last
-            rows += [f"{one.role} {one.first} {last} {one.octets.hex()}"] * ("-" in (one.first, last) or in_order(one.first, last))
+            if "-" in (one.first, last) or in_order(one.first, last):
+                rows.append(f"{one.role} {one.first} {last} {one.octets.hex()}")
         return cmsproof.TrustList(list_of(*rows))
 
     def compared(self, octets, data, trust, ends, moment):

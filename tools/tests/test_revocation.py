@@ -7,6 +7,7 @@ from issuing_world import ALWAYS, AT, CLOCK_AT, h, list_pem, pem
 from making import folder_of, openssl
 from test_issuers import JARS, WithWorld, said_by_bouncy_castle
 
+from cmsproof_tools import issuing
 from cmsproof_tools.periods import Period
 from cmsproof_tools.texts import trust_entries
 from cryptography import x509
@@ -99,6 +100,11 @@ class Revoking(WithWorld):
             found = [one for one in trust_entries(w.text) if one.octets == who.octets]
             self.assertEqual([(one.last, one.serves) for one in found], [(last, serves)])
         w.made([w.file()], lists=self.lists())
+        before = {(one.octets, one.last, one.serves) for one in trust_entries(w.text)}
+        self.assertEqual(before, {(who.octets, NEXT, ALWAYS[1]) for who in (w.anna, w.clock)})
+        # (what a list that is given says is kept)
+        w.made([w.file()], given=issuing.entries_of(w.text, "list"))
+        self.assertEqual({(one.octets, one.last, one.serves) for one in trust_entries(w.text)}, before)
         self.assertEqual(w.checked(w.file()), "accepted " + AT)
         self.assertEqual(w.checked(w.file(times=["20240701000001Z"])), "refused signer 1 token 1 K13 Period")
 

@@ -32,13 +32,13 @@ There is one line for each, in the order of the names: `due TIME NAME`, TIME bei
 of which nobody can say that, as one that cannot be read, or of an authority that is not in the list, is due now: `due now NAME: REASON`.
 The others have no line, and standard error counts all.
 
-In a list that was made with revocation lists an entry ends with what these know. A time-stamp must have been made before that, as in a check;
-but until when it serves the line above the entry says, `# known until TIME, serves until TIME` (cmsproof-lists(5)): until the certificate ends,
-if nobody revokes it.
+In a list that was made with revocation lists an entry ends with what these know. A time-stamp must have been made before that, as in a
+check. But until when it serves says the line above the entry, `# known until TIME, serves until TIME` (cmsproof-lists(5)): until the
+certificate ends, if nobody revokes it.
 
 Only records are read, and not their files. So it is not said that a record is right: `cmsproof-archive --records` says that. What that accepts
-is accepted with `--at` this moment and the same ends, by the same list in which what held at the time-stamp ends when it serves, exactly if it is
-not due.
+is accepted with `--at` this moment and the same ends, by the same list in which each entry that held at the time-stamp ends when it serves,
+exactly if it is not due.
 
 In a folder the files that end in .ers are records. A record named `-` is a list of names on standard input, one on each line.
 

@@ -138,8 +138,8 @@ def names_certificate(tail: bytes) -> bool:
 
 
 class Entry:
-    """An entry of an authority in a trust list: when it holds, as a check goes by it, and until when its certificate serves, by which what lies
-    ahead is judged; whether that is for time-stamping alone; and itself as a list that has it as a signer's, which is made if it is needed."""
+    """An entry of an authority in a trust list: when it holds, as in a check, and until when its certificate serves, by which it is judged how
+    long a time-stamp does; whether that is for time-stamping alone; and itself as a list that has it as a signer's, made if it is needed."""
 
     def __init__(self, octets: bytes, period: Period, is_stamping: bool) -> None:
         self.octets, self.period, self.is_stamping = octets, period, is_stamping

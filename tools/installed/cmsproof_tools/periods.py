@@ -11,8 +11,8 @@ EARLIEST = datetime.min.replace(tzinfo=timezone.utc) + timedelta(days=1)
 
 
 class Period(NamedTuple):
-    """A period, both ends of which belong to it, and why it ends, for a reader. Where it ends since no more is known, as of revocations, `serves`
-    is until when the certificate serves if nobody revokes it; "" is the same end."""
+    """A period, both ends of which belong to it, and why it ends, for a reader. Where it ends since no more is known, as of revocations,
+    `serves` is until when the certificate serves if nobody revokes it; "" is the same end."""
 
     first: str = OPEN
     last: str = OPEN

@@ -21,8 +21,8 @@ the old or the new one whole at any moment. It is one time-stamp for all records
 different last time-stamps. No file is read whose record one is.
 
 The answer must be to the very request, and its token count under an authority of the list, be made while the last time-stamp of each record serves,
-and serve itself until that moment: else its records would be due again at once. Until when one serves `due` says: by its certificate, and not
-by what is known of revocations, which the list must cover when the token is made.
+and serve itself until that moment: else its records would be due again at once. Until when one serves `due` says: as long as its certificate does, also
+where revocation lists know less; but these must know something of the moment when the token is made.
 
 A record that is due and stays as it is has a line, `due TIME NAME: REASON`: nobody can judge it; it ended before now, which no time-stamp mends; its
 digest algorithm ends, and it needs another chain; or it cannot be replaced.

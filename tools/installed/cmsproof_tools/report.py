@@ -20,8 +20,8 @@ ABOUT = """Shows what a state of cmsproof-archive holds.
     cmsproof-archive --trust trust.txt --state archive.state --files-from names.txt
     cmsproof-archive report archive.state --html archive.html
 
-The page says how long certificates serve, also those of which it is not known for as long that nobody revoked them (cmsproof-lists(5)). With
---records it has the hash trees of evidence records, which are read again.
+On the page certificates last until they serve no more, also where it is known for a shorter time that nobody revoked them
+(cmsproof-lists(5)). With --records it has the hash trees of evidence records, which are read again.
 
 With --known it tells what is new: what is not accepted, and not acknowledged in this text, as cmsproof-archive --known reads it. The page needs no other file and no network. OUT may be `-`, standard output. A state is a record and no evidence: it says what
 its writer put there. `cmsproof-archive evidence` makes a bundle that shows a verdict again.

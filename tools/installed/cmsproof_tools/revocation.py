@@ -3,9 +3,10 @@ cut from the period of a path. Nothing here is proved.
 
 A certificate that is judged with revocation must be covered: by a list of its issuer that was not yet stale at the stamp's time,
 and that was issued before the certificate expired. A period ends with what is known: at the next update of the latest list that
-covers the certificate; until when that serves is another end. A revocation cuts a period before its date, and before its invalidity date where that is earlier (RFC
-5280 5.3.2); one that became known after the stamp, as any other. A time-stamping authority, and who issued its certificate, can
-have been revoked for four reasons; with any other, or with none, all of its stamps are void (RFC 3161 4).
+covers the certificate, and until when the certificate serves is kept beside it. A revocation cuts both before its date, and before its
+invalidity date where that is earlier (RFC 5280 5.3.2); one that became known after the stamp, as any other. A time-stamping authority,
+and who issued its certificate, can have been revoked for four reasons; with any other, or with none, all of its stamps are void (RFC
+3161 4).
 
 A list that is not whole, or signed by a weak algorithm or by another key of the issuer than that of the path, counts for what it
 revokes, and never for what it leaves out.
@@ -388,4 +389,4 @@ class Revocation:
             what = "those that are given are stale, too late or not whole" if known else "none of its issuer is given"
             raise Broken(f"{subject}: no revocation list or response covers it at {moment}: {what}")
         last = max(covering, key=lambda found: found.last()).last()
-        return period.cut(Period(OPEN, last, f"what is known of the revocation of {subject} ends", OPEN))
+        return period.cut(Period(OPEN, last, f"what is known of the revocation of {subject} ends", serves=OPEN))

@@ -37,8 +37,8 @@ class Question(NamedTuple):
 
 
 class TrustEntry(NamedTuple):
-    """An entry of a trust list: the number of its line, its role, the moments from when and until when, and the certificate; and until when that
-    serves, if the line above says so, "" if not."""
+    """An entry of a trust list: the number of its line, its role, the moments from when and until when, and the certificate; and until
+    when that serves, if the line above says so, "" if not."""
 
     number: int
     role: str

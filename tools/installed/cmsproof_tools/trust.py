@@ -28,8 +28,9 @@ With an issuer, the certificates are found in signed files: authorities first, t
 
     cmsproof-trust --issuer ca.pem --tsa-issuer tsa-ca.pem --crl *.crl --from-files letters/*.p7s > trust.txt
 
-OpenSSL judges the paths. A certificate without a valid path gets no entry, and a line on standard error. With revocation lists an entry ends
-with what is known, and a line above it says until when the certificate serves, for `cmsproof-archive due`. This is not proved.
+OpenSSL judges the paths. A certificate without a valid path gets no entry, and a line on standard error. With revocation lists an
+entry ends with what is known, and a line above it says until when the certificate serves, for what looks ahead, as
+`cmsproof-archive due`. This is not proved.
 
 A line on standard error warns of an authority's certificate that is not for time-stamping alone (RFC 3161 2.3), for the program
 refuses the tokens under it, and of one that is an issuer's.

@@ -191,7 +191,8 @@ def periods_of(states: list[State], until: str) -> Iterator[tuple[str, Period]]:
     ordered = sorted(reversed(states), key=lambda state: state.since)
     for at, state in enumerate(ordered):
         if state.good and state.since <= states[0].since:
-            first, last = moment_of(state.since), Period(OPEN, until, "the list is to be renewed then" if until != OPEN else "", OPEN)
+            first, why = moment_of(state.since), "the list is to be renewed then" if until != OPEN else ""
+            last = Period(OPEN, until, why, serves=OPEN)
             if at + 1 < len(ordered):
                 last = last.cut(Period(OPEN, just_before(ordered[at + 1].since), "the status of the service changes"))
             period = Period(first).cut(last)

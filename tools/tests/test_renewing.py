@@ -15,6 +15,7 @@ from cmsproof.octets import COPIED  # noqa: E402
 from cmsproof_tools import renewing  # noqa: E402
 from oracle.der import element, number, sequence  # noqa: E402
 from recorded_world import BEGUN, FILE, MADE, RENEWED  # noqa: E402
+from samples.building import octets as string, sha  # noqa: E402
 from test_due import BY, LATER, known, list_of, record_with, token_of, tsa  # noqa: E402
 from renewing_world import GOOD, LIST, OTHER, SHA256, SHA512, STRANGE, WithRecords  # noqa: E402
 from renewing_world import by_sha512, chains_of, now, response_to  # noqa: E402
@@ -309,6 +310,13 @@ class Left(WithRecords):
         reason = "sha256 ends then, of which all time-stamps of its last chain are: another chain is needed, by another one"
         names = ("left_a", "left_b_c.tif", "left_b_d", "left_e")
         lines = [f"due {LATER} records/{name}.ers: {reason}" for name in names]
+        # (of a record of a file with its content beside it, and of one whose list has its file alone)
+        both, alone = (element(0xA2, sequence(*map(string, values))) for values in (sorted(map(sha, (FILE, b"another"))), [sha(FILE)]))
+        joined = sha(b"".join(sorted(map(sha, (FILE, b"another")))))
+        self.put("records/left_f.ers", record_with(sequence(both, MADE.token_over(joined, BEGUN, MADE.clock))))
+        self.put("records/left_g.ers", record_with(sequence(alone, MADE.token_over(sha(FILE), BEGUN, MADE.clock))))
+        more = f"due {LATER} records/left_f.ers: {reason}; its first list has 2 values, each of a file that it may cover"
+        lines += [more, f"due {LATER} records/left_g.ers: {reason}"]
         self.left(lines, "--end", f"sha256={LATER}", renewed=0)
         self.assertEqual(len(self.authority.asked), 0)
 

@@ -37,6 +37,7 @@ from cmsproof_tools.running import module, one_line, shown, tell, write
 from cmsproof_tools.summing import BESIDE, LONGEST_NAME, LONGEST_PATH
 from cmsproof_tools.texts import in_order, is_moment
 from cmsproof_tools.timelines import NAMES
+from cmsproof_tools.trees import Undrawn, way_in
 from cmsproof_tools.workers import Workers
 
 RECORDS, ROOT = "records", "root.tsq"
@@ -52,12 +53,13 @@ TOLD = "the token of the authority: "
 
 class Standing(NamedTuple):
     """What the renewal of a record stands on: the digest algorithm of its last chain, the time of its last time-stamp, and the last moment at which
-    that serves; and what tells its octets from others."""
+    that serves; what tells its octets from others; and how many values its first list has, if it needs another chain."""
 
     algorithm: str
     after: str
     until: str
     stamp: bytes = b""
+    values: int = 0
 
 
 class Judged(NamedTuple):
@@ -74,7 +76,7 @@ class Group:
     their times, the first of their ends, and how many octets of words for other last time-stamps it can have."""
 
     def __init__(self, first: Standing, room: int) -> None:
-        self.algorithm, self.after, self.until, _ = first
+        self.algorithm, self.after, self.until = first[:3]
         self.firsts, self.others, self.room = array("L"), array("L"), room
 
     def add(self, one: Standing) -> None:
@@ -140,12 +142,28 @@ def algorithm_of(last: Last, octets: Buffer) -> str:
     return of_chain
 
 
+def is_ending(by: By, algorithm: str) -> bool:
+    """Whether a digest algorithm ends before the moment up to which records are to serve."""
+    last = by.ends.get(algorithm, "")
+    return bool(last) and not in_order(by.moment, last)
+
+
+def first_values(octets: Buffer) -> int:
+    """How many values the first list of a record has, which may be those of several files (RFC 4998 4.2); 0 where it has none that is read."""
+    try:
+        return len(way_in(octets).lists[0])
+    except (Undrawn, IndexError):
+        return 0
+
+
 def standing_of(by: By, octets: Buffer) -> Standing:
     """What the renewal of a record stands on; of one that is not due only its end. Raises Unjudged where nobody can say it."""
     last, until = last_and_end(octets, by)
     if in_order(by.moment, until):
         return Standing("", "", until)
-    return Standing(algorithm_of(last, octets), last.time, until, hashlib.sha256(last.token).digest()[:KEPT])
+    algorithm = algorithm_of(last, octets)
+    values = first_values(octets) if is_ending(by, algorithm) else 0
+    return Standing(algorithm, last.time, until, hashlib.sha256(last.token).digest()[:KEPT], values)
 
 
 def not_replaced(path: str, longest: int) -> str:
@@ -168,9 +186,9 @@ def hindrance(by: By, now: str, one: Standing) -> str:
         return "it ended before now, and no later time-stamp mends that: a copy that was renewed before is needed"
     if not in_order(one.after, now):
         return f"its last time-stamp is of {one.after}, later than the clock here"
-    last = by.ends.get(one.algorithm, "")
-    if last and not in_order(by.moment, last):
-        return f"{one.algorithm} ends then, of which all time-stamps of its last chain are: another chain is needed, by another one"
+    if is_ending(by, one.algorithm):
+        of_all = f"; its first list has {one.values} values, each of a file that it may cover" if one.values > 1 else ""
+        return f"{one.algorithm} ends then, of which all time-stamps of its last chain are: another chain is needed, by another one{of_all}"
     return ""
 
 

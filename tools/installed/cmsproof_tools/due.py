@@ -33,8 +33,8 @@ of which nobody can say that, as one that cannot be read, or of an authority tha
 The others have no line, and standard error counts all.
 
 In a list that was made with revocation lists an entry ends with what these know. A time-stamp must have been made before that, as in a
-check. But until when it serves says the line above the entry, `# known until TIME, serves until TIME` (cmsproof-lists(5)): until the
-certificate ends, if nobody revokes it.
+check. But the line above the entry, `# known until TIME, serves until TIME` (cmsproof-lists(5)), says until when it serves: as long as the
+certificate does, if nobody revokes it.
 
 Only records are read, and not their files. So it is not said that a record is right: `cmsproof-archive --records` says that. What that accepts
 is accepted with `--at` this moment and the same ends, by the same list in which each entry that held at the time-stamp ends when it serves,

@@ -343,6 +343,10 @@ class Verifying(unittest.TestCase):
             for second in (1, 2)
             if (hashed_short + (first := pow(third, power, prime) % order)) * second % 3 == power
         )
+        # (p is q^7: of powers of 1 + q^6 by q whoever sees one knows the exponent, and modulo q each is 1)
+        group = (1 << 256) - 189
+        in_power = number(group**7), number(group), number(1 + group**6)
+        of_both = element(0x30, number(1), number((int.from_bytes(hashlib.sha256(b"\x31" + TAIL).digest(), "big") + 7) % group))
         small = [bytes(32), b"\1" + bytes(31), b"\1" + bytes(30) + b"\x80", b"\xee" + b"\xff" * 30 + b"\x7f"]
         small += [bytes.fromhex("26e8958fc2b227b045c3f489f2ef98f0d5dfac05d3c63339b13802886d53fc05")]
         rows = [
@@ -362,6 +366,7 @@ class Verifying(unittest.TestCase):
                 dsa,
                 by_anybody,
             ),
+            (key_of("1.2.840.10040.4.1", element(0x30, *in_power), number(1 + 7 * group**6)), dsa, of_both),
             *((key_of("1.3.101.112", b"", key), algorithm("1.3.101.112"), key + bytes(32)) for key in small),
             (key_of("1.3.101.113", b"", b"\1" + bytes(56)), algorithm("1.3.101.113"), b"\1" + bytes(113)),
         ]
@@ -404,7 +409,7 @@ class Verifying(unittest.TestCase):
             asked = question(key, digest_algorithm("sha256"), algorithm(DSA + "2"), TAIL, element(0x30, number(1), number(1)))
             begun = processor_seconds()
             err = self.none_vouched([("long", asked)])
-            self.assertIn("cmsproof-verify: line 2: not judged: the key of DSA is longer than OpenSSL takes", err)
+            self.assertIn("cmsproof-verify: line 2: not judged: the key of DSA is longer than is tried here", err)
             self.assertLess(processor_seconds() - begun, 30)
 
     def test_many_parts_take_no_memory(self):

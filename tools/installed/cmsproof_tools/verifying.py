@@ -271,8 +271,10 @@ def is_prime(number: int, rounds: int = ROUNDS) -> bool:
 
     twos = ((number - 1) & -(number - 1)).bit_length() - 1
     for _ in range(rounds):
-        power = pow(2 + secrets.randbelow(number - 3), number >> twos, number)
-        if power != 1 and all(pow(power, 1 << square, number) != number - 1 for square in range(twos)):
+        powers = [pow(2 + secrets.randbelow(number - 3), number >> twos, number)]
+        while len(powers) < twos and powers[-1] not in (1, number - 1):
+            powers.append(powers[-1] ** 2 % number)
+        if powers[-1] != number - 1 and powers != [1]:
             return False
     return True
 

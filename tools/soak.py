@@ -112,8 +112,8 @@ def join_edits(copy):
 
 
 def reason_of(copy, crates, crate, edit, said, until):
-    """By what an edit is refused that was tried alone, given what is said of it first. Where that is of an answer by hand, a goal may be open
-    behind it."""
+    """By what an edit is refused that was tried alone, given what is said of it first. Where that is of an answer by hand, a goal may
+    be open behind it."""
     if said.startswith(" ("):
         return LITTLE
     if not re.match(r": (\./)?proofs/", said):
@@ -129,8 +129,8 @@ def tell_reasons(name, reasons):
 
 
 def try_alone(copy, crates, crate, edits, jobs, until):
-    """What tries of edits of a crate, one after the other, come to: by what each is refused, False if not all are, None if the time is over.
-    What they say beside that is printed."""
+    """What tries of edits of a crate, one after the other, come to: by what each is refused, False if not all are, None if the time is
+    over. What they say beside that is printed."""
     aside = copy / "crates" / crate / "tried-edits"
     aside.mkdir(exist_ok=True)
     for edit in edits_of(copy, crate):

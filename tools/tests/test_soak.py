@@ -423,9 +423,10 @@ class Lines(Repository):
             self.put({f"crates/low/must-fail/{name}.edit": f"file: src/lib.rt\nold: 1\nnew: {new}\n"})
         self.commit("edits of each kind")
         status, told = self.soak("low")
-        counts = "refused 2 by an open goal, 1 only since an answer by hand no longer has its goal's type, 1 for a name that is gone or by a limit"
+        by_hand = "only since an answer by hand no longer has its goal's type"
+        counts = f"refused 2 by an open goal, 1 {by_hand}, 1 for a name that is gone or by a limit"
         self.assertEqual((status, len(self.lines())), (0, 1))
-        for line in (f"low: {counts}", "low: only since an answer by hand no longer has its goal's type: two", f"in all: {counts}"):
+        for line in (f"low: {counts}", f"low: {by_hand}: two", f"in all: {counts}"):
             self.assertIn(f"soak: {line}\n", told)
 
     def test_no_history(self):

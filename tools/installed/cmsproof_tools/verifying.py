@@ -243,7 +243,8 @@ def is_anybodys(public: Any) -> bool:
         p, q, g = numbers.parameter_numbers.p, numbers.parameter_numbers.q, numbers.parameter_numbers.g
         if p.bit_length() > LONGEST_DSA[0] or q.bit_length() > LONGEST_DSA[1]:
             raise Unjudged("the key of DSA is longer than is tried here")
-        # (where q is not prime, the order of g may be a small factor of it; where p is not, as the power q^7, anybody may have the logarithm)
+        # (where q is not prime, the order of g may be a small factor of it; where p is not, as where it is q^7, anybody may find the
+        # number that is secret)
         in_group = all(1 < number < p - 1 and pow(number, q, p) == 1 for number in (g, numbers.y))
         return not (in_group and is_prime(q) and is_prime(p, ROUNDS_OF_P))
     if isinstance(public, (ed25519.Ed25519PublicKey, ed448.Ed448PublicKey)):
@@ -263,8 +264,8 @@ def is_no_rsa(modulus: int, exponent: int) -> bool:
 
 @lru_cache(maxsize=4096)
 def is_prime(number: int, rounds: int = ROUNDS) -> bool:
-    """Whether an odd number above 3 is prime, by Miller and Rabin (FIPS 186-4 C.3.1), with bases that nobody knows before. It is kept: a key
-    is asked about again for each of its algorithms, and where nothing is verified under it for each signature."""
+    """Whether an odd number above 3 is prime, by Miller and Rabin (FIPS 186-4 C.3.1), with bases that nobody knows before. It is kept: a
+    key is asked about again for each of its algorithms, and where nothing is verified under it for each signature."""
     if number < 5 or number % 2 == 0:
         return False
     import secrets

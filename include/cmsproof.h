@@ -170,7 +170,7 @@ cmsproof_status cmsproof_stamp_questions(cmsproof_trust *trust, const uint8_t *s
  * each of them has, `count` numbers whose sum is `data_length`. `ends` has words with one space between them, each the name of a
  * digest algorithm, `=`, and the last moment at which it holds, as "sha1=20160101000000Z": SHA-1 holds only until such an end. `at`
  * is the moment at which the last time-stamp must hold, as "20261231000000Z", in place of its own. Either may have the length 0.
- * With `whole` the first list of hash values may have none but those of the data objects.
+ * With `whole` the first list of hash values may have none but those of the data objects: cmsproof(1) says what this doesn't show.
  * Statuses: DONE, only if it is accepted; REFUSED, with V2, V3 (no data object) or W1 to W8, whose chain is in `signer` and whose
  * archive time-stamp in `token`, and of W4 with the letter K, by which alone it is known, and the numbers of the token's rule;
  * MALFORMED, with V1 and the fault; USAGE, with no verdict, and the line names the first that is not as it must be, of `end`, `at`

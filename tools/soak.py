@@ -9,10 +9,12 @@
 Each line of `soaked` is a crate and the commit at which all its edits were last tried and refused. A copy of the
 repository is tried, which is removed again; edits of different functions are tried in one check (`together.py`) as far as that
 tells, the others one by one (`rt must-fail`). The status is 1 if an edit isn't refused or can't be tried, if a crate isn't
-proved as it stands, or if a line of `soaked` can't be read; edits that are owed because the time is over are named.
+proved as it stands, or if a line of `soaked` can't be read; edits that are owed because the time is over are named. So are those
+that are refused only since an answer by hand no longer has its goal's type: that shows little of a contract, and fails nothing.
 """
 
 import argparse
+import collections
 import contextlib
 import os
 import pathlib
@@ -30,6 +32,8 @@ from timed_runs import end_all, run
 
 LINE = re.compile(r"(\S+) ([0-9a-f]{40}|[0-9a-f]{64})")
 REFUSED, FAILED, LATE = "refused", "failed", "late"
+# by what else an edit is refused, beside GOAL and ANSWER of together.py
+LITTLE = "for a name that is gone or by a limit"
 KEPT_ALONE = "only the edits that the gate keeps are tried"
 SHOWN = 3
 # how `rt` wants an edit to be named, and what may lie beside them to be read
@@ -107,9 +111,26 @@ def join_edits(copy):
             edit.rename(place)
 
 
-def try_alone(copy, crate, edits, jobs, until):
-    """What tries of edits of a crate, one after the other, come to: whether all are refused, None if the time is over. What
-    they say beside that is printed."""
+def reason_of(copy, crates, crate, edit, said, until):
+    """By what an edit is refused that was tried alone, given what is said of it first. Where that is of an answer by hand, a goal may
+    be open behind it."""
+    if said.startswith(" ("):
+        return LITTLE
+    if not re.match(r": (\./)?proofs/", said):
+        return together.GOAL
+    lines = together.check(copy, crates, crate, [edit.read_text(errors="replace")], until)[1].split("\n")
+    return together.GOAL if any(together.OPEN_GOAL.match(line) for line in lines) else together.ANSWER
+
+
+def tell_reasons(name, reasons):
+    """Says how many edits were refused by what, given what each was."""
+    counts = collections.Counter(reasons)
+    say(f"{name}: refused " + ", ".join(f"{counts[by]} {by}" for by in (together.GOAL, together.ANSWER, LITTLE)))
+
+
+def try_alone(copy, crates, crate, edits, jobs, until):
+    """What tries of edits of a crate, one after the other, come to: by what each is refused, False if not all are, None if the time is
+    over. What they say beside that is printed."""
     aside = copy / "crates" / crate / "tried-edits"
     aside.mkdir(exist_ok=True)
     for edit in edits_of(copy, crate):
@@ -118,21 +139,23 @@ def try_alone(copy, crate, edits, jobs, until):
     status, told = run([*kept_sums.rt(), "must-fail", crate], copy, jobs, until)
     if status is None:
         return None
-    lines = re.findall(rf"^.*must-fail {re.escape(crate)}/\S+: refused, as it must be.*$", told, re.M)
+    lines = re.findall(rf"^.*must-fail {re.escape(crate)}/(\S+): refused, as it must be(.*)$", told, re.M)
     if status == 0 and len(lines) == len(edits):
-        # (for a name that is gone, or by a limit)
-        shallow = [line for line in lines if "as it must be (" in line]
-        for line in shallow:
-            print(line, flush=True)
+        said = dict(lines)
+        reasons = {it: reason_of(copy, crates, crate, it, said[it.name], until) for it in edits}
+        shallow = [it.name for it, by in reasons.items() if by == LITTLE]
+        for name in shallow:
+            print(f"rt: must-fail {crate}/{name}: refused, as it must be{said[name]}", flush=True)
         if shallow:
             say(f"{crate}: {len(shallow)} of these edits show little or nothing of a contract, as told above: choose others")
-        return True
+        return reasons
     print(told.rstrip("\n"), flush=True)
     return False
 
 
-def try_crate(copy, crates, crate, jobs, until):
-    """Whether all edits of a crate of a copy are refused: many in one check, as far as that tells, the others alone."""
+def try_crate(copy, crates, crate, jobs, until, reasons):
+    """Whether all edits of a crate of a copy are refused: many in one check, as far as that tells, the others alone. By what each is, is
+    added to the reasons."""
     edits, begun = edits_of(copy, crate), time.monotonic()
     hidden = misnamed(copy, crate)
     if hidden:
@@ -145,13 +168,19 @@ def try_crate(copy, crates, crate, jobs, until):
     if status == 0:
         refused, checks = together.refused_together(copy, crates, crate, edits, jobs, until)
         left = [edit for edit in edits if edit not in refused]
-        well = try_alone(copy, crate, left, jobs, until) if left else True
-        status = None if well is None else 0 if well else 1
+        well = try_alone(copy, crates, crate, left, jobs, until) if left else {}
+        status = None if well is None else 1 if well is False else 0
         taken = f"in {(time.monotonic() - begun) / 60:.1f} minutes"
-        if well:
+        if status == 0:
             say(
                 f"{crate}: {len(edits)} edits refused, {len(refused)} by {checks} checks of several, {len(left)} alone, {taken}"
             )
+            found = refused | well
+            tell_reasons(crate, found.values())
+            by_hand = sorted(it.stem for it, by in found.items() if by == together.ANSWER)
+            if by_hand:
+                say(f"{crate}: {together.ANSWER}:", *by_hand)
+            reasons += found.values()
     if status:
         say(f"{crate}: not all of its {len(edits)} edits were tried and refused")
     return {None: LATE, 0: REFUSED}.get(status, FAILED)
@@ -172,7 +201,7 @@ def not_as_at_head(history, copy, crates, crate):
 
 def soak(top, crates, names, jobs):
     """Tries all edits of crates, and writes the line of each of which all are refused."""
-    history, failed = changes.History(top), []
+    history, failed, reasons = changes.History(top), [], []
     with copy_of(top) as copy:
         hindered = {}
         for name in names:
@@ -181,10 +210,11 @@ def soak(top, crates, names, jobs):
         join_edits(copy)
         for name in names:
             say(f"{name}: {len(edits_of(copy, name))} edits" + (f"; no line: {hindered[name]}" if hindered[name] else ""))
-            if try_crate(copy, crates, name, jobs, None) != REFUSED:
+            if try_crate(copy, crates, name, jobs, None, reasons) != REFUSED:
                 failed.append(name)
             elif not hindered[name]:
                 write_line(top, name, history.head)
+    tell_reasons("in all", reasons)
     if failed:
         say("not refused or not tried, of:", *failed)
     return 1 if failed else 0
@@ -238,7 +268,7 @@ def soak_owed(top, crates, owed, jobs, minutes):
         if copy:
             join_edits(copy)
         for name, _ in owed:
-            ended = LATE if time.monotonic() >= until else try_crate(copy, crates, name, jobs, until)
+            ended = LATE if time.monotonic() >= until else try_crate(copy, crates, name, jobs, until, [])
             {REFUSED: [], LATE: late, FAILED: failed}[ended].append(name)
     if late:
         say(f"the {minutes:g} minutes are over; edits are owed, which `make soak` tries, of:", *late)

@@ -28,6 +28,8 @@ HEADER = re.compile(r"( *)(?:pub(?:\([^)]*\))? )?(?:unsafe )?(?:extern \"C\" )?f
 BLOCK = re.compile(r"(?:unsafe )?impl\s+(?:(?:\w+::)*(\w+)\s+for\s+)?(?:\w+::)*(\w+)")
 OPEN_GOAL = re.compile(r"(?:note: )?(?:\./)?(src/\S+?):(\d+):\d+: it is not proved that ")
 LOST_PROOF = re.compile(r"(?:\./)?proofs/(\S+)/[^/\s]+\.antt:\d+:\d+: error: (.*)")
+# by what an edit is refused
+GOAL, ANSWER = "by an open goal", "only since an answer by hand no longer has its goal's type"
 NAME_GONE = re.compile(r"has no field|is not in scope|has no `|was not admitted")
 # A line that places something in a file. What else the check says tells of no refusal.
 PLACED = re.compile(r"(?:\./)?\S+:\d+:\d+: error|.*\berror\[[\w-]+\]|note: (?:\./)?src/\S+:\d+:\d+: ")
@@ -143,11 +145,11 @@ def in_batches(changed):
 
 
 def refused_by(told, functions):
-    """The functions of some that a check's lines refuse, or None if they say anything of others, or are no such lines."""
+    """The functions of some that a check's lines refuse, and by what, or None if they say anything of others, or are no such lines."""
     lines = told.split("\n")
     if STALE.search(told) or not any(line.startswith("logic=not-proved") for line in lines):
         return None
-    refused = set()
+    refused = {}
     for line in lines:
         goal, proof = OPEN_GOAL.match(line), LOST_PROOF.match(line)
         if goal:
@@ -162,7 +164,7 @@ def refused_by(told, functions):
         if len(met) != 1:
             return None
         if goal or not NAME_GONE.search(proof.group(2)):
-            refused.update(met)
+            refused[met[0]] = GOAL if goal else refused.get(met[0], ANSWER)
     return refused
 
 
@@ -212,36 +214,42 @@ def check(copy, crates, crate, edits, until):
 
 
 def try_batch(copy, crates, crate, batch, until):
-    """The edits of a batch that are refused, given the text and the functions of each by its name. Where the check gives no
+    """The edits of a batch that are refused, and by what, given the text and the functions of each by its name. Where the check gives no
     result, each half is tried by itself."""
     status, told = check(copy, crates, crate, [text for text, _ in batch.values()], until)
     functions = {it for _, changed in batch.values() for it in changed}
     refused = refused_by(told, functions) if status == 1 else None
     if refused is not None:
-        found = {name for name, (_, changed) in batch.items() if changed & refused}
+        reasons = {name: {refused[it] for it in changed if it in refused} for name, (_, changed) in batch.items()}
+        found = {name: GOAL if GOAL in by else ANSWER for name, by in reasons.items() if by}
         # at once, so that a run that is ended has told what it found
         print(f"soak: {crate}: {len(found)} of {len(batch)} refused in one check:", *sorted(it.stem for it in found), flush=True)
         return found
     names = sorted(batch)
     if status is None or len(names) < 2:
-        return set()
+        return {}
     halves = [names[: len(names) // 2], names[len(names) // 2 :]]
-    return set().union(*(try_batch(copy, crates, crate, {it: batch[it] for it in half}, until) for half in halves))
+    return joined(try_batch(copy, crates, crate, {it: batch[it] for it in half}, until) for half in halves)
+
+
+def joined(parts):
+    """What stands in any of these."""
+    return {name: it for part in parts for name, it in part.items()}
 
 
 def refused_together(copy, crates, crate, edits, jobs, until):
-    """The edits of a crate of a copy, paths of files, that checks of several refuse, and how many checks were begun for it.
+    """The edits of a crate of a copy, paths of files, that checks of several refuse, with by what, and how many checks were begun for it.
     The crate must be proved as it stands. What is not refused in one round is tried with fewer others in the next."""
     texts = texts_of(copy, crate)
     told = {edit: edit.read_text(errors="replace") for edit in edits}
     changed = {edit: changed_by(text, texts) for edit, text in told.items()}
     changed = {edit: functions for edit, functions in changed.items() if functions}
-    refused, rounds = set(), 0
+    refused, rounds = {}, 0
     while len(changed) > 1:
         batches = [{it: (told[it], changed[it]) for it in batch} for batch in in_batches(changed)]
         rounds += len(batches)
         with concurrent.futures.ThreadPoolExecutor(jobs) as pool:
-            found = set().union(*pool.map(lambda batch: try_batch(copy, crates, crate, batch, until), batches))
+            found = joined(pool.map(lambda batch: try_batch(copy, crates, crate, batch, until), batches))
         refused |= found
         changed = {edit: functions for edit, functions in changed.items() if edit not in found}
         if not found:

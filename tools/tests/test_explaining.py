@@ -14,13 +14,13 @@ PERIOD = " Cure: the certificate was valid then, but its entry is for another ti
 
 
 def lines_of_list():
-    """The lines of the repository's trust list, of version 1, that are entries."""
+    """The lines of the repository's trust list that are entries: role, both ends, which are open, and certificate."""
     return [line.split(" ") for line in (REAL / "trust.txt").read_text().splitlines()[1:] if line and not line.startswith("#")]
 
 
 def trust_list(*entries):
     """A trust list of version 2: the numbers of lines of the repository's list, with their periods."""
-    lines = [f"{lines_of_list()[n][0]} {first} {last} {lines_of_list()[n][1]}" for n, first, last in entries]
+    lines = [f"{lines_of_list()[n][0]} {first} {last} {lines_of_list()[n][3]}" for n, first, last in entries]
     return "\n".join(["cmsproof trust 2", *lines, ""]).encode()
 
 
@@ -38,7 +38,7 @@ class Explanations(unittest.TestCase):
         with tempfile.TemporaryDirectory() as folder:
             certificate = Path(folder) / "certificate"
             for entry, serial, end in ((0, "2b", "20350208071756Z"), (5, "30", "20350208071757Z")):
-                certificate.write_bytes(bytes.fromhex(lines_of_list()[entry][1]))
+                certificate.write_bytes(bytes.fromhex(lines_of_list()[entry][3]))
                 words = ["-in", certificate, "-noout", "-serial", "-enddate", "-dateopt", "iso_8601", "-issuer"]
                 said = openssl("x509", *words).decode().splitlines()
                 self.assertEqual(said[0].lower(), "serial=6d1c05658474a5840ce97e37f4ead3e16cefe6" + serial)

@@ -49,7 +49,7 @@ class World:
     def trust(self):
         """The list of all but the stranger."""
         entries = [("tsa", self.clock), ("tsa", self.other), *(("signer", who) for who in self.people)]
-        return "".join(f"{role} {who.octets.hex()}\n" for role, who in entries)
+        return "".join(f"{role} - - {who.octets.hex()}\n" for role, who in entries)
 
     def files(self):
         """Files by their names: each kind of signers and stamps, and many signers, whose questions are long."""

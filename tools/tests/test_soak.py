@@ -23,6 +23,8 @@ if verb == "ci":
     print("3 passed, 0 failed")
     sys.exit(0)
 if verb == "check":
+    if any("behind" in it.read_text() for it in pathlib.Path("src").glob("*.rt")):
+        print("note: src/lib.rt:1:1: it is not proved that it returns")
     sys.exit(1 if pathlib.Path("src/unproved.rt").exists() else 0)
 status = 0
 for edit in sorted(pathlib.Path("crates", name, "must-fail").glob("*.edit")):
@@ -34,6 +36,8 @@ for edit in sorted(pathlib.Path("crates", name, "must-fail").glob("*.edit")):
     status = 1 if "harmless" in text else status
     told = "NOT REFUSED" if "harmless" in text else "refused, as it must be: note"
     told = "refused, as it must be (only by a limit of the prover): note" if "limit" in text else told
+    by_hand = "refused, as it must be: ./proofs/low/Answers.antt:1:1: error: the two types differ"
+    told = by_hand if "by_hand" in text else told
     print(f"rt: must-fail {{name}}/{{edit.name}}: {{told}}", file=sys.stderr)
 sys.exit(status)
 """
@@ -413,6 +417,17 @@ class Lines(Repository):
         self.assertEqual((status, self.lines()), (0, [f"low {head}"]))
         self.assertIn("rt: must-fail low/two.edit: refused, as it must be (only by a limit of the prover): note\n", told)
         self.assertIn("soak: low: 1 of these edits show little or nothing of a contract", told)
+
+    def test_by_what_edits_are_refused(self):
+        for name, new in (("two", "by_hand"), ("three", "behind by_hand"), ("four", "limit"), ("five", "7")):
+            self.put({f"crates/low/must-fail/{name}.edit": f"file: src/lib.rt\nold: 1\nnew: {new}\n"})
+        self.commit("edits of each kind")
+        status, told = self.soak("low")
+        by_hand = "only since an answer by hand no longer has its goal's type"
+        counts = f"refused 2 by an open goal, 1 {by_hand}, 1 for a name that is gone or by a limit"
+        self.assertEqual((status, len(self.lines())), (0, 1))
+        for line in (f"low: {counts}", f"low: {by_hand}: two", f"in all: {counts}"):
+            self.assertIn(f"soak: {line}\n", told)
 
     def test_no_history(self):
         self.soaked()

@@ -80,24 +80,29 @@ EDITS = [
     ("old: self.count\nnew: { self.count }", ["list/List/len"]),
     ("nothing", []),
 ]
+GOAL, BY_HAND = together.GOAL, together.ANSWER
 OPEN = "note: src/list.rt:5:1: it is not proved that what the function ensures holds when it returns (`returns`)"
 INSIDE = (
     "note: src/list.rt:21:9: it is not proved that what is asked there holds (`next`); `search` gave up at one of its limits"
 )
+LATER = "note: src/list.rt:31:1: it is not proved that what the function ensures holds when it returns (`returns`)"
 WAITS = "fn it::list::List::len: no proof: it calls `it::list::first`, which is not proved"
 ANSWER = "./proofs/list/List/len/Answers.antt:9:50: error: `returns`: computed as far as they go, the two types differ"
 GONE = "./proofs/list/List/len/Answers.antt:9:50: error: `returns`: `c.at` has no field `at`"
 SAID = "logic=not-proved functions=3 sum=0"
-# what a check of edits of all three functions says, and the folders of those that it refuses; None: it tells nothing
+# what a check of edits of all three functions says, and the folders of those that it refuses, with by what; None: it tells nothing
 TOLD = [
-    ([OPEN, SAID], ["list/first"]),
-    ([INSIDE, WAITS, SAID, "rt: rt check --only says less"], ["list/ListNext/next"]),
+    ([OPEN, SAID], {"list/first": GOAL}),
+    ([INSIDE, WAITS, SAID, "rt: rt check --only says less"], {"list/ListNext/next": GOAL}),
+    ([ANSWER, LATER, SAID], {"list/List/len": GOAL}),
+    ([LATER, ANSWER, SAID], {"list/List/len": GOAL}),
+    ([ANSWER, GONE, SAID], {"list/List/len": BY_HAND}),
     (
         [OPEN, ANSWER, "./proofs/list/List/len/Answers.antt:8:5: note: a trial run was refused too", SAID],
-        ["list/List/len", "list/first"],
+        {"list/List/len": BY_HAND, "list/first": GOAL},
     ),
-    ([WAITS, SAID], []),
-    ([GONE, SAID], []),
+    ([WAITS, SAID], {}),
+    ([GONE, SAID], {}),
     ([OPEN], None),  # no verdict
     ([OPEN, "logic=proved functions=3"], None),
     ([OPEN, "note: src/other.rt:5:1: it is not proved that it returns", SAID], None),
@@ -171,7 +176,7 @@ class Lines(unittest.TestCase):
         for lines, wanted in TOLD:
             with self.subTest(lines):
                 found = together.refused_by("\n".join(lines), functions)
-                self.assertEqual(None if found is None else folders(found), wanted)
+                self.assertEqual(None if found is None else {it.folder: by for it, by in found.items()}, wanted)
 
 
 class Rounds(unittest.TestCase):

@@ -340,7 +340,7 @@ class Trusting(unittest.TestCase):
 
 
 class Real(unittest.TestCase):
-    """The certificates of the repository's trust list, which is of version 1."""
+    """The certificates of the repository's trust list."""
 
     def test_the_same_list_comes_of_its_certificates(self):
         listed = [
@@ -348,11 +348,11 @@ class Real(unittest.TestCase):
         ]
         with tempfile.TemporaryDirectory() as folder:
             words = []
-            for number, (role, octets) in enumerate(listed):
+            for number, (role, _, _, octets) in enumerate(listed):
                 (Path(folder) / str(number)).write_bytes(bytes.fromhex(octets))
                 words += ["--" + role, str(Path(folder) / str(number))]
             status, out, err = run_tool("cmsproof-trust", *words)
-        self.assertEqual((status, entries(out.decode())), (0, [f"{role} - - {octets}" for role, octets in listed]), err)
+        self.assertEqual((status, entries(out.decode())), (0, [" ".join(entry) for entry in listed]), err)
 
 
 if __name__ == "__main__":

@@ -343,6 +343,10 @@ class Verifying(unittest.TestCase):
             for second in (1, 2)
             if (hashed_short + (first := pow(third, power, prime) % order)) * second % 3 == power
         )
+        # (p is q^7: of powers of 1 + q^6 by q whoever sees one knows the exponent, and modulo q each is 1)
+        group = (1 << 256) - 189
+        in_power = number(group**7), number(group), number(1 + group**6)
+        of_both = element(0x30, number(1), number((int.from_bytes(hashlib.sha256(b"\x31" + TAIL).digest(), "big") + 7) % group))
         small = [bytes(32), b"\1" + bytes(31), b"\1" + bytes(30) + b"\x80", b"\xee" + b"\xff" * 30 + b"\x7f"]
         small += [bytes.fromhex("26e8958fc2b227b045c3f489f2ef98f0d5dfac05d3c63339b13802886d53fc05")]
         rows = [
@@ -362,6 +366,7 @@ class Verifying(unittest.TestCase):
                 dsa,
                 by_anybody,
             ),
+            (key_of("1.2.840.10040.4.1", element(0x30, *in_power), number(1 + 7 * group**6)), dsa, of_both),
             *((key_of("1.3.101.112", b"", key), algorithm("1.3.101.112"), key + bytes(32)) for key in small),
             (key_of("1.3.101.113", b"", b"\1" + bytes(56)), algorithm("1.3.101.113"), b"\1" + bytes(113)),
         ]
@@ -391,7 +396,8 @@ class Verifying(unittest.TestCase):
                     verifying.key_of.__wrapped__(key)
 
     def test_a_key_that_takes_hours_to_be_judged(self):
-        """RSA with 5,000,000 bits, DSA with numbers of 100,000 or a group of as many: no program signs under one."""
+        """RSA with 5,000,000 bits, DSA with numbers of 100,000 or a group of as many: no program signs under one. And DSA with a prime less
+        one that can be halved 3,800 times."""
         long, short = (1 << 100_000) - 1, (1 << 159) | 1
         key = key_of(PKCS_1 + "1", NULL, element(0x30, number((1 << 5_000_000) - 1), number(65537)))
         asked = question(key, digest_algorithm("sha256"), algorithm(PKCS_1 + "11", NULL), TAIL, bytes(256))
@@ -399,12 +405,19 @@ class Verifying(unittest.TestCase):
         err = self.none_vouched([("RSA", asked)])
         self.assertIn("cmsproof-verify: line 2: not judged: the key of RSA is longer than OpenSSL takes", err)
         self.assertLess(processor_seconds() - begun, 30)
-        for numbers in ((long, short), ((1 << 2047) | 1, (1 << 2046) | 1), (long, long - 2)):
-            key = key_of("1.2.840.10040.4.1", element(0x30, *map(number, (*numbers, 3))), number(5))
+        order = (1 << 256) - 189
+        prime = (2989 * order << 3800) + 1
+        too_long = "not judged: the key of DSA is longer than is tried here"
+        for *numbers, said in (
+            (long, short, 3, too_long),
+            ((1 << 2047) | 1, (1 << 2046) | 1, 3, too_long),
+            (long, long - 2, 3, too_long),
+            (prime, order, pow(3, (prime - 1) // order, prime), "the signature does not hold"),
+        ):
+            key = key_of("1.2.840.10040.4.1", element(0x30, *map(number, numbers)), number(numbers[-1]))
             asked = question(key, digest_algorithm("sha256"), algorithm(DSA + "2"), TAIL, element(0x30, number(1), number(1)))
             begun = processor_seconds()
-            err = self.none_vouched([("long", asked)])
-            self.assertIn("cmsproof-verify: line 2: not judged: the key of DSA is longer than OpenSSL takes", err)
+            self.assertIn(f"cmsproof-verify: line 2: {said}", self.none_vouched([("DSA", asked)]))
             self.assertLess(processor_seconds() - begun, 30)
 
     def test_many_parts_take_no_memory(self):

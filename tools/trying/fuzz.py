@@ -72,6 +72,9 @@ def read_files(folders):
                 with open(os.path.join(folder, name), "rb") as file:
                     octets = file.read()
                 found.setdefault(octets, (name, kind))
+                if kind == "trust":
+                    first = octets.replace(b"cmsproof trust 2", b"cmsproof trust 1").replace(b" - - ", b" ")
+                    found.setdefault(first, (f"{name} in version 1", kind))
     return [(name, kind, octets) for octets, (name, kind) in found.items()]
 
 

@@ -117,7 +117,7 @@ def add_judging(parser: Words, by: str) -> None:
     add_ends(parser, f", with {by}")
     at = f"until when the last time-stamp of a record must serve, with {by}: by default its own time"
     parser.add_argument("--at", action="once", type=time_of, metavar="TIME", help=at)
-    whole = f"a record may cover nothing else than its file, with {by}"
+    whole = f"the first list of a record may have no other hash value than its file's, with {by}"
     parser.add_argument("--whole", action="store_true", help=whole)
 
 

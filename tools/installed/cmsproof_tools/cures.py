@@ -559,9 +559,10 @@ ROWS = (
     Row(
         "12",
         "W4 RULE",
-        "its token fails this one of K1 to K14. K9: the lists do not lead to what was stamped (RFC 4998 4.3)",
-        "K10, K13: an entry of the list, if you trusted that authority then; K14: new answers, by `evidence questions`; else a copy of "
-        "the record as it was made",
+        "its token fails this one of K1 to K14. K9: its lists, or without lists what it must cover (W3), do not lead to what was stamped "
+        "(RFC 4998 4.3): in a record without lists the document was changed, or the record is another's",
+        "K9: find the document as it was, or its own record; K10, K13: an entry of the list, if you trusted that authority then; K14: new "
+        "answers, by `evidence questions`; else a copy of the record as it was made",
     ),
     Row(
         "12",
@@ -572,8 +573,8 @@ ROWS = (
     Row(
         "12",
         "W6 Weak",
-        "its digest algorithm, or that of its authority's signature, had ended (`--end`) when the next time-stamp took over, or at "
-        "`--at` (RFC 4998 5.3). SHA-1 holds at no time without an `--end`",
+        "the digest algorithm of its lists, of its token's imprint or of its token's signer had ended (`--end`) when the next time-stamp "
+        "took over, or at `--at` (RFC 4998 5.3). SHA-1 holds at no time without an `--end`",
         "a later `--end`, if you have grounds for it. " + TOO_LATE,
     ),
     Row(
@@ -585,8 +586,9 @@ ROWS = (
     Row(
         "12",
         "W8 Others",
-        "`--whole`, and its first list has hash values of other documents too, as of a group (RFC 4998 4.2)",
-        "name all of the group, as `evidence check` takes them, or leave `--whole` out",
+        "`--whole`, and its first list has other hash values than those of the documents, as of a group (RFC 4998 4.2)",
+        "name all of the group, as `evidence check` takes them, or leave `--whole` out: it shows nothing against whoever holds the record, and "
+        "can rewrite it for one of the group where no later chain covers its lists",
     ),
     # evidence records that are made
     Row(

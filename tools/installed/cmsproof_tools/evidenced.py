@@ -26,7 +26,7 @@ class Records(NamedTuple):
     here     the folder in which relative names are
     ends     until when algorithms hold: pairs of a name and a moment
     at       the moment up to which the last time-stamp of a record serves; "" is its own time
-    whole    whether a record may cover nothing else than its file
+    whole    whether the first list of a record may have no other hash value than its file's
     signed   whether what is signed is judged by its record too, at the moment that this shows
     """
 

@@ -117,10 +117,11 @@ LONGEST_MODULUS, LONGEST_EXPONENT = 16_384, 256
 SMALL_PRIMES = math.prod(
     number for number in range(2, 752) if all(number % other for other in range(2, math.isqrt(number) + 1))
 )
-# how many bits p and q of DSA have at most (FIPS 186-4 4.2, and OpenSSL): the time of a power grows with the cube of their length
-LONGEST_DSA = 10_000, 256
-# how often a number is tried that may be prime: one that is none passes each time with a chance of a quarter at most
-ROUNDS = 40
+# how many bits p and q of DSA have at most (FIPS 186-4 4.2 has p of 3,072): the time of a power grows with the cube of their length
+LONGEST_DSA = 4096, 256
+# how often a number is tried that may be prime, and p of DSA, which takes 40 milliseconds each time if it has 2,048 bits: one that is none
+# passes each time with a chance of a quarter at most
+ROUNDS, ROUNDS_OF_P = 40, 20
 # the y of the points of edwards25519 of order 1, 4 and 8, but for their signs (RFC 7748 4.1)
 SMALL_25519 = (
     0,
@@ -241,9 +242,11 @@ def is_anybodys(public: Any) -> bool:
         numbers = public.public_numbers()
         p, q, g = numbers.parameter_numbers.p, numbers.parameter_numbers.q, numbers.parameter_numbers.g
         if p.bit_length() > LONGEST_DSA[0] or q.bit_length() > LONGEST_DSA[1]:
-            raise Unjudged("the key of DSA is longer than OpenSSL takes")
-        # (where q is not prime, the order of g may be a small factor of it)
-        return not (is_prime(q) and all(1 < number < p - 1 and pow(number, q, p) == 1 for number in (g, numbers.y)))
+            raise Unjudged("the key of DSA is longer than is tried here")
+        # (where q is not prime, the order of g may be a small factor of it; where p is not, as where it is q^7, anybody may find the
+        # number that is secret)
+        in_group = all(1 < number < p - 1 and pow(number, q, p) == 1 for number in (g, numbers.y))
+        return not (in_group and is_prime(q) and is_prime(p, ROUNDS_OF_P))
     if isinstance(public, (ed25519.Ed25519PublicKey, ed448.Ed448PublicKey)):
         return is_of_small_order(public.public_bytes(Encoding.Raw, PublicFormat.Raw))
     return False
@@ -259,16 +262,20 @@ def is_no_rsa(modulus: int, exponent: int) -> bool:
     return not odd or math.gcd(modulus, SMALL_PRIMES) != 1 or pow(2, exponent, modulus) == 2
 
 
-def is_prime(number: int) -> bool:
-    """Whether an odd number above 3 is prime, by Miller and Rabin (FIPS 186-4 C.3.1), with bases that nobody knows before."""
+@lru_cache(maxsize=4096)
+def is_prime(number: int, rounds: int = ROUNDS) -> bool:
+    """Whether an odd number above 3 is prime, by Miller and Rabin (FIPS 186-4 C.3.1), with bases that nobody knows before. It is kept: a
+    key is asked about again for each of its algorithms, and where nothing is verified under it for each signature."""
     if number < 5 or number % 2 == 0:
         return False
     import secrets
 
     twos = ((number - 1) & -(number - 1)).bit_length() - 1
-    for _ in range(ROUNDS):
-        power = pow(2 + secrets.randbelow(number - 3), number >> twos, number)
-        if power != 1 and all(pow(power, 1 << square, number) != number - 1 for square in range(twos)):
+    for _ in range(rounds):
+        powers = [pow(2 + secrets.randbelow(number - 3), number >> twos, number)]
+        while len(powers) < twos and powers[-1] not in (1, number - 1):
+            powers.append(powers[-1] ** 2 % number)
+        if powers[-1] != number - 1 and powers != [1]:
             return False
     return True
 

@@ -300,7 +300,6 @@ class Left(WithRecords):
 
     def test_names_that_are_taken_meanwhile(self):
         """The line says why records are not written, and the next run writes them."""
-
         usual = self.authority.answer
 
         def answer(request, handler):
@@ -310,7 +309,8 @@ class Left(WithRecords):
         self.authority.answer = answer
         status, lines, err = self.renew()
         self.assertEqual((status, lines), (4, []), err)
-        self.assertIn(f"failed write {self.folder}/records/b/d.ers; {self.folder}/records/b/d.ers: {TAKEN}; state/1 has its token", err)
+        place = self.folder / "records" / "b" / "d.ers"
+        self.assertIn(f"failed write {place}; {place}: {TAKEN}; state/1 has its token", err)
         os.remove(self.folder / "records" / "b" / "d.ers.new7")
         self.assertEqual(self.renew()[0], 0)
         self.assert_renewed("a", "b/c.tif", "b/d")

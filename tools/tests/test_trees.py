@@ -196,7 +196,8 @@ class Reported(WithAuthority):
         record, more = self.folder / "records" / "b" / "c.tif.ers", ("--records", "by", "--under", "files")
         before = record.read_bytes()
         os.symlink("records/b/c.tif.ers", self.folder / "link"), os.symlink("records", self.folder / "by")
-        for out, status in (("records/b/c.tif.ers", 3), (record, 3), ("link", 3), ("by/b/c.tif.ers", 3), ("by/new.ers", 3), ("by/page", 0)):
+        refused = ("records/b/c.tif.ers", record, "link", "by/b/c.tif.ers", "by/new.ers")
+        for out, status in (*((one, 3) for one in refused), ("by/page", 0)):
             self.assertEqual(run_tool("cmsproof-archive", *asked[:2], "--html", out, *more, cwd=self.folder)[0], status, out)
             self.assertEqual(record.read_bytes(), before, out)
         for path in (self.folder / "records").rglob("*.ers"):

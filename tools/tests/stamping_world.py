@@ -25,6 +25,7 @@ signer_digest = sha256
 default_policy = 2.999.3
 digests = sha256, sha384, sha512
 """
+TAKEN = "all names by which it would be written are taken, up to that with .new99 behind it"
 OTHERWISE = "remove state/1 to have the files without a record stamped by another one"
 ASKED = cmsproof.request(digest=bytes(32), nonce=b"\x01\x02", certificate=True)
 
@@ -137,6 +138,11 @@ class WithAuthority(unittest.TestCase):
         os.makedirs(os.path.dirname(path), exist_ok=True)
         with open(path, "wb") as file:
             file.write(given)
+
+    def take(self, place):
+        """Takes all names by which the program writes a record."""
+        for number in range(100):
+            self.put(f"{place}.new{number}")
 
     def words(self, *words, trust=("--trust", "list"), folder="files"):
         """The words of a run: these, and those that are not among them."""

@@ -211,6 +211,10 @@ def asic_attacks(maker):
         ]
     ).replace(b"letter.txX", b"letter.txt")
     local = one.replace(b"letter.txt", b"latter.txt", 1)
+    # (of the entry of `mimetype`, whose name has 8 octets)
+    place = one.index(b"PK\1\2")
+    many = one[place : place + 54] * 1_000_000
+    crowd = one[:place] + many + struct.pack("<4sHHHHLLH", b"PK\5\6", 0, 0, 1, 1, len(many), place, 0)
     entity = text.replace(b"?>\n", b'?>\n<!DOCTYPE a [<!ENTITY b "c">]>\n', 1)
     lies = text.replace(b"a.txt", b"c.txt")
     return {
@@ -236,6 +240,7 @@ def asic_attacks(maker):
         "weak": (made.zipped(signed_manifest(text.replace(b"xmlenc#sha256", b"xmldsig#sha1"))), "F3"),
         "twice_in_manifest": (made.zipped(signed_manifest(made.manifest(rest[1][0], [files[0], *files]))), "F10"),
         "bomb": (bomb.getvalue(), "F4"),
+        "crowd": (crowd, "F4"),
         "doubled": (doubled, "F10"),
         "case": (made.zipped([kind, *files, ("A.TXT", b"evil"), *rest]), "F10"),
         "local_name": (local, "F10"),

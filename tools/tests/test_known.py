@@ -9,12 +9,14 @@ import shutil
 import tempfile
 import unittest
 from pathlib import Path
+from unittest import mock
 
 from issuing_world import AT, World, h
 from making import REAL, folder_of, need_tools, run_tool
 
 need_tools()
 
+from cmsproof_tools import cures
 from cmsproof_tools.known import Known
 from cmsproof_tools.outcomes import Outcome
 
@@ -118,6 +120,23 @@ class Runs(unittest.TestCase):
             status, _, err = run_tool("cmsproof-archive", *words, cwd=folder)
             found.append((status, "nothing is refused so: S10 file" in err))
         self.assertEqual(found, [(5, False), (1, True), (0, True), (5, False)])
+
+    def test_many_lines(self):
+        """The table of all codes is gone through once at most, and not for each line."""
+
+        class Counted(tuple):
+            count = 0
+
+            def __iter__(self):
+                Counted.count += 1
+                return super().__iter__()
+
+        text = folder_of(self) / "known"
+        text.write_text("".join(f"S10 {number}.p7s\n" for number in range(1000)))
+        with mock.patch.object(cures, "ROWS", Counted(cures.ROWS)):
+            known = Known(str(text))
+        self.assertEqual(len(known.lines), 1000)
+        self.assertLessEqual(Counted.count, 1)
 
     def test_faults_of_the_text(self):
         """Each ends the tool before anything else is done."""

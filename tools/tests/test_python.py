@@ -212,6 +212,24 @@ class Checking(unittest.TestCase):
         (self.folder / "empty").write_bytes(b"")
         self.assertEqual(cmsproof.check(self.folder / "empty", trust=self.trust).line, "malformed M1 End at 0")
 
+    @unittest.skipUnless(os.path.ismount("/dev/shm"), "there is no file system in memory at /dev/shm")
+    def test_a_long_file_with_holes(self):
+        """All its octets are there. To read it does not fill it: in memory's own file system (tmpfs(5)) it takes at most twice as much then."""
+        size, page = octets.COPIED + 5, mmap.PAGESIZE
+        for places in ((), (0,), (size - 1,), (size // 2 + 7,), range(0, 100 * page, 2 * page), range(3, size, size // 50)):
+            whole = bytearray(size)
+            with tempfile.NamedTemporaryFile(dir="/dev/shm") as file:
+                file.truncate(size)
+                for place in places:
+                    os.pwrite(file.fileno(), b"x", place)
+                    whole[place] = ord("x")
+                before, descriptor = os.fstat(file.fileno()).st_blocks, os.open(file.name, os.O_RDONLY)
+                file.file.close()
+                found = octets.File(descriptor, "file")
+                self.assertEqual(hashlib.sha256(found.octets).digest(), hashlib.sha256(whole).digest(), places)
+                self.assertLessEqual(os.fstat(descriptor).st_blocks, 2 * before, places)
+                found.close(), os.close(descriptor)
+
     def check_held(self, place):
         """A file that is mapped for whoever reads it is not read while somebody has it mapped, also once that one closed it (fcntl(2))."""
         shutil.copy(FILE, place)

@@ -19,7 +19,7 @@ from samples.building import octets as string, sha  # noqa: E402
 from test_due import BY, LATER, known, list_of, record_with, token_of, tsa  # noqa: E402
 from renewing_world import GOOD, LIST, OTHER, SHA256, SHA512, STRANGE, WithRecords  # noqa: E402
 from renewing_world import by_sha512, chains_of, now, response_to  # noqa: E402
-from stamping_world import ASKED, CONFIG, REPLY, other_nonce  # noqa: E402
+from stamping_world import ASKED, CONFIG, REPLY, TAKEN, other_nonce  # noqa: E402
 
 
 class Renewed(WithRecords):
@@ -323,10 +323,27 @@ class Left(WithRecords):
     def test_what_cannot_be_replaced(self):
         os.remove(self.folder / "records" / "e.ers")
         long, odd = b"records/" + b"n" * 246 + b".ers", b"records/left\xff.ers"
-        self.put(long, GOOD), self.put(odd, GOOD)
-        names = ("left\\udcff.ers", os.fsdecode(long)[len("records/") :])
-        reasons = ("its name is not UTF-8", "its name is too long to have .new99 behind it")
-        self.left([f"due {LATER} records/{name}: {reason}" for name, reason in zip(names, reasons)])
+        self.put(long, GOOD), self.put(odd, GOOD), self.take("records/b/d.ers")
+        names = ("b/d.ers", "left\\udcff.ers", os.fsdecode(long)[len("records/") :])
+        reasons = (TAKEN, "its name is not UTF-8", "its name is too long to have .new99 behind it")
+        self.left([f"due {LATER} records/{name}: {reason}" for name, reason in zip(names, reasons)], renewed=2)
+
+    def test_names_that_are_taken_meanwhile(self):
+        """The line says why records are not written, and the next run writes them."""
+        usual = self.authority.answer
+
+        def answer(request, handler):
+            self.take("records/b/d.ers")
+            return usual(request, handler)
+
+        self.authority.answer = answer
+        status, lines, err = self.renew()
+        self.assertEqual((status, lines), (4, []), err)
+        place = self.folder / "records" / "b" / "d.ers"
+        self.assertIn(f"failed write {place}; {place}: {TAKEN}; state/1 has its token", err)
+        os.remove(self.folder / "records" / "b" / "d.ers.new7")
+        self.assertEqual(self.renew()[0], 0)
+        self.assert_renewed("a", "b/c.tif", "b/d")
 
     def test_what_may_not_be_replaced(self):
         who = as_nobody()

@@ -18,7 +18,7 @@ need_tools()
 import cmsproof  # noqa: E402
 from cmsproof_tools import authority, summing  # noqa: E402
 from oracle.der import element, sequence  # noqa: E402
-from stamping_world import ASKED, OTHERWISE, REPLY, WithAuthority, other_nonce  # noqa: E402
+from stamping_world import ASKED, OTHERWISE, REPLY, TAKEN, WithAuthority, other_nonce  # noqa: E402
 
 
 class Stamped(WithAuthority):
@@ -179,6 +179,36 @@ class Stamped(WithAuthority):
         self.put(b"files/" + b"n" * 251), self.put(b"records/" + b"n" * 251 + b".ers")
         status, _, err = self.stamp()
         self.assertEqual((status, "6 files have a record already" in err), (0, True), err)
+
+    def test_what_an_outsider_puts_there(self):
+        """A file that says more octets than any can have, one that is no record in the place of one, and all names by which one is written: each
+        costs its file the record, and no other one."""
+        self.put("files/long"), os.truncate(self.folder / "files" / "long", (1 << 40) + 1)
+        self.put("records/a.ers", b""), self.take("records/b/d.ers")
+        left = [("long", f"it has more than {1 << 40} octets, and no record of it could be checked")]
+        left += [("a", "it can have no record: in the place of its record is an empty file")]
+        left += [("b/d", f"it can have no record: {TAKEN}")]
+        found = self.stamp(timeout=60)
+        self.assertRegex(found[1][0], "^files: 2 records of ")
+        os.remove(self.folder / "records" / "a.ers"), os.remove(self.folder / "files" / "long")
+        for number in range(100):
+            os.remove(self.folder / "records" / "b" / f"d.ers.new{number}")
+        self.assert_left(found, left, [b"b/c.tif", b"e"])
+        self.assert_left(self.stamp(), [], self.FOUR, 0)
+
+    def test_names_that_are_taken_meanwhile(self):
+        """The line says why no record is written, and the next run writes them."""
+
+        def answer(request, handler):
+            self.take("records/b/d.ers")
+            return self.authority.usual(request, handler)
+
+        self.authority.answer = answer
+        status, lines, err = self.stamp()
+        line = f"cmsproof evidence make: failed write {self.folder}/records/b/d.ers; records/b/d.ers: {TAKEN}"
+        self.assertEqual((status, lines, err), (4, [], f"cmsproof-archive: {line}\n"))
+        os.remove(self.folder / "records" / "b" / "d.ers.new7")
+        self.assertEqual(self.stamp()[0], 0)
 
     def test_links_and_devices(self):
         os.symlink("a", self.folder / "files" / "link"), os.symlink("/etc", self.folder / "files" / "folder")

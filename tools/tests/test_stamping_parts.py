@@ -3,6 +3,7 @@ whose a state is, and clocks."""
 import errno
 import hashlib
 import os
+import signal
 import socket
 import subprocess
 import threading
@@ -112,11 +113,19 @@ class Parts(unittest.TestCase):
                     self.assertRegex(str(found), f"^failed request http://127[^ ]*: {line}")
 
     def test_the_alarm_is_gone_behind_a_block(self):
-        with self.assertRaises(authority.Late), authority.ended_after(0.05):
-            time.sleep(5)
-        with authority.ended_after(0.1):
-            pass
-        time.sleep(0.2)
+        """It comes where whoever started the tool had blocked its signal, which then is blocked again."""
+        self.addCleanup(signal.pthread_sigmask, signal.SIG_SETMASK, signal.pthread_sigmask(signal.SIG_BLOCK, ()))
+        for how in (signal.SIG_UNBLOCK, signal.SIG_BLOCK):
+            signal.pthread_sigmask(how, (signal.SIGALRM,))
+            before = signal.pthread_sigmask(signal.SIG_BLOCK, ())
+            with self.assertRaises(authority.Late), authority.ended_after(0.05):
+                time.sleep(5)
+            if how == signal.SIG_BLOCK:
+                os.kill(os.getpid(), signal.SIGALRM)
+            with authority.ended_after(0.1):
+                pass
+            time.sleep(0.2)
+            self.assertEqual(signal.pthread_sigmask(signal.SIG_BLOCK, ()), before)
 
     def test_clocks_that_are_apart(self):
         """An authority whose clock is ahead is no stranger, but much is said."""
@@ -223,7 +232,7 @@ class Parts(unittest.TestCase):
         for name in ("a", "gone", "d/x", "f/x", "f.ers/y", "z"):
             (top / name).parent.mkdir(exist_ok=True), (top / name).write_bytes(b"")
         for name in ("a", "d", "gone"):
-            (into / f"{name}.ers").write_bytes(b"")
+            (into / f"{name}.ers").write_bytes(b"a record")
 
         def but(function, *names):
             def called(name, *rest, **more):

@@ -759,7 +759,7 @@ archive.names_of = cut
 running.start("archive")
 """
         with open(self.folder / "long", "wb") as long:
-            long.truncate(COPIED + 1)
+            long.write(b"x" * (COPIED + 1))
         words = ["--trust", TRUST, "--state", "new", "--content", "long", REAL / "rsa_detached_ts.p7s"]
         run = [sys.executable, "-c", code, MODULES, *words]
         done = subprocess.run(run, cwd=self.folder, capture_output=True, text=True, check=False)

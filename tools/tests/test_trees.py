@@ -192,6 +192,14 @@ class Reported(WithAuthority):
             self.assertEqual(run_tool("cmsproof-archive", *judged[:-2], "alone", name, cwd=self.folder)[0], 0)
             page = run_tool("cmsproof-archive", "report", "alone", *asked[2:], cwd=self.folder)[1].decode()
             self.assertIn(f'aria-label="The hash tree of {name}"', page)
+        # nothing is written over a record, whatever it is called; a page beside them is none
+        record, more = self.folder / "records" / "b" / "c.tif.ers", ("--records", "by", "--under", "files")
+        before = record.read_bytes()
+        os.symlink("records/b/c.tif.ers", self.folder / "link"), os.symlink("records", self.folder / "by")
+        refused = ("records/b/c.tif.ers", record, "link", "by/b/c.tif.ers", "by/new.ers")
+        for out, status in (*((one, 3) for one in refused), ("by/page", 0)):
+            self.assertEqual(run_tool("cmsproof-archive", *asked[:2], "--html", out, *more, cwd=self.folder)[0], status, out)
+            self.assertEqual(record.read_bytes(), before, out)
         for path in (self.folder / "records").rglob("*.ers"):
             path.write_bytes(path.read_bytes() + b"\0")
         page = run_tool("cmsproof-archive", *asked, cwd=self.folder)[1].decode()

@@ -120,6 +120,21 @@ class Writing(unittest.TestCase):
         found = (self.folder / "new").read_bytes(), self.out.read_bytes(), self.beside()
         self.assertEqual(found, (AFTER, BEFORE, ["new", "out"]))
 
+    def test_a_link_in_the_place_of_the_folder(self):
+        """A folder that is open is written into, whatever is in its place by then."""
+        swapped = (
+            "was = writing.put_in\n"
+            "def swapped(*words):\n"
+            "    os.rename('folder', 'away'), os.symlink('none', 'folder')\n"
+            "    was(*words)\n"
+            "writing.put_in = swapped\n"
+        )
+        for more in ("", "writing.os.O_TMPFILE = os.O_DIRECTORY\n"):
+            (self.folder / "folder").mkdir()
+            self.assertEqual(self.said("new", "folder/new", more + swapped), (0, ""))
+            self.assertEqual((os.listdir(self.folder / "away"), (self.folder / "away" / "new").read_bytes()), (["new"], AFTER))
+            (self.folder / "folder").unlink(), (self.folder / "away" / "new").unlink(), (self.folder / "away").rmdir()
+
     def test_who_owns_it(self):
         if os.geteuid():
             self.skipTest("only root gives files to others")

@@ -17,8 +17,11 @@ Buffer = Union[bytes, bytearray, memoryview, mmap.mmap]
 Given = Union[Buffer, str, "os.PathLike[str]"]
 # What is no longer than this is copied, so that nobody can change it while the library reads it.
 COPIED = 64 << 20
-# MAP_NORESERVE of mmap(2): a file may be longer than the memory
-NO_RESERVE = 0x4000
+# of mmap(2), MAP_NORESERVE, since a file may be longer than the memory, and MAP_FIXED
+NO_RESERVE, FIXED = 0x4000, 0x10
+FLAGS, WAYS = mmap.MAP_PRIVATE | NO_RESERVE, mmap.PROT_READ | mmap.PROT_WRITE
+MMAP = ctypes.CDLL(None, use_errno=True).mmap
+MMAP.restype, MMAP.argtypes = ctypes.c_void_p, (ctypes.c_void_p, ctypes.c_size_t, *[ctypes.c_int] * 3, ctypes.c_long)
 
 
 class Octets(NamedTuple):
@@ -48,6 +51,29 @@ def is_held(descriptor: int) -> bool:
     except OSError as error:
         return error.errno == errno.EAGAIN
     return False
+
+
+def parts_of(descriptor: int, size: int) -> Iterator[tuple[int, int]]:
+    """The parts of a file that are mapped, each from its begin to its end. Holes (lseek(2)) are in none, but where they have no more octets in
+    all than what the file has: so the parts are few."""
+    begin = end = room = 0
+    while end < size:
+        try:
+            at = os.lseek(descriptor, end, os.SEEK_DATA)
+            hole = os.lseek(descriptor, at, os.SEEK_HOLE)
+        except OSError as error:
+            if error.errno == errno.ENXIO:
+                break  # (the rest is a hole)
+            at, hole = end, size  # (nobody says where holes are)
+        room -= at - end
+        if room < 0:
+            if end > begin:
+                yield begin, end
+            # (a page is mapped as a whole)
+            begin, room = at - at % mmap.PAGESIZE, room + at - end
+        end, room = hole, room + hole - at
+    if end > begin:
+        yield begin, end
 
 
 def plain(octets: Buffer) -> bytes:
@@ -122,9 +148,15 @@ class File:
         return b"".join(pieces)
 
     def mapped(self) -> mmap.mmap:
-        """The octets of a file that is long. (It is a private mapping, which ctypes takes, although nothing writes to it.)"""
-        flags, ways = mmap.MAP_PRIVATE | NO_RESERVE, mmap.PROT_READ | mmap.PROT_WRITE
-        return mmap.mmap(self.descriptor, self.found.st_size, flags=flags, prot=ways)
+        """The octets of a file that is long. (It is a private mapping, which ctypes takes, although nothing writes to it. Its holes are not mapped,
+        and are zeros of the process: in memory's own file system, tmpfs(5), whoever reads what is mapped there fills them.)"""
+        octets = mmap.mmap(-1, self.found.st_size, flags=FLAGS | mmap.MAP_ANONYMOUS, prot=WAYS)
+        first = ctypes.addressof(ctypes.c_char.from_buffer(octets))
+        for begin, end in parts_of(self.descriptor, self.found.st_size):
+            if MMAP(first + begin, end - begin, WAYS, FLAGS | FIXED, self.descriptor, begin) != first + begin:
+                raise OSError(ctypes.get_errno(), os.strerror(ctypes.get_errno()))
+        os.lseek(self.descriptor, 0, os.SEEK_SET)
+        return octets
 
     def check(self) -> None:
         """Raises `Changed` if the octets may be others than they were: those of a copy are not."""

@@ -61,12 +61,16 @@ def ended_after(seconds: float) -> Iterator[None]:
     def late(_: int, __: Optional[FrameType]) -> NoReturn:
         raise Late
 
-    before = signal.signal(signal.SIGALRM, late)
+    # (whoever started the tool may have blocked the signal: it would not come, or one that waits would come now and is dropped)
+    before = signal.signal(signal.SIGALRM, signal.SIG_IGN)
+    blocked = signal.pthread_sigmask(signal.SIG_UNBLOCK, (signal.SIGALRM,))
+    signal.signal(signal.SIGALRM, late)
     signal.setitimer(signal.ITIMER_REAL, seconds)
     try:
         yield
     finally:
         signal.setitimer(signal.ITIMER_REAL, 0)
+        signal.pthread_sigmask(signal.SIG_SETMASK, blocked)
         signal.signal(signal.SIGALRM, before)
 
 

@@ -3,14 +3,14 @@ anybody's: what is not exactly as it is written here is refused, and nothing is 
 from __future__ import annotations
 
 import hashlib
-import io
 import json
 import struct
 import zipfile
 import zlib
 from typing import Any, Callable, NamedTuple, Union
 
-from cmsproof_tools.containers.asic import end_of_entries
+from cmsproof_tools.containers.asic import Reading, end_of_entries
+from cmsproof_tools.containers.refusals import Refused
 from cmsproof_tools.containers.twofold import begun_as
 from cmsproof_tools.running import FAILED, Started, Stop, shown
 from cmsproof_tools.writing import written
@@ -43,12 +43,12 @@ RECORD_KEYS: dict[str, Any] = {
     "at": str,
     "whole": bool,
 }
-LONGEST_MANIFEST, LONGEST_DIRECTORY = 1 << 20, 1 << 12
+# (Python's zipfile reads no less than the last 65,557 octets, where it looks for the end of the directory)
+LONGEST_MANIFEST, LONGEST_DIRECTORY = 1 << 20, 1 << 17
 # a local header of a zip file (APPNOTE.TXT 4.3.7), and its first octets
 HEADER, LOCAL = struct.Struct("<4s5H3I2H"), b"PK\x03\x04"
 # the field of long members (4.5.3): in a head both lengths, in the directory one to three numbers; a head has MAXIMUM for them then
 ZIP64, MAXIMUM = struct.Struct("<HHQQ"), 0xFFFFFFFF
-LOCATOR = b"PK\6\7"
 ZIP64_ALONE = {4 + length: struct.pack("<HH", 1, length) for length in (8, 16, 24)}
 # in the attributes of a member (4.4.15): the mark of a folder, and the kind of file of Unix
 FOLDER, REGULAR = 0x10, 0o10
@@ -126,23 +126,15 @@ def member_in(octets: memoryview, found: zipfile.ZipInfo, at: int) -> tuple[memo
     return octets[begin:end], end
 
 
-def directory_size(octets: memoryview) -> int:
-    """How many octets the directory of a zip file has, as the records at its end say, which have nothing behind them."""
-    size = int.from_bytes(octets[-10:-6], "little")
-    if octets[-42:-38] == LOCATOR:
-        return max(size if size != MAXIMUM else 0, int.from_bytes(octets[-58:-50], "little"))
-    return size
-
-
 def members_in(whole: Any) -> dict[str, memoryview]:
     """The members of a zip file, one behind the other, with nothing between them. Raises Malformed if it is none of that form."""
     octets = memoryview(whole)
-    if directory_size(octets) > LONGEST_DIRECTORY:
-        raise Malformed("its members are not those of a bundle, each once and in their order")
     try:
-        # (a mapping is read as a file; both are the octets that are judged, and no file that may be another by now)
-        with zipfile.ZipFile(io.BytesIO(whole) if isinstance(whole, bytes) else whole) as read:
+        # (these are the octets that are judged, and no file that may be another by now)
+        with zipfile.ZipFile(Reading(octets, LONGEST_DIRECTORY)) as read:
             found, start, comment = read.infolist(), read.start_dir, read.comment
+    except Refused as refused:
+        raise Malformed(refused.reason) from refused
     except (zipfile.BadZipFile, NotImplementedError, struct.error, ValueError, OSError, OverflowError) as error:
         raise Malformed(f"it is no zip file: {error}") from error
     names = [member.filename for member in found]

@@ -6,6 +6,7 @@ No cure says to trust somebody whom the file names unless his fingerprint was co
 from __future__ import annotations
 
 import re
+from functools import lru_cache
 from typing import NamedTuple
 
 CODE = re.compile(r"(?:^|, )([A-Z][0-9]+)\b")
@@ -679,6 +680,7 @@ OF_RECORDS: dict[str, tuple[str, str]] = {
 }
 
 
+@lru_cache(maxsize=None)
 def known_cures() -> dict[str, Cure]:
     """The cure of each code."""
     return {code: Cure(row.when, row.cure, row.section) for row in ROWS for code in CODE.findall(row.codes)}

@@ -12,7 +12,7 @@ from cmsproof_tools.found import BEGINNING, Found, Unfound
 from cmsproof_tools.signed_parts import is_response
 
 # what such a file is called that ends the process which takes too long to read it (keeping.bounded)
-ENDING = ("pdf", "asic")
+ENDING = ("pdf",)
 TOO_LONG = "reading it takes more of the processor's time than it may"
 
 

@@ -85,12 +85,20 @@ def in_the_way(place: str) -> str:
     try:
         os.lstat(place)
     except FileNotFoundError:
-        pass
+        return summing.taken_beside(place)
     except NotADirectoryError:
         return "a file is in the place of its record's folder"
     except OSError as error:
         return f"its record would have no place: {error.strerror}"
     return ""
+
+
+def is_empty(place: str) -> bool:
+    """Whether a file is there that has no octets, and so is no record."""
+    try:
+        return os.lstat(place).st_size == 0
+    except OSError:
+        return False
 
 
 def named(tool: str, given: Any, left: Left) -> list[str]:
@@ -101,9 +109,10 @@ def named(tool: str, given: Any, left: Left) -> list[str]:
     for name in files_of(tool, given, left):
         place = os.path.join(given.into, name + ENDING)
         fault, lacking = fit.fault(name), records.lacking(place)
-        if lacking == "":
+        if lacking == "" and not is_empty(place):
             kept += 1
             continue
+        lacking = lacking or "an empty file"
         if not fault:
             fault = in_the_way(place) if lacking == NOTHING else f"in the place of its record is {lacking}"
         if fault:
@@ -288,7 +297,8 @@ def make(given: Any, batch: Batch, count: int) -> None:
         run_program(given, batch, "make", "--alg", given.alg, "--token", TOKEN, "--into", os.path.abspath(given.into), SUMS)
     except Stop as stop:
         is_there = stop.line.startswith("cmsproof evidence make: failed replace ")
-        raise Stop(stop.status, stop.line + (f"; move that away, or {by_another(batch)}" if is_there else "")) from stop
+        helps = f"; move that away, or {by_another(batch)}" if is_there else summing.said_taken(places_of(given, batch))
+        raise Stop(stop.status, stop.line + helps) from stop
 
 
 def finish(tool: str, given: Any, batch: Batch, top: int, address: SplitResult, trust: Any) -> int:

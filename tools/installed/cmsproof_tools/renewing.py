@@ -34,7 +34,7 @@ from cmsproof_tools.progress import Progress
 from cmsproof_tools.rows import time_text
 from cmsproof_tools.running import DONE, FAILED, MALFORMED, REFUSED, USAGE, Stop
 from cmsproof_tools.running import module, one_line, shown, tell, write
-from cmsproof_tools.summing import BESIDE, LONGEST_NAME, LONGEST_PATH
+from cmsproof_tools.summing import BESIDE, LONGEST_NAME, LONGEST_PATH, said_taken, taken_beside
 from cmsproof_tools.texts import in_order, is_moment
 from cmsproof_tools.timelines import NAMES
 from cmsproof_tools.trees import Undrawn, way_in
@@ -177,7 +177,7 @@ def not_replaced(path: str, longest: int) -> str:
         return f"its name is too long to have {BESIDE} behind it"
     if not os.access(path, os.W_OK) or not os.access(os.path.dirname(path), os.W_OK | os.X_OK):
         return "it may not be replaced"
-    return ""
+    return taken_beside(path)
 
 
 def hindrance(by: By, now: str, one: Standing) -> str:
@@ -406,6 +406,14 @@ def renew(given: Any, batch: Batch, part: list[str], *words: str) -> None:
     run_program(given, batch, "renew", *words, *part, prepare=give_stack)
 
 
+def replace(given: Any, batch: Batch, part: list[str]) -> None:
+    """Has the program replace some records of a batch by those with its token."""
+    try:
+        renew(given, batch, part, "--token", TOKEN)
+    except Stop as stop:
+        raise Stop(stop.status, stop.line + said_taken(part)) from stop
+
+
 def root_of(given: Any, batch: Batch) -> dict[str, str]:
     """The request over the last time-stamps of a batch, as it is shown, as the records are now. Ends the tool where that of one command is another
     one than that of the others."""
@@ -522,7 +530,7 @@ def finish(tool: str, given: Any, batch: Batch, address: SplitResult, trust: Any
     try:
         check_room(batch, batch.terms["records"], len(names_in(batch)), partial(without_token, batch))
         for part in parts_of(batch):
-            renew(given, batch, part, "--token", TOKEN)
+            replace(given, batch, part)
     except Stop as stop:
         more = f"; {shown(batch.path)} has its token: run this again, or remove that to have what is still due renewed by another one"
         raise Stop(stop.status, stop.line + more) from stop

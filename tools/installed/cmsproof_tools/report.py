@@ -4,15 +4,17 @@ from __future__ import annotations
 import csv
 import io
 import json
+import os
 import re
 from typing import Any, Iterator
 
-from cmsproof_tools.evidenced import records_in
+from cmsproof_tools.evidenced import ENDING, records_in
 from cmsproof_tools.known import Known
 from cmsproof_tools.outcomes import named
 from cmsproof_tools.lines import parts_of
 from cmsproof_tools.rows import Row, time_text
 from cmsproof_tools.running import DONE, USAGE, Stop, Words, check_kept, module, one_line, shown, tell, write
+from cmsproof_tools.stamp import is_within
 from cmsproof_tools.state import VERDICTS, Basis, State, beside, grounds_in
 
 ABOUT = """Shows what a state of cmsproof-archive holds.
@@ -144,6 +146,8 @@ def main(tool: str, words: list[str]) -> int:
         check_kept(out, [*beside(given.state), given.known, *(other for _, other in asked[:number] if other != "-")])
         if out in [other for _, other in asked[:number]]:
             parser.error(f"two of --html, --csv and --json are written into {shown(out)}")
+        if given.records is not None and os.path.realpath(out).endswith(ENDING) and is_within(out, given.records):
+            raise Stop(USAGE, f"{shown(out)} would be written into the place of a record of --records")
     if given.known == "-":
         parser.error("- is no name for --known: write ./-")
     if given.under is not None and given.records is None:

@@ -21,8 +21,9 @@ must hold, nobody looks whose it is, and a line says so.
 
 The folder FOLDER.stamps, or that of --state, has all that was done, so that a run that was stopped is gone on with by the same words: the
 digests are not computed again, and a request that may have been sent is sent again. A file that was changed since its digest was computed is
-named: its record is of what it was. A link, a pipe or a device has no record, and a line says so. A file that can have no record, cannot be
-read, or changes while it is read is named and left out, and the others are stamped; a later run stamps it once that is mended.
+named: its record is of what it was. A link, a pipe or a device has no record, and a line says so. A file that can have no record, has more
+than 2^40 octets, cannot be read, or changes while it is read is named and left out, and the others are stamped; a later run stamps it once that is
+mended.
 
 Exit status: 0 all files have records; 1 a file is left out or was changed, or the answer is refused; 2 the answer is malformed, or the trust
 list is; 3 wrong words; 4 a file, the authority, the program or the library failed.

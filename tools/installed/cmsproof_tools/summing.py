@@ -12,20 +12,24 @@ import sqlite3
 import stat
 import time
 from contextlib import contextmanager
-from typing import Any, Callable, Iterator, NamedTuple, Sequence, Union
+from typing import Any, Callable, Iterable, Iterator, NamedTuple, Sequence, Union
 
 from cmsproof_tools import descriptors
 from cmsproof_tools.evidenced import ENDING
 from cmsproof_tools.rows import STEP, mark_of
+from cmsproof_tools.running import shown
 from cmsproof_tools.state import told
 
 PIECE = 1 << 20
 FOLDER = os.O_RDONLY | os.O_DIRECTORY | os.O_NOFOLLOW | os.O_CLOEXEC
 REACHING = os.O_PATH | os.O_NOFOLLOW | os.O_CLOEXEC
+# how many octets a file has at most that a record can be checked of (docs/LINES.md): one that is nearly all a hole says any number
+LONGEST = 1 << 40
 # how many octets a name of a file has at most where nobody says it, and a path (limits.h)
 LONGEST_NAME, LONGEST_PATH = 255, 4095
-# what stands behind the name of a record, at most, while the program writes it
-BESIDE = ".new99"
+# what stands behind the name of a record while the program writes it, the first that no file has; the last is the longest
+WRITTEN_AS = tuple(f".new{number}" for number in range(100))
+BESIDE = WRITTEN_AS[-1]
 # what a name is by which the program writes some record
 WRITING = re.compile(r".*\.ers\.new[0-9]{1,2}", re.DOTALL)
 TABLE = (
@@ -71,6 +75,8 @@ def summed(top: int, algorithm: str, name: str) -> Summed:
             found = os.fstat(reached)
             if not stat.S_ISREG(found.st_mode):
                 return Summed("", False, b"", "it is no regular file any more")
+            if found.st_size > LONGEST:
+                return Summed("", False, b"", f"it has more than {LONGEST} octets, and no record of it could be checked")
             reading = os.open(descriptors.path_of(reached), descriptors.READING)
         finally:
             os.close(reached)
@@ -137,6 +143,17 @@ class Terms(NamedTuple):
         if not isinstance(one, Summed) or not isinstance(one.mark, str) or not isinstance(one.fault, str):
             return False
         return bool(one.fault) or (isinstance(one.digest, bytes) and len(one.digest) == hashlib.new(self.algorithm).digest_size)
+
+
+def taken_beside(place: str) -> str:
+    """Why the program cannot write a record beside its place, "" if it can: whoever may put files there can take all names for it."""
+    is_taken = all(os.path.lexists(place + one) for one in WRITTEN_AS)
+    return f"all names by which it would be written are taken, up to that with {BESIDE} behind it" if is_taken else ""
+
+
+def said_taken(places: Iterable[str]) -> str:
+    """The first of these places beside which the program cannot write, as the end of a line, "" if there is none."""
+    return next((f"; {shown(place)}: {fault}" for place in places if (fault := taken_beside(place))), "")
 
 
 def line_of(name: str, digest: bytes) -> bytes:

@@ -167,22 +167,22 @@ def put_new(path: str, octets: Buffer) -> None:
     try:
         at = os.open(folder or ".", os.O_RDONLY | os.O_DIRECTORY | os.O_CLOEXEC)
         try:
-            put_in(at, path, name, octets)
+            put_in(at, name, octets)
         finally:
             os.close(at)
     except OSError as error:
         raise OSError(error.errno, error.strerror, path) from error
 
 
-def put_in(at: int, path: str, name: str, octets: Buffer) -> None:
-    """As `put_new`, in the folder with this descriptor."""
+def put_in(at: int, name: str, octets: Buffer) -> None:
+    """As `put_new`, in the folder with this descriptor, wherever its name leads by now."""
     new = ""
     try:
         descriptor = os.open(".", os.O_TMPFILE | WAYS, 0o666, dir_fd=at)
     except OSError as error:
         if error.errno not in NAMELESS:
             raise
-        descriptor, new = beside(path, None)
+        descriptor, new = beside(os.path.join(descriptors.path_of(at), name), None)
         os.fchmod(descriptor, 0o666 & ~mask())
     try:
         with memoryview(octets) as view:

@@ -4,7 +4,7 @@ be the same by their heads, so that a program that reads the file from its begin
 from __future__ import annotations
 
 import hashlib
-import io
+import os
 import re
 import stat
 import struct
@@ -18,12 +18,14 @@ from xml.parsers import expat
 from cmsproof.octets import Buffer
 from cmsproof_tools.containers.armour import decoded
 from cmsproof_tools.containers.ber import signed_in
-from cmsproof_tools.containers.keeping import LONGEST, bounded, inflated, kept, pieces_of
+from cmsproof_tools.containers.keeping import LONGEST, inflated, kept, pieces_of
 from cmsproof_tools.containers.refusals import Refused, refusing
 from cmsproof_tools.containers.twofold import LAST, ZIP_END, has, is_pdf
 from cmsproof_tools.found import Found, Unfound
 
 MOST_ENTRIES, LONGEST_MANIFEST, LONGEST_FILE, LONGEST_SIGNED = 10_000, 1 << 24, 4 << 30, 1 << 26
+# how many octets a directory may have: for them Python's zipfile takes ten times as many of memory, and at most some ten seconds
+LONGEST_DIRECTORY = 1 << 24
 # a zip file may become so many times longer, if it becomes longer than this
 TIMES, MUCH = 100, 256 << 20
 LONGEST_DIGEST = 1000
@@ -142,6 +144,33 @@ def descriptors_of(entry: zipfile.ZipInfo, head: Head) -> set[bytes]:
     return {b"PK\7\10" + octets} | ({octets} if head.method != zipfile.ZIP_STORED else set())
 
 
+class Reading:
+    """Octets as a file from which Python's zipfile reads the directory. It asks for all of that at once, wherever it found it: so one of more
+    octets than `longest` is refused before."""
+
+    def __init__(self, octets: memoryview, longest: int = LONGEST_DIRECTORY) -> None:
+        self.octets, self.longest, self.at = octets, longest, 0
+
+    def seek(self, to: int, whence: int = os.SEEK_SET) -> int:
+        """Goes to a place, as in an io.BytesIO: what is before the begin is that, or no place where it is counted from there."""
+        if to < 0 and whence == os.SEEK_SET:
+            raise ValueError("a place before the begin")
+        self.at = max(0, to + (0, self.at, len(self.octets))[whence])
+        return self.at
+
+    def tell(self) -> int:
+        """The place."""
+        return self.at
+
+    def read(self, count: int = -1) -> bytes:
+        """So many octets, or all that are left."""
+        end = len(self.octets) if count < 0 else min(self.at + count, len(self.octets))
+        if end - self.at > self.longest:
+            raise Refused("F4", f"a directory of more than {self.longest} octets")
+        found, self.at = bytes(self.octets[self.at : end]), max(self.at, end)
+        return found
+
+
 def check_places(octets: memoryview, found: zipfile.ZipFile) -> None:
     """Raises Refused unless the entries fill the file from its begin up to its directory, so that no other program sees other
     ones (APPNOTE.TXT 4.3): behind the octets of an entry only its descriptor may stand."""
@@ -247,8 +276,7 @@ class Archive:
     def __init__(self, octets: memoryview) -> None:
         if len(octets) > LONGEST_FILE:
             raise Refused("F4", f"a zip file of more than {LONGEST_FILE} octets")
-        with bounded(len(octets), 1):
-            self.zip = zipfile.ZipFile(io.BytesIO(octets))
+        self.zip = zipfile.ZipFile(Reading(octets))
         self.digests: dict[tuple[str, str], bytes] = {}
         self.whole: set[str] = set()
         self.entries = {entry.filename: entry for entry in self.zip.infolist() if not entry.is_dir()}

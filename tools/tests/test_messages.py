@@ -1,0 +1,97 @@
+"""Tests of what a user is told where a file is not what it was named as, and of how files count that are not signed."""
+import csv
+import json
+import os
+import time
+import unittest
+
+from making import REAL, TOP, as_nobody, folder_of, need_tools, run_tool
+
+need_tools()
+
+from cmsproof_tools.rows import STEP
+
+TRUST, FILES = REAL / "trust.txt", TOP / "crates" / "real_files" / "data"
+GOOD, BARE = (REAL / "rsa_attached_ts.p7s").read_bytes(), (REAL / "rsa_attached.p7s").read_bytes()
+
+
+class Unsigned(unittest.TestCase):
+    """Files that have no signature count by themselves; one that was meant as a signed file, and is none, is refused."""
+
+    # (the boundaries of a mail that lacks its signature are broken, and of an mbox each mail is a part)
+    BROKEN = b"MIME-Version: 1.0\nContent-Type: multipart/signed; boundary=b\n\n--b\n\nx\n--b--\n"
+    TABLE = (
+        ("text", "", b"a text\n", "refused F1 UnknownForm", "unsigned"),
+        ("mail", "", b"Subject: x\n\nhello\n", "refused F1 UnknownForm", "unsigned"),
+        ("encrypted", "", (FILES / "enveloped.p7m").read_bytes(), "refused C2 NotSignedData", "unsigned"),
+        ("bundle", "", (FILES / "no_signer.p7s").read_bytes(), "refused C3 NoSigner", "refused"),
+        ("unstamped", "", BARE, "refused signer 1 S10 NoToken", "refused"),
+        ("broken", "", BROKEN, "refused F3 Broken", "refused"),
+        ("box", "mail 1", b"From a b\nSubject: x\n\nhello\n", "refused F1 UnknownForm", "refused"),
+        ("cut", "", b"\x30", "malformed M1 End at 1", "malformed"),
+        ("good", "", GOOD, "accepted 20261122071759Z", "accepted"),
+    )
+    TOTALS = "1 accepted, 1 malformed, 4 refused, 3 unsigned"
+
+    def run_on(self, *words):
+        """What a run says: its lines, and the last one on standard error."""
+        _, out, told = run_tool("cmsproof-archive", "--trust", TRUST, "--state", "state", *words, cwd=self.folder)
+        return out.decode().splitlines(), told.splitlines()[-1].removeprefix("cmsproof-archive: ")
+
+    def report(self, *words):
+        """What a report says."""
+        return run_tool("cmsproof-archive", "report", "state", *words, cwd=self.folder)[1].decode()
+
+    def test_runs_and_reports(self):
+        self.folder = folder_of(self)
+        (self.folder / "files").mkdir()
+        for name, _, octets, _, _ in self.TABLE:
+            (self.folder / "files" / name).write_bytes(octets)
+        expected = {(f"files/{name}", part, line, verdict) for name, part, _, line, verdict in self.TABLE}
+        time.sleep(STEP / 1e9 + 0.1)
+        lines, told = self.run_on("--json", "files")
+        rows = [json.loads(line) for line in lines[:-1]]
+        self.assertEqual({(row["file"], row.get("part", ""), row["line"], row["verdict"]) for row in rows}, expected)
+        self.assertEqual(told, f"9 of 9 files: {self.TOTALS}")
+        self.assertEqual(self.run_on("files"), ([], f"0 files; 9 are as before: {self.TOTALS}"))
+        for verdict, count in (("unsigned", 3), ("refused", 4)):
+            lines, told = self.run_on("--recheck", "--only", verdict)
+            self.assertEqual((len(lines), told), (count, f"{count} of {count} files: {count} {verdict}"))
+        (self.folder / "known").write_text("F1 files/text\n")
+        _, told = self.run_on("--known", "known", "files")
+        self.assertEqual(told.partition("; 1 acknowledged")[2], "; new: 1 malformed, 4 refused, 2 unsigned")
+        rows = [json.loads(line) for line in self.report("--json", "-").splitlines()]
+        self.assertEqual({(row["file"], row["part"], row["line"], row["verdict"]) for row in rows}, expected)
+        rows = csv.DictReader(self.report("--csv", "-", "--only", "unsigned").splitlines())
+        self.assertEqual({row["file"] for row in rows}, {"files/text", "files/mail", "files/encrypted"})
+        page = self.report("--html", "-")
+        self.assertIn('<li class="unsigned"><strong>3</strong>unsigned, 33.3 %</li>', page)
+        self.assertIn('<li class="refused"><strong>4</strong>refused, 44.4 %</li>', page)
+        data = json.loads(page.partition('id="data">')[2].partition("</script>")[0])
+        counted = {(name, data["verdicts"][line]) for name, line, *_ in data["rows"]}
+        self.assertEqual(counted, {(" ".join(filter(None, [name, part])), verdict) for name, part, _, verdict in expected})
+
+
+class Unread(unittest.TestCase):
+    """What cannot be read has the system's reason: a file that is not there, a folder, and a file that may not be read."""
+
+    def assert_told(self, name, line, **who):
+        """Asserts that each tool ends with this line where it is to read what has this name."""
+        (self.folder / "list").write_text(f"{name}\n")
+        for file, *words in ([name, "--files-from", "list"], ["list", "--content", name, "list"]):
+            found = run_tool("cmsproof-archive", "--trust", TRUST, *words, cwd=self.folder, **who)
+            self.assertEqual(found, (4, f"{file}: {line}\n".encode(), ""))
+        for tool, *words in (["cmsproof-archive", "--trust", name, "x"], ["cmsproof-extract", name]):
+            self.assertEqual(run_tool(tool, *words, cwd=self.folder, **who), (4, b"", f"{tool}: {line}\n"))
+
+    def test_reasons(self):
+        self.folder = folder_of(self)
+        (self.folder / "folder").mkdir()
+        self.assert_told("none", "failed open none: No such file or directory")
+        self.assert_told("folder", "failed read folder: Is a directory")
+
+    def test_a_file_that_may_not_be_read(self):
+        who, self.folder = as_nobody(), folder_of(self)
+        (self.folder / "secret").write_bytes(GOOD)
+        os.chmod(self.folder, 0o777), os.chmod(self.folder / "secret", 0)
+        self.assert_told("secret", "failed open secret: Permission denied", **who)

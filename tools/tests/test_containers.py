@@ -283,7 +283,7 @@ class Extracting(WithMaker):
         status, rows, err = self.run_tool("cmsproof-extract", "archive/b.txt")
         self.assertEqual((status, rows[0]["line"], err), (1, "refused F1 UnknownForm", ""))
         status, rows, err = self.run_tool("cmsproof-extract", "archive/none")
-        self.assertEqual((status, rows, err), (4, [], "cmsproof-extract: failed open archive/none\n"))
+        self.assertEqual((status, rows, err), (4, [], "cmsproof-extract: failed open archive/none: No such file or directory\n"))
 
     def test_a_file_at_which_the_process_ends(self):
         """It has its line, with what of it was found before, and the files behind it have theirs. Nothing is written twice."""

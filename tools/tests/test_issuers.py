@@ -512,7 +512,7 @@ class Words(WithWorld):
         self.assertIn(f"\nsigner 20200101000000Z {AT} ".encode(), out)
         missing = str(w.folder / "missing")
         status, out, err = run_tool("cmsproof-trust", "--issuer", root, "--tsa-issuer", clocks, "--from-files", missing, file)
-        self.assertEqual((status, err, out.count(b"\nsigner ")), (4, f"cmsproof-trust: failed open {missing}\n", 1))
+        self.assertEqual((status, err, out.count(b"\nsigner ")), (4, f"cmsproof-trust: failed open {missing}: No such file or directory\n", 1))
 
     def test_archive(self):
         """The check under the list that is made says what the check under the list that is written says, and what the commands

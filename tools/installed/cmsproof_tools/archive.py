@@ -68,7 +68,7 @@ def contents_of(path: str) -> bytes:
         return descriptors.contents(path, Started.descriptors)
     except OSError as error:
         done = "read" if isinstance(error, IsADirectoryError) else "open"
-        raise Stop(FAILED, f"failed {done} {shown(path)}") from error
+        raise Stop(FAILED, f"failed {done} {shown(path)}: {error.strerror}") from error
     except descriptors.Unfit as error:
         raise Stop(FAILED, f"failed open {shown(path)}: {error}") from error
 

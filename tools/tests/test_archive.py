@@ -303,7 +303,7 @@ class Real(unittest.TestCase):
         """The status of the tool and the line of each file; standard error has this in it, or nothing."""
         words = ["--trust", trust, *words]
         status, out, err = run_tool("cmsproof-archive", *words, cwd=folder)
-        self.assertEqual((told in err, len(err.splitlines())), (True, 1 if told else 0), err)
+        self.assertEqual((told in err, len(err.splitlines())), (True, told.count("\n")), err)
         return status, [line.partition(": ")[::2] for line in out.decode().splitlines()]
 
     def test_the_files_of_the_repository(self):
@@ -364,7 +364,8 @@ class Real(unittest.TestCase):
             )
         (self.folder / "empty").write_bytes(b"")
         (self.folder / "folder").mkdir()
-        status, lines = self.archive("empty", "none", "folder", folder=self.folder, told="folder: no file is in it\n")
+        told = "folder: no file is in it\ncmsproof-archive: empty: it is empty\n"
+        status, lines = self.archive("empty", "none", "folder", folder=self.folder, told=told)
         expected = [("empty", "malformed M1 End at 0"), ("none", "failed open none: No such file or directory")]
         self.assertEqual((status, lines), (4, expected))
         status, lines = self.archive("rsa_detached_ts.p7s", "--content", "none")

@@ -122,7 +122,8 @@ class Descriptors(WithFiles):
             found = self.run_with(["--trust", "pipe", "a"], input=b"")
             self.assertEqual(found, (4, [], f"cmsproof-archive: failed open pipe: {NO_FILE}\n"))
         found = self.run_with([*words, "/dev/null", "folder"], input=b"")
-        self.assertEqual(found, (2, ["/dev/null: malformed M1 End at 0"], "cmsproof-archive: folder: no file is in it\n"))
+        told = "cmsproof-archive: folder: no file is in it\ncmsproof-archive: /dev/null: it is empty\n"
+        self.assertEqual(found, (2, ["/dev/null: malformed M1 End at 0"], told))
         found = self.run_with([*words, "--content", "/dev/null", self.detached("d")], input=b"")
         self.assertEqual(found, (1, [f"d: {DIFFERS}"], ""))
 

@@ -5,7 +5,7 @@ import os
 import time
 import unittest
 
-from making import REAL, TOP, as_nobody, folder_of, need_tools, run_tool
+from making import REAL, TOP, as_nobody, folder_of, need_tools, openssl, run_tool
 
 need_tools()
 
@@ -95,3 +95,58 @@ class Unread(unittest.TestCase):
         (self.folder / "secret").write_bytes(GOOD)
         os.chmod(self.folder, 0o777), os.chmod(self.folder / "secret", 0)
         self.assert_told("secret", "failed open secret: Permission denied", **who)
+
+
+class Instead(unittest.TestCase):
+    """What was named as a list, as questions, as a certificate or as what is known of revocations, and is something else: the line says what
+    it is, and has no words of the library's language."""
+
+    def assert_said(self, line, text, *words):
+        """Asserts that a tool ends with this line, in which this is said of the file."""
+        status, out, told = run_tool(*words, cwd=self.folder)
+        self.assertEqual((status, out, len(told.splitlines())), (2, b"", 1), told)
+        self.assertTrue(told.startswith(f"{words[0]}: file: {line}"), told)
+        self.assertIn(text, told[len(f"{words[0]}: file: {line}") :])
+        self.assertNotIn("ParseError", told)
+
+    def test_what_it_is(self):
+        self.folder = folder_of(self)
+        words = ["-x509", "-newkey", "rsa:2048", "-nodes", "-keyout", "key", "-out", "ca", "-subj", "/CN=A", "-days", "30"]
+        openssl("req", *words, cwd=self.folder)
+        openssl("pkcs12", "-export", "-inkey", "key", "-in", "ca", "-passout", "pass:x", "-out", "p12", cwd=self.folder)
+        damaged = bytearray((FILES / "cert_tsa.der").read_bytes())
+        damaged[damaged.index(b"\x17\x0d") + 2] ^= 0x55
+        no_list, no_questions = "trust L1 Version at line 1: ", "no questions text: the first line is not `cmsproof questions 1`; "
+        no_certificate, no_crl = "it is no certificate in PEM or DER: ", "it is no revocation list: "
+        no_response = "it is no response of OCSP: "
+        for octets, line, text in (
+            (b"", no_list, "it is empty; cmsproof-trust writes trust lists"),
+            (b"cmsproof answers 1\n", no_list, "it looks like an answers list of cmsproof"),
+            (b"cmsproof questions 1\n", no_list, "it looks like a questions text of cmsproof"),
+            ((self.folder / "ca").read_bytes(), no_list, "it looks like a certificate in PEM: cmsproof-trust lists it"),
+            (GOOD, no_list, "it looks like CMS, as a signed file"),
+            (b"", no_questions, "it is empty"),
+            (b"cmsproof answers 1\n", no_questions, "it looks like an answers list of cmsproof"),
+            (TRUST.read_bytes(), no_questions, "it looks like a trust list of cmsproof"),
+            (b"", no_certificate, "it is empty"),
+            ((self.folder / "p12").read_bytes(), no_certificate, "it looks like a file of PKCS #12"),
+            (GOOD, no_certificate, "it looks like CMS, as a signed file"),
+            ((REAL / "bc_attached_default.p7s").read_bytes(), no_certificate, "it looks like CMS, as a signed file"),
+            (bytes(damaged), no_certificate, "its ASN.1 cannot be read (InvalidValue at Time::UtcTime)"),
+            (b"", no_crl, "it is empty"),
+            ((FILES / "cert_tsa.der").read_bytes(), no_crl, "it is a certificate"),
+            (GOOD, no_crl, "it looks like CMS, as a signed file, and each FILE behind --crl is a list"),
+            ((self.folder / "p12").read_bytes(), no_response, "it looks like a file of PKCS #12"),
+            (GOOD, no_response, "it looks like CMS, as a signed file"),
+        ):
+            (self.folder / "file").write_bytes(octets)
+            issuer = ["cmsproof-trust", "--issuer", "ca", "--from-files", "x"]
+            for words in {
+                no_list: [["cmsproof-archive", "--trust", "file", "x"], ["cmsproof-trust", "--explain", "file"]],
+                no_questions: [["cmsproof-verify", "file"]],
+                no_certificate: [["cmsproof-trust", "--signer", "file"], ["cmsproof-archive", "--issuer", "file", "x"]],
+                no_crl: [[*issuer, "--crl", "file"], ["cmsproof-archive", "--issuer", "ca", "--crl", "file", "x"]],
+                no_response: [[*issuer, "--ocsp", "file"]],
+            }[line]:
+                with self.subTest(line=line, text=text, words=words):
+                    self.assert_said(line, text, *words)

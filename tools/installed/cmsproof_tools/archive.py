@@ -16,6 +16,7 @@ from cmsproof_tools.checking import Unread, Work, content_named, outcomes_of, ou
 from cmsproof_tools.descriptors import path_of
 from cmsproof_tools.evidenced import Records, records_in
 from cmsproof_tools.issuer_words import asked_of, names_issuers
+from cmsproof_tools.listing import no_list
 from cmsproof_tools.outcomes import json_lines, lost, named, text_lines
 from cmsproof_tools.pairs import USUAL, Pairs, check_ends, rows_of_all
 from cmsproof_tools.progress import Progress
@@ -87,8 +88,7 @@ def trust_list(path: str, explain: bool) -> TrustList:
     try:
         return TrustList(octets)
     except ListRefused as error:
-        more = f". {module('cures').said_of(error.code)}" if explain else ""
-        raise Stop(MALFORMED, f"{shown(path)}: {error}{more}") from error
+        raise no_list(path, octets, error, f". {module('cures').said_of(error.code)}" if explain else "") from error
     except ImportError as error:
         raise Stop(FAILED, str(error)) from error
 

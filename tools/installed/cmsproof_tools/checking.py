@@ -218,7 +218,8 @@ def explained(work: Work, outcome: Outcome, found: Found) -> Outcome:
         is_malformed = outcome.status == MALFORMED
         # (of a record in BER nothing helps that helps a signed file)
         is_other = is_malformed and found.kind == RECORD and found.signed[:2] != b"\x30\x80"
-        if is_other or (outcome.status in (MALFORMED, REFUSED) and found.kind == "signed"):
+        is_empty = is_malformed and not len(found.signed)
+        if is_other or is_empty or (outcome.status in (MALFORMED, REFUSED) and found.kind == "signed"):
             from cmsproof_tools.kinds import kind_of_signed
 
             outcome = outcome._replace(kind=kind_of_signed(found.signed, is_malformed))

@@ -8,7 +8,7 @@ from pathlib import Path as Place
 from typing import Callable, Iterable, Iterator
 
 from cmsproof import TrustList
-from cmsproof_tools.certificates import Certificate, certificates_in
+from cmsproof_tools.certificates import Certificate, certificates_in, reason_of
 from cmsproof_tools.checking import Unread, opened
 from cmsproof_tools.descriptors import number_named
 from cmsproof_tools.finding import found_apart, found_in
@@ -16,6 +16,7 @@ from cmsproof_tools.found import Found
 from cmsproof_tools.issuer_words import Asked
 from cmsproof_tools.issuers import Entry, Growing, Trusted
 from cmsproof_tools.paths import Judge, OpenSSL, Statuses, private_folder
+from cmsproof_tools.kinds import CMS_BEGINS, OCSP, kind_instead
 from cmsproof_tools.listing import HEAD, JUDGED, warnings_of
 from cmsproof_tools.outcomes import called
 from cmsproof_tools.periods import Period
@@ -28,6 +29,8 @@ from cmsproof_tools.stamping import tokens_beside
 from cmsproof_tools.workers import Workers
 
 Told = Callable[[str], None]
+# what is said of CMS in the place of a revocation list
+SIGNED_INSTEAD = "it looks like CMS, as a signed file, and each FILE behind --crl is a list"
 # after how many files the next ones are looked at by several processes; then after twice as many more each time
 FIRST = 256
 
@@ -63,15 +66,19 @@ def revocation_of(asked: Asked, revocation: Revocation, told: Told) -> Revocatio
     if not asked.lists and not asked.folders and not asked.responses:
         return None
     for path in asked.lists:
+        octets = read(path)
         try:
-            revocation.add_list(path, read(path))
+            revocation.add_list(path, octets)
         except ValueError as error:
-            raise Stop(MALFORMED, f"{shown(path)}: it is no revocation list: {error}") from error
+            kind = SIGNED_INSTEAD if CMS_BEGINS.match(octets) else "" if b"-----BEGIN " in octets else kind_instead(octets)
+            raise Stop(MALFORMED, f"{shown(path)}: it is no revocation list: {kind or error}") from error
     for path in asked.responses:
+        octets = read(path)
         try:
-            revocation.responses.append(Response(path, read(path)))
+            revocation.responses.append(Response(path, octets))
         except ValueError as error:
-            raise Stop(MALFORMED, f"{shown(path)}: it is no response of OCSP: {error}") from error
+            kind = "" if OCSP.match(octets) else kind_instead(octets)
+            raise Stop(MALFORMED, f"{shown(path)}: it is no response of OCSP: {kind or reason_of(error)}") from error
     for folder in asked.folders:
         add_folder(revocation, folder, told)
     return revocation

@@ -22,7 +22,7 @@ from typing import Any, Callable, Iterable, Iterator, NamedTuple, Optional
 from cryptography import x509
 
 from cmsproof_tools import der
-from cmsproof_tools.certificates import Certificate, certificates_in, name_key, octets_in, others_beside, parts_of
+from cmsproof_tools.certificates import Certificate, certificates_in, name_key, octets_in, others_beside, parts_of, reason_of
 from cmsproof_tools.paths import Broken, OpenSSL, Path, Row
 from cmsproof_tools.periods import OPEN, Period, just_before, moment_of, utc
 from cmsproof_tools.running import shown
@@ -96,8 +96,8 @@ class RevocationList:
 
     def __init__(self, name: str, octets: bytes) -> None:
         der.only(der.SEQUENCE, octets)
-        self.name, self.octets, self.signed = shown(name), octets, signed_in(octets)
-        self.read = x509.load_der_x509_crl(octets)
+        self.name, self.octets, self.read = shown(name), octets, x509.load_der_x509_crl(octets)
+        self.signed = signed_in(octets)
         self.this, self.next = time_of(self.read, "last_update"), time_of(self.read, "next_update")
         self.issuer = name_key(self.read.issuer.rfc4514_string())
         self.extensions = {extension.oid.dotted_string: extension for extension in self.read.extensions}
@@ -306,7 +306,7 @@ class Revocation:
             except Broken as fault:
                 self.told(str(fault))
             except Exception as error:  # the library has a word of its own for each fault of a list
-                raise ValueError(str(error)) from error
+                raise ValueError(reason_of(error)) from error
 
     def known(self, row: Row) -> Iterator[Known]:
         """What is known of the first certificate of a path, by lists and responses that hold; a line for each that does not."""

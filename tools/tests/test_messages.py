@@ -4,8 +4,10 @@ import json
 import os
 import time
 import unittest
+from base64 import encodebytes
 
-from making import REAL, TOP, as_nobody, folder_of, need_tools, openssl, run_tool
+from issuing_world import World, h, pem
+from making import REAL, TOP, as_nobody, element, folder_of, need_tools, openssl, run_tool
 
 need_tools()
 
@@ -150,3 +152,103 @@ class Instead(unittest.TestCase):
             }[line]:
                 with self.subTest(line=line, text=text, words=words):
                     self.assert_said(line, text, *words)
+
+
+class Issuers(unittest.TestCase):
+    """What is said where issuers are named, or one stands in the place of a signer."""
+
+    def setUp(self):
+        self.world = world = World(folder_of(self))
+        for name in ("root", "clocks", "sub", "anna", "clock"):
+            world.put(name, getattr(world, name))
+        world.put("letter", world.file())
+        self.damaged = world.anna.octets.replace(b"\x17\x0d20", b"\x17\x0d2x", 1)
+        self.issuers = ["--issuer", "root", "--tsa-issuer", "clocks"]
+
+    def run_in(self, tool, *words):
+        """What a tool says in the folder, without the way to its help."""
+        status, out, told = run_tool(tool, *words, cwd=self.world.folder)
+        return status, out, [line.removeprefix(f"{tool}: ").removesuffix(f" (see {tool} --help)") for line in told.splitlines()]
+
+    def test_a_certificate_that_cannot_be_read_is_left_out(self):
+        self.world.put("letter", self.world.file(between=[]))
+        fault = "its ASN.1 cannot be read (InvalidValue at Time::UtcTime): it is left out"
+        block = b"-----BEGIN CERTIFICATE-----\n%s-----END CERTIFICATE-----\n" % encodebytes(self.damaged)
+        for octets, more, told in (
+            (pem(self.world.sub) + block, [], [f"between: certificate 2 is none: {fault}"]),
+            (self.damaged, ["sub"], [f"between: it is no certificate in PEM or DER: {fault}"]),
+        ):
+            self.world.put("between", octets)
+            words = [*self.issuers, "--intermediate", "between", *more, "--from-files", "letter"]
+            status, out, found = self.run_in("cmsproof-trust", *words)
+            self.assertEqual((status, out.count(b"\nsigner "), found), (0, 1, told))
+        # (whom a user trusts is read, or nobody is trusted)
+        for words in (["--issuer", "between", *self.issuers[2:]], [*self.issuers, "--intermediate", "letter"]):
+            self.assertEqual(self.run_in("cmsproof-trust", *words, "--from-files", "letter")[:2], (2, b""))
+
+    def test_lists_behind_one_another(self):
+        """cmsproof-trust takes several behind one word, and cmsproof-archive, to which they are signed files, none without its word."""
+        world, octets = self.world, h.revocation_list(self.world.root)
+        world.put("a.crl", octets), world.put("b.crl", octets), world.put("c.ocsp", h.response(world.anna, world.sub))
+        world.put("d.crl", b"-----BEGIN X509 CRL-----\n%s-----END X509 CRL-----\n" % encodebytes(octets))
+        # (an answer that was granted with changes has the beginning of such a list, but for a name of CMS)
+        world.put("mods", element(0x30, element(0x30, element(2, b"\1")), (FILES / "rsa_attached.1.tok").read_bytes()))
+        other = "{} is a {}, and would be checked as a signed file: --crl and --ocsp are said before each one".format
+        for words, told in (
+            (["--crl", "a.crl", "b.crl", "letter"], other("b.crl", "revocation list")),
+            (["--crl=a.crl", "letter", "d.crl"], other("d.crl", "revocation list")),
+            (["--ocsp", "c.ocsp", "letter", "b.crl"], other("b.crl", "revocation list")),
+            (["--crl", "a.crl", "c.ocsp"], other("c.ocsp", "response of OCSP")),
+            (["--crl", "a.crl", "--crl", "b.crl", "letter"], None),
+            (["--crl", "a.crl", "letter", "mods", "none"], None),
+            (["--crl", "a.crl", "--", "b.crl", "letter"], None),
+            (["letter", "b.crl", "--crl", "a.crl"], None),
+        ):
+            status, out, found = self.run_in("cmsproof-archive", *self.issuers, *words)
+            if told is None:
+                self.assertEqual((status == 3, b"letter: " in out), (False, True), (words, found))
+            else:
+                self.assertEqual((status, out, found), (3, b"", [told]))
+        words = [*self.issuers, "--from-files", "letter", "--crl", "a.crl"]
+        self.assertIn(self.run_in("cmsproof-trust", *words, "b.crl", "d.crl")[0], (0, 1))
+        status, out, (told,) = self.run_in("cmsproof-trust", *words, "letter")
+        self.assertEqual((status, out, told.startswith("letter: it is no revocation list: ")), (2, b"", True))
+
+    def test_a_list_without_an_entry_is_none(self):
+        none = "no certificate of these files gets an entry: no list is written"
+        (self.world.folder / "folder").mkdir()
+        for issuers, file, status, first in (
+            (self.issuers, "folder", 4, "failed read folder: Is a directory"),
+            (self.issuers, "missing", 4, "failed open missing: No such file or directory"),
+            (["--issuer", "clocks", "--tsa-issuer", "root"], "letter", 1, "letter: no path for CN=Clock"),
+            (self.issuers, "root", 1, "root: it is no SignedData in DER: no entry"),
+        ):
+            found, out, told = self.run_in("cmsproof-trust", *issuers, "--from-files", file)
+            self.assertEqual((found, out, told[-1], told[0][: len(first)]), (status, b"", none, first))
+        found, out, told = self.run_in("cmsproof-trust", *self.issuers, "--from-files", "folder", "letter")
+        self.assertEqual((found, out.count(b"\nsigner "), told), (4, 1, ["failed read folder: Is a directory"]))
+
+    def test_many_lists_of_strangers(self):
+        strangers = [h.revocation_list(h.root("Clocks")) for _ in range(6)]
+        _, told = self.world.made([self.world.file()], lists=[*strangers[:3], *strangers])
+        lines = [line for line in told if "not a list of" in line]
+        self.assertEqual(len(lines), 4, told)
+        self.assertTrue(all(": not a list of CN=Clocks,O=cmsproof: " in line for line in lines[:3]))
+        more = "6 more lines as `not a list of` above: lists that have the name of an issuer and are not that one's"
+        self.assertEqual(lines[3], more)
+        _, told = self.world.made([self.world.file()], lists=strangers[:3])
+        self.assertEqual(len([line for line in told if "not a list of" in line]), 3)
+
+    def test_an_issuer_in_the_place_of_whom_it_issued(self):
+        """The cure is to name the issuer by its word; without one the list has nothing of who is named."""
+        for role, other, text, word in (
+            ("sub", "clock", "is the issuer of the signer that is named", "--issuer"),
+            ("anna", "clocks", "is the issuer of the tsa that is named", "--tsa-issuer"),
+            ("clocks", "clock", "no signer of the list is the one that is named", None),
+        ):
+            status, out, _ = self.run_in("cmsproof-trust", "--signer", role, "--tsa", other)
+            (self.world.folder / "list").write_bytes(out)
+            status, out, _ = self.run_in("cmsproof-archive", "--explain", "--trust", "list", "letter")
+            line, explanation = out.decode().splitlines()
+            self.assertEqual((status, text in explanation), (1, True), explanation)
+            self.assertEqual(f"name the issuer by {word} of" in explanation, word is not None, explanation)

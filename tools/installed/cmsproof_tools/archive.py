@@ -216,6 +216,14 @@ def directly_in(folder: str) -> list[str]:
         return []
 
 
+def check_behind(parser: Words, names: list[str]) -> None:
+    """Ends the tool where one of these files, which stand behind a revocation list or a response and would be checked as signed files, is
+    another one: what it revokes would not count."""
+    for name in names:
+        if kind := module("revocation").known_at(name):
+            parser.error(f"{shown(name)} is {kind}, and would be checked as a signed file: --crl and --ocsp are said before each one")
+
+
 def check_outputs(parser: Words, given: argparse.Namespace, names: list[str], pairs: Pairs, records: Records | None) -> None:
     """Ends the tool where a file that is to be written is one that is read. (A list may take the place of the one that it grew from.)"""
     if given.write_trust is not None and given.write_trust in names:
@@ -305,6 +313,7 @@ def judged(tool: str, given: Any, parser: Words) -> int:
     """Checks the files that the words name, and answers the tool's exit status."""
     # (what a person wrote is read first, so that a mistake in it costs no time)
     known = None if given.known is None else module("known").Known(given.known)
+    check_behind(parser, given.behind)
     # A missing library ends the tool here, and not in a worker.
     module("verifying")
     if not os.path.isdir(path_of("")):

@@ -259,8 +259,9 @@ def reason_of(error: Exception) -> str:
     return text if found is None else f"its ASN.1 cannot be read ({' at '.join([found[1], *QUOTED.findall(text)[-1:]])})"
 
 
-def certificates_in(octets: bytes) -> list[Certificate]:
-    """The certificates of a file: one in DER, or all that are there in PEM. Raises ValueError, with a line, where none is."""
+def certificates_in(octets: bytes, left_out: Callable[[str], None] | None = None) -> list[Certificate]:
+    """The certificates of a file: one in DER, or all that are there in PEM. Raises ValueError, with a line, where none is; of one that cannot
+    be read, `left_out` is called with that line instead."""
     alone = certificate_in_der(octets)
     if alone is not None:
         # (which OpenSSL 3.0 shows in place of this one)
@@ -275,10 +276,15 @@ def certificates_in(octets: bytes) -> list[Certificate]:
     found = []
     for number, block in enumerate(blocks or [octets], start=1):
         try:
-            found.append(Certificate(octets_in(block) if blocks else octets))
+            certificate = Certificate(octets_in(block) if blocks else octets)
+            certificate.validity()
+            found.append(certificate)
         except ValueError as error:
             what = f"certificate {number} is none" if blocks else "it is no certificate in PEM or DER"
-            raise ValueError(f"{what}: {reason_of(error)}") from error
+            line = f"{what}: {reason_of(error)}"
+            if left_out is None or not (blocks or BEGINS.match(octets)):
+                raise ValueError(line) from error
+            left_out(line)
     if blocks and len(BEGIN.findall(octets)) > len(blocks):
         raise ValueError("another certificate begins in it, which is not read here, but is elsewhere")
     if blocks and others_beside(around, may_be_certificate):

@@ -222,7 +222,8 @@ ROWS = (
         "S7 UnknownSigner",
         "the list has no `signer` that it names; or if a token passes, none that is also valid and in its "
         "period at that time",
-        COMPARED.format("signature", "signer") + ". It is never a time-stamping authority's",
+        COMPARED.format("signature", "signer")
+        + ". It is never a time-stamping authority's, nor an issuer's, of whom `--issuer` of `cmsproof-trust` lists those to whom he issued",
     ),
     Row(
         "5",

@@ -43,6 +43,14 @@ def certificates_of(path: str) -> list[Certificate]:
         raise Stop(MALFORMED, f"{shown(path)}: {error}") from error
 
 
+def intermediates_of(path: str, told: Told) -> list[Certificate]:
+    """The certificates of a file that may be part of a path; each that cannot be read is left out, with a line."""
+    try:
+        return certificates_in(read(path), lambda line: told(f"{shown(path)}: {line}: it is left out"))
+    except ValueError as error:
+        raise Stop(MALFORMED, f"{shown(path)}: {error}") from error
+
+
 def issuers_of(paths: Iterable[str], several: bool) -> list[tuple[Certificate, Period]]:
     """The issuers in these files, one in each. Ends the tool where one is none."""
     found = []
@@ -167,7 +175,7 @@ def trusted_by(asked: Asked, lists: list[TrustedList], told: Told) -> Iterator[T
         openssl = OpenSSL(folder)
         issuers = [*issuers_of(asked.issuers, asked.several), *services_of(lists, False)]
         tsa_issuers = [*issuers_of(asked.tsa_issuers, asked.several), *services_of(lists, True)]
-        between = tuple(found for path in asked.between for found in certificates_of(path))
+        between = tuple(found for path in asked.between for found in intermediates_of(path, told))
         judges = (
             Judge(openssl, issuers, asked.sha1, statuses_of(lists, False)),
             Judge(openssl, tsa_issuers, asked.sha1, statuses_of(lists, True)),
@@ -294,6 +302,8 @@ def list_text(
             jobs,
             asked.stamps,
         )
+        if trusted.revocation is not None:
+            trusted.revocation.tell_rest()
         text = "".join(line + "\n" for line in lines_of(head_of(trusted, lists), entries)).encode("utf-8", "surrogateescape")
     if len(TrustList(text)) != len(entries):
         raise Stop(FAILED, "the list that was made is not read as it was meant")

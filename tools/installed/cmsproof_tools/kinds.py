@@ -69,8 +69,8 @@ BUNDLE = (
     "a bundle of certificates or revocation lists, which nobody signed (PKCS #7 without signers): openssl pkcs7 -inform DER -in FILE "
     "-print_certs lists it"
 )
-# how other files in DER begin: behind the first header (X.690 8.1); a SignedData by its version and digestAlgorithms (RFC 5652 5.1), a private
-# key by its version and an algorithm, a modulus, or the octets of the key (RFC 5958 2, 8017 A.1.2, 5915 3)
+# how other files in DER begin: behind the first header (X.690 8.1); a SignedData by its version and digestAlgorithms (RFC 5652 5.1), a
+# private key by its version and an algorithm, a modulus, or the octets of the key (RFC 5958 2, 8017 A.1.2, 5915 3)
 LENGTH = rb"(?:[\x00-\x7f]|\x81.|\x82..|\x83...|\x84....)"
 HEADER = rb"\A\x30" + LENGTH
 SIGNED = HEADER + rb"\x02\x01[\x01\x03-\x05]\x31(?:\x00|" + LENGTH + rb"\x30" + LENGTH + rb"\x06)"
@@ -79,7 +79,8 @@ OCSP = re.compile(HEADER + rb"\x0a\x01", re.DOTALL)
 OTHERS = [
     (
         re.compile(HEADER + rb"\x02\x01\x03\x30", re.DOTALL),
-        "a file of PKCS #12, with a key: whoever signs needs it, and nobody who checks; openssl pkcs12 -nokeys -in FILE writes its certificates",
+        "a file of PKCS #12, with a key: whoever signs needs it, and nobody who checks; openssl pkcs12 -nokeys -in FILE writes its "
+        "certificates",
     ),
     (
         re.compile(SIGNED, re.DOTALL),

@@ -14,6 +14,7 @@ from __future__ import annotations
 
 import base64
 import hashlib
+import os
 import re
 import textwrap
 from datetime import datetime
@@ -23,6 +24,8 @@ from cryptography import x509
 
 from cmsproof_tools import der
 from cmsproof_tools.certificates import Certificate, certificates_in, name_key, octets_in, others_beside, parts_of, reason_of
+from cmsproof_tools.descriptors import AT_ONCE
+from cmsproof_tools.kinds import BEGINNING, HEADER, LENGTH, OCSP
 from cmsproof_tools.paths import Broken, OpenSSL, Path, Row
 from cmsproof_tools.periods import OPEN, Period, just_before, moment_of, utc
 from cmsproof_tools.running import shown
@@ -32,10 +35,16 @@ from cmsproof_tools.texts import in_order, time_in
 # where a list may begin, also by a label that nobody reads here (RFC 7468 6)
 BEGIN = re.compile(rb"-----BEGIN [^\n-]*CRL *-----")
 BLOCK = re.compile(rb"-----BEGIN X509 CRL-----"), re.compile(rb"-----END X509 CRL-----")
+# how a list in DER begins: its version, if it says one, and its algorithm (RFC 5280 5.1), which is not the name of a kind of CMS
+LIST_BEGINS = re.compile(
+    HEADER + rb"\x30" + LENGTH + rb"(?:\x02\x01\x01)?\x30" + LENGTH + rb"\x06(?!\x09\x2a\x86\x48\x86\xf7\x0d\x01\x07)", re.DOTALL
+)
 DELTA, EXPIRED_ON_LIST, DISTRIBUTION, CERTIFICATE_ISSUER = "2.5.29.27", "2.5.29.60", "2.5.29.28", "2.5.29.29"
 DISTRIBUTION_POINTS, POINT_NAME = "2.5.29.31", 0xA0
 # what a list counts for that OpenSSL does not take
 REVOKES, STRANGE = "what it revokes counts all the same", "if another key of it signed it, name that by --intermediate"
+# how many lines are told of lists that are not those of an issuer of their name
+MOST_TOLD = 3
 # critical ones that OpenSSL knows: the issuing distribution point, and who issued the list
 KNOWN = (DISTRIBUTION, "2.5.29.35", "2.5.29.20")
 # the reasons for which stamps of earlier times stay good (RFC 3161 4)
@@ -241,6 +250,22 @@ def is_list(octets: bytes) -> bool:
         return False
 
 
+def known_at(name: str) -> str:
+    """What a regular file of this name is, if it is a revocation list or a response of OCSP by its first octets, or else no text."""
+    try:
+        if not os.path.isfile(name):
+            return ""
+        reading = os.open(name, AT_ONCE)
+        try:
+            octets = os.read(reading, BEGINNING)
+        finally:
+            os.close(reading)
+    except (OSError, ValueError):
+        return ""
+    is_crl = begins_in(octets) or LIST_BEGINS.match(octets)
+    return "a revocation list" if is_crl else "a response of OCSP" if OCSP.match(octets) else ""
+
+
 def is_element(octets: bytes) -> bool:
     """Whether octets are one SEQUENCE in DER."""
     try:
@@ -287,6 +312,8 @@ class Revocation:
         self.trusted, self.between = list(trusted), list(between)
         self.lists: list[RevocationList] = []
         self.responses: list[Any] = []
+        # the lines about lists that are not those of an issuer of their name
+        self.strange: set[str] = set()
 
     def about(self) -> Iterator[str]:
         """What is given, for a reader."""
@@ -332,11 +359,22 @@ class Revocation:
         fault = found.partial or found.fault(self.openssl, row)
         weak, held = is_weak(found.signed.algorithm, self.sha1), not fault or self.is_of(found, row)
         if fault and not (found.partial and held):
-            self.told(f"{found.name}: not a list of {row[1].name_text('subject')}: {fault}; {REVOKES if held else STRANGE}")
+            self.tell_strange(f"{found.name}: not a list of {row[1].name_text('subject')}: {fault}; {REVOKES if held else STRANGE}")
         elif weak:
             self.told(f"{found.name}: signed by SHA-1, or by an algorithm that is not known: only what it revokes counts")
         if held:
             yield from found.known(row[0], not fault and not weak)
+
+    def tell_strange(self, line: str) -> None:
+        """Tells of a list that is not of an issuer of its name: of the first ones, for each path can meet each list."""
+        if line not in self.strange and len(self.strange) < MOST_TOLD:
+            self.told(line)
+        self.strange.add(line)
+
+    def tell_rest(self) -> None:
+        """Tells how many lines `tell_strange` left out."""
+        if (count := len(self.strange) - MOST_TOLD) > 0:
+            self.told(f"{count} more lines as `not a list of` above: lists that have the name of an issuer and are not that one's")
 
     def is_of(self, found: RevocationList, row: Row) -> bool:
         """Whether a list is signed by the issuer of the first certificate of a path, by any of its keys."""

@@ -100,8 +100,8 @@ class Unread(unittest.TestCase):
 
 
 class Instead(unittest.TestCase):
-    """What was named as a list, as questions, as a certificate or as what is known of revocations, and is something else: the line says what
-    it is, and has no words of the library's language."""
+    """What was named as a list, as questions, as a certificate or as what is known of revocations, and is something else: the line says
+    what it is, and has no words of the library's language."""
 
     def assert_said(self, line, text, *words):
         """Asserts that a tool ends with this line, in which this is said of the file."""
@@ -152,6 +152,17 @@ class Instead(unittest.TestCase):
             }[line]:
                 with self.subTest(line=line, text=text, words=words):
                     self.assert_said(line, text, *words)
+
+    def test_an_empty_file(self):
+        """The checker says that it ends (M1), and the tools that it is empty; there is nothing in it to be written."""
+        folder = folder_of(self)
+        (folder / "empty").write_bytes(b"")
+        found = run_tool("cmsproof-archive", "--trust", TRUST, "empty", cwd=folder)
+        self.assertEqual(found, (2, b"empty: malformed M1 End at 0\n", "cmsproof-archive: empty: it is empty\n"))
+        status, out, told = run_tool("cmsproof-extract", "empty", cwd=folder)
+        said = json.loads(out)
+        self.assertEqual((status, said["line"], said["reason"], told), (1, "refused F1 UnknownForm", "it is empty", ""))
+        self.assertEqual([path.name for path in folder.iterdir()], ["empty"])
 
 
 class Issuers(unittest.TestCase):

@@ -118,7 +118,8 @@ class Instead(unittest.TestCase):
         openssl("pkcs12", "-export", "-inkey", "key", "-in", "ca", "-passout", "pass:x", "-out", "p12", cwd=self.folder)
         damaged = bytearray((FILES / "cert_tsa.der").read_bytes())
         damaged[damaged.index(b"\x17\x0d") + 2] ^= 0x55
-        no_list, no_questions = "trust L1 Version at line 1: ", "no questions text: the first line is not `cmsproof questions 1`; "
+        no_list = "trust L1 Version at line 1: "
+        no_questions = "no questions text: the first line is not `cmsproof questions 1`; "
         no_certificate, no_crl = "it is no certificate in PEM or DER: ", "it is no revocation list: "
         no_response = "it is no response of OCSP: "
         for octets, line, text in (
@@ -245,7 +246,7 @@ class Issuers(unittest.TestCase):
         lines = [line for line in told if "not a list of" in line]
         self.assertEqual(len(lines), 4, told)
         self.assertTrue(all(": not a list of CN=Clocks,O=cmsproof: " in line for line in lines[:3]))
-        more = "6 more lines as `not a list of` above: lists that have the name of an issuer and are not that one's"
+        more = "6 more lines as `not a list of` above: lists with the name of an issuer that are not that one's"
         self.assertEqual(lines[3], more)
         _, told = self.world.made([self.world.file()], lists=strangers[:3])
         self.assertEqual(len([line for line in told if "not a list of" in line]), 3)

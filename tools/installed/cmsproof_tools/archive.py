@@ -221,7 +221,8 @@ def check_behind(parser: Words, names: list[str]) -> None:
     another one: what it revokes would not count."""
     for name in names:
         if kind := module("revocation").known_at(name):
-            parser.error(f"{shown(name)} is {kind}, and would be checked as a signed file: --crl and --ocsp are said before each one")
+            checked_as = "would be checked as a signed file: --crl and --ocsp are said before each one"
+            parser.error(f"{shown(name)} is {kind}, and {checked_as}")
 
 
 def check_outputs(parser: Words, given: argparse.Namespace, names: list[str], pairs: Pairs, records: Records | None) -> None:

@@ -192,7 +192,8 @@ def of_certificate(trusted: bytes, role: str, sid: der.Element, times: list[str]
     said = "the time in its token is " if len(times) == 1 else "the times in its tokens are "
     stamped = said + " and ".join(times) if times else "no time in a token can be read"
     if not listed and (issuer := issuer_among(entries, sid)) is not None:
-        return f"{entry_text(*issuer)}, is the issuer of the {role} that is named ({sid_text(sid)}), {stamped}. Cure: {CURES[f'{code} of an issuer']}"
+        named, cure = f"the issuer of the {role} that is named ({sid_text(sid)})", CURES[f"{code} of an issuer"]
+        return f"{entry_text(*issuer)}, is {named}, {stamped}. Cure: {cure}"
     if not listed:
         cure = CURES[f"{code} by issuers" if is_by_issuers(trusted) else code]
         return f"no {role} of the list is the one that is named ({sid_text(sid)}), {stamped}. Cure: {cure}"

@@ -37,7 +37,7 @@ KINDS = [
     (MAIL, "a mail, S/MIME: " + CMS.format("SMIME")),
     (re.compile(rb"\AM[A-Za-z0-9+/\s]{60,}"), "base64: openssl base64 -d -in FILE -out FILE.der decodes it"),
     (re.compile(rb"\Acmsproof trust [0-9]"), "a trust list of cmsproof, which --trust names"),
-    (re.compile(rb"\Acmsproof questions [0-9]"), "a questions text of cmsproof: cmsproof-verify writes the answers list for it"),
+    (re.compile(rb"\Acmsproof questions [0-9]"), "a questions text of cmsproof: cmsproof-verify writes answers for it"),
     (re.compile(rb"\Acmsproof answers [0-9]"), "an answers list of cmsproof, which cmsproof check --answers names"),
     (re.compile(rb"\AMZ"), "a program of Windows: " + AUTHENTICODE),
     (re.compile(rb"\AMSCF"), "a cabinet of Windows: " + AUTHENTICODE),

@@ -36,9 +36,8 @@ from cmsproof_tools.texts import in_order, time_in
 BEGIN = re.compile(rb"-----BEGIN [^\n-]*CRL *-----")
 BLOCK = re.compile(rb"-----BEGIN X509 CRL-----"), re.compile(rb"-----END X509 CRL-----")
 # how a list in DER begins: its version, if it says one, and its algorithm (RFC 5280 5.1), which is not the name of a kind of CMS
-LIST_BEGINS = re.compile(
-    HEADER + rb"\x30" + LENGTH + rb"(?:\x02\x01\x01)?\x30" + LENGTH + rb"\x06(?!\x09\x2a\x86\x48\x86\xf7\x0d\x01\x07)", re.DOTALL
-)
+NO_CMS = rb"(?!\x09\x2a\x86\x48\x86\xf7\x0d\x01\x07)"
+LIST_BEGINS = re.compile(HEADER + rb"\x30" + LENGTH + rb"(?:\x02\x01\x01)?\x30" + LENGTH + rb"\x06" + NO_CMS, re.DOTALL)
 DELTA, EXPIRED_ON_LIST, DISTRIBUTION, CERTIFICATE_ISSUER = "2.5.29.27", "2.5.29.60", "2.5.29.28", "2.5.29.29"
 DISTRIBUTION_POINTS, POINT_NAME = "2.5.29.31", 0xA0
 # what a list counts for that OpenSSL does not take
@@ -359,7 +358,8 @@ class Revocation:
         fault = found.partial or found.fault(self.openssl, row)
         weak, held = is_weak(found.signed.algorithm, self.sha1), not fault or self.is_of(found, row)
         if fault and not (found.partial and held):
-            self.tell_strange(f"{found.name}: not a list of {row[1].name_text('subject')}: {fault}; {REVOKES if held else STRANGE}")
+            more = REVOKES if held else STRANGE
+            self.tell_strange(f"{found.name}: not a list of {row[1].name_text('subject')}: {fault}; {more}")
         elif weak:
             self.told(f"{found.name}: signed by SHA-1, or by an algorithm that is not known: only what it revokes counts")
         if held:
@@ -374,7 +374,7 @@ class Revocation:
     def tell_rest(self) -> None:
         """Tells how many lines `tell_strange` left out."""
         if (count := len(self.strange) - MOST_TOLD) > 0:
-            self.told(f"{count} more lines as `not a list of` above: lists that have the name of an issuer and are not that one's")
+            self.told(f"{count} more lines as `not a list of` above: lists with the name of an issuer that are not that one's")
 
     def is_of(self, found: RevocationList, row: Row) -> bool:
         """Whether a list is signed by the issuer of the first certificate of a path, by any of its keys."""

@@ -34,7 +34,8 @@ A line on standard error warns of an authority's certificate that is not for tim
 refuses the tokens under it, and of one that is an issuer's.
 
 Exit status: 0 done; 1 a file has several certificates, or one that is no issuer's, two lists differ, two trusted lists are of one
-territory, or nobody gets an entry, and no list is written; 2 a file does not have the form of what it was named as; 3 wrong words; 4 a file, a library or OpenSSL failed.
+territory, or nobody gets an entry, and no list is written; 2 a file does not have the form of what it was named as; 3 wrong words;
+4 a file, a library or OpenSSL failed.
 """
 # the words about lists, each of which is said alone
 LISTS = {"explain", "diff", "merge"}

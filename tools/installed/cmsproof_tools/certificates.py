@@ -12,7 +12,7 @@ from cryptography import x509
 from cryptography.utils import CryptographyDeprecationWarning
 
 from cmsproof_tools import der
-from cmsproof_tools.kinds import kind_instead
+from cmsproof_tools.kinds import CERTIFICATE, kind_instead
 from cmsproof_tools.periods import Period
 from cmsproof_tools.running import one_line
 
@@ -271,7 +271,9 @@ def certificates_in(octets: bytes, left_out: Callable[[str], None] | None = None
     blocks, around = parts_of(octets, BLOCK)
     if not blocks and b"-----BEGIN " in octets:
         raise ValueError("no certificate is in it, but other PEM")
-    if not blocks and not BEGINS.match(octets) and (kind := kind_instead(octets)):
+    kind = "" if blocks else kind_instead(octets)
+    is_meant = bool(blocks) or BEGINS.match(octets) is not None or kind == CERTIFICATE
+    if kind and not is_meant:
         raise ValueError(f"it is no certificate in PEM or DER: {kind}")
     found = []
     for number, block in enumerate(blocks or [octets], start=1):
@@ -282,7 +284,7 @@ def certificates_in(octets: bytes, left_out: Callable[[str], None] | None = None
         except ValueError as error:
             what = f"certificate {number} is none" if blocks else "it is no certificate in PEM or DER"
             line = f"{what}: {reason_of(error)}"
-            if left_out is None or not (blocks or BEGINS.match(octets)):
+            if left_out is None or not is_meant:
                 raise ValueError(line) from error
             left_out(line)
     if blocks and len(BEGIN.findall(octets)) > len(blocks):

@@ -88,7 +88,8 @@ class Judge(Vouching):
 
 def unread(name: str, error: OSError) -> Unread:
     """The line of a file that cannot be read, with the reason."""
-    return Unread("read", name, str(error).removeprefix(f"{name}: ") if isinstance(error, Changed) else error.strerror or "")
+    changed = isinstance(error, Changed)
+    return Unread("read", name, str(error).removeprefix(f"{name}: ") if changed else error.strerror or "")
 
 
 def file_at(descriptor: int, name: str, found: Union[os.stat_result, None] = None) -> File:
@@ -128,7 +129,7 @@ def check_unchanged(file: File) -> None:
 
 def unopened(name: str, error: Exception) -> Unread:
     """The line of a file that cannot be opened, with the reason."""
-    return Unread("open", name, error.strerror or "" if isinstance(error, OSError) else str(error))
+    return Unread("open", name, (error.strerror or "") if isinstance(error, OSError) else str(error))
 
 
 def content_named(name: str) -> Union[File, Unread]:

@@ -95,7 +95,7 @@ CMS_INSTEAD = (
     "it looks like CMS, as a signed file or a bundle of certificates: openssl cms -verify -noverify -signer takes out the certificate under "
     "which the signature verifies, openssl pkcs7 -print_certs those of a bundle"
 )
-EMPTY = "it is empty"
+EMPTY, CERTIFICATE = "it is empty", f"it is {SHOWN['certificate']}"
 
 
 def says_stamp(kind: str) -> bool:

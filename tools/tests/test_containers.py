@@ -352,7 +352,8 @@ class Apart(WithMaker):
         words = ["-x509", "-newkey", "ec", "-pkeyopt", "ec_paramgen_curve:P-256", "-nodes", "-keyout", "/dev/null"]
         openssl("req", *words, "-subj", "/CN=a", "-out", self.folder / "ca.pem")
         status, told, out = self.said("trust", "--issuer", "ca.pem", "--from-files", "archive/time.pdf", "archive/killed.pdf")
-        self.assertEqual((status, len(told), out[:17]), (0, 1, "cmsproof trust 2\n"), told)
+        # (nobody gets an entry: no list is written)
+        self.assertEqual((status, len(told), out), (1, 2, ""), told)
         self.assertRegex(told[0], "^cmsproof-trust: archive/time.pdf: refused F4 TooLarge: .*: it is not looked at$")
 
 

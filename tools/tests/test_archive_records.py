@@ -147,7 +147,8 @@ class Places(WithFolder):
         )
         status, lines, err = self.run_archive("files")
         self.assertEqual((status, [line.split(" ")[2] for line in lines]), (2, ["malformed"] * 4))
-        for name, what in (("a", "it is a time-stamp token"), ("b", "it is a certificate"), ("c", "it looks like a PDF")):
+        kinds = ("a", "it is a time-stamp token"), ("b", "it is a certificate"), ("c", "it looks like a PDF"), ("d", "it is empty")
+        for name, what in kinds:
             self.assertIn(f"files/{name} {name}.ers: {what}", err)
 
     def test_names_that_are_given(self):

@@ -102,7 +102,7 @@ _cmsproof_values() {
     'cmsproof-archive --files-from') echo files ;;
     'cmsproof-archive --state') echo files ;;
     'cmsproof-archive --since') echo '' ;;
-    'cmsproof-archive --only') echo 'accepted stamped evidenced refused malformed failed' ;;
+    'cmsproof-archive --only') echo 'accepted stamped evidenced unsigned refused malformed failed' ;;
     'cmsproof-archive --known') echo files ;;
     'cmsproof-archive --dask') echo '' ;;
     'cmsproof-archive --log') echo files ;;
@@ -130,7 +130,7 @@ _cmsproof_values() {
     'cmsproof-archive report --known') echo files ;;
     'cmsproof-archive report --records') echo files ;;
     'cmsproof-archive report --under') echo files ;;
-    'cmsproof-archive report --only') echo 'accepted stamped evidenced refused malformed failed' ;;
+    'cmsproof-archive report --only') echo 'accepted stamped evidenced unsigned refused malformed failed' ;;
     'cmsproof-archive evidence --trust') echo files ;;
     'cmsproof-archive evidence --content') echo files ;;
     'cmsproof-archive evidence --record') echo files ;;

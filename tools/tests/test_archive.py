@@ -45,7 +45,7 @@ class Lines(WithFiles):
 
     def test_a_line_for_each_file_and_the_worst_status(self):
         self.file("a"), self.file("r", REFUSED), self.file("m", MALFORMED)
-        line = {"a": ACCEPTED, "r": REFUSED, "m": MALFORMED, "f": "failed open f"}
+        line = {"a": ACCEPTED, "r": REFUSED, "m": MALFORMED, "f": "failed open f: No such file or directory"}
         rows = {
             "a": 0,
             "r": 1,
@@ -128,7 +128,7 @@ class Lines(WithFiles):
             (1, "refused signer 1 token 1 K1 M5 Overrun at 0", {"verdict": "refused", "signer": 1, "token": 1, "code": "K1"}),
             (1, "refused signer 1 token 1 K5 S6 DigestDiffers", {"verdict": "refused", "signer": 1, "token": 1, "code": "K5"}),
             (2, MALFORMED, {"verdict": "malformed", "code": "M1"}),
-            (4, "failed open a file", {"verdict": "failed"}),
+            (4, "failed open a file: Permission denied", {"verdict": "failed"}),
             (4, "failed X1 ReadFailed", {"verdict": "failed", "code": "X1"}),
             (4, "failed memory", {"verdict": "failed"}),
         ]
@@ -303,7 +303,7 @@ class Real(unittest.TestCase):
         """The status of the tool and the line of each file; standard error has this in it, or nothing."""
         words = ["--trust", trust, *words]
         status, out, err = run_tool("cmsproof-archive", *words, cwd=folder)
-        self.assertEqual((told in err, len(err.splitlines())), (True, 1 if told else 0), err)
+        self.assertEqual((told in err, len(err.splitlines())), (True, told.count("\n")), err)
         return status, [line.partition(": ")[::2] for line in out.decode().splitlines()]
 
     def test_the_files_of_the_repository(self):
@@ -355,7 +355,7 @@ class Real(unittest.TestCase):
         rows = [
             ("list", 2, "list: trust L1 Version at line 1"),
             ("line", 2, "line: trust L2 Line at line 3"),
-            ("none", 4, "failed open none"),
+            ("none", 4, "failed open none: No such file or directory"),
         ]
         for trust, status, line in rows:
             words = ["--trust", trust, REAL / "noattr.p7s"]
@@ -364,11 +364,12 @@ class Real(unittest.TestCase):
             )
         (self.folder / "empty").write_bytes(b"")
         (self.folder / "folder").mkdir()
-        status, lines = self.archive("empty", "none", "folder", folder=self.folder, told="folder: no file is in it\n")
-        expected = [("empty", "malformed M1 End at 0"), ("none", "failed open none")]
+        told = "folder: no file is in it\ncmsproof-archive: empty: it is empty\n"
+        status, lines = self.archive("empty", "none", "folder", folder=self.folder, told=told)
+        expected = [("empty", "malformed M1 End at 0"), ("none", "failed open none: No such file or directory")]
         self.assertEqual((status, lines), (4, expected))
         status, lines = self.archive("rsa_detached_ts.p7s", "--content", "none")
-        self.assertEqual((status, lines), (4, [("rsa_detached_ts.p7s", "failed open none")]))
+        self.assertEqual((status, lines), (4, [("rsa_detached_ts.p7s", "failed open none: No such file or directory")]))
 
 
 STAMPS = """[tsa]

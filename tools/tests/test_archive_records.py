@@ -147,7 +147,8 @@ class Places(WithFolder):
         )
         status, lines, err = self.run_archive("files")
         self.assertEqual((status, [line.split(" ")[2] for line in lines]), (2, ["malformed"] * 4))
-        for name, what in (("a", "it is a time-stamp token"), ("b", "it is a certificate"), ("c", "it looks like a PDF")):
+        kinds = ("a", "it is a time-stamp token"), ("b", "it is a certificate"), ("c", "it looks like a PDF"), ("d", "it is empty")
+        for name, what in kinds:
             self.assertIn(f"files/{name} {name}.ers: {what}", err)
 
     def test_names_that_are_given(self):
@@ -162,7 +163,7 @@ class Places(WithFolder):
             (["records/files/a.ers", "files/a"], [a]),
             (["records/files/b/d.ers"], ["records/files/b/d.ers: refused chain 1 stamp 1 W4 K9 ImprintDiffers"]),
             (["records/files/moved.ers"], ["records/files/moved.ers: refused F17 RecordAlone"]),
-            (["records/files/none.ers"], ["records/files/none.ers: failed open records/files/none.ers"]),
+            (["records/files/none.ers"], ["records/files/none.ers: failed open records/files/none.ers: No such file or directory"]),
             (["list"], ["list: refused F16 NoRecord"]),
             (["../" + self.folder.name + "/files/a"], [f"../{self.folder.name}/files/a: {EVIDENCED}"]),
         ):
@@ -255,7 +256,7 @@ class Places(WithFolder):
         self.put_with("a"), self.put_with("b")
         os.chmod(self.folder, 0o777), os.chmod(self.folder / "records" / "files" / "a.ers", 0)
         time.sleep(STEP)
-        expected = ["files/a a.ers: failed open records/files/a.ers"]
+        expected = ["files/a a.ers: failed open records/files/a.ers: Permission denied"]
         for more in ([f"files/b: {EVIDENCED}"], []):
             status, lines, _ = self.run_archive("--state", "state", "files", **who)
             self.assertEqual((status, lines), (4, [*expected, *more]))
@@ -263,7 +264,7 @@ class Places(WithFolder):
     def test_a_record_that_is_out_of_reach(self):
         """Where nobody can say whether there is one, the file fails, and is judged again."""
         self.put_with("a"), self.put_with("b"), time.sleep(STEP)
-        lines_of = {"EIO": "files/a a.ers: failed open records/files/a.ers", "ENOENT": "files/a: refused F16 NoRecord"}
+        lines_of = {"EIO": "files/a a.ers: failed open records/files/a.ers: away", "ENOENT": "files/a: refused F16 NoRecord"}
         for error, line in lines_of.items():
             away = (
                 "import errno\n"

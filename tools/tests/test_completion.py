@@ -90,7 +90,7 @@ class Offered:
     def test_values(self):
         text = " ".join(help_of(PROGRAM, "request", "--help").split())
         digests = set(re.search(r"--alg\W.*?\[possible values: (.*?)\]", text)[1].split(", "))
-        verdicts = {"accepted", "stamped", "evidenced", "refused", "malformed", "failed"}
+        verdicts = {"accepted", "stamped", "evidenced", "unsigned", "refused", "malformed", "failed"}
         table = [
             ("cmsproof show ", {"evidence", "request", "response", "signed", "tst"}),
             ("cmsproof stamp ", {"check", "questions"}),

@@ -283,7 +283,7 @@ class Extracting(WithMaker):
         status, rows, err = self.run_tool("cmsproof-extract", "archive/b.txt")
         self.assertEqual((status, rows[0]["line"], err), (1, "refused F1 UnknownForm", ""))
         status, rows, err = self.run_tool("cmsproof-extract", "archive/none")
-        self.assertEqual((status, rows, err), (4, [], "cmsproof-extract: failed open archive/none\n"))
+        self.assertEqual((status, rows, err), (4, [], "cmsproof-extract: failed open archive/none: No such file or directory\n"))
 
     def test_a_file_at_which_the_process_ends(self):
         """It has its line, with what of it was found before, and the files behind it have theirs. Nothing is written twice."""
@@ -352,7 +352,8 @@ class Apart(WithMaker):
         words = ["-x509", "-newkey", "ec", "-pkeyopt", "ec_paramgen_curve:P-256", "-nodes", "-keyout", "/dev/null"]
         openssl("req", *words, "-subj", "/CN=a", "-out", self.folder / "ca.pem")
         status, told, out = self.said("trust", "--issuer", "ca.pem", "--from-files", "archive/time.pdf", "archive/killed.pdf")
-        self.assertEqual((status, len(told), out[:17]), (0, 1, "cmsproof trust 2\n"), told)
+        # (nobody gets an entry: no list is written)
+        self.assertEqual((status, len(told), out), (1, 2, ""), told)
         self.assertRegex(told[0], "^cmsproof-trust: archive/time.pdf: refused F4 TooLarge: .*: it is not looked at$")
 
 

@@ -246,7 +246,7 @@ class Listed(WithRecords):
         self.assertEqual(self.due(by=["--help"])[0], 0)
         # without one of these words it is a file of this name, as it was
         status, lines, _ = self.due("due", by=[], tool=("cmsproof-archive",))
-        self.assertEqual((status, lines), (4, ["due: failed open due"]))
+        self.assertEqual((status, lines), (4, ["due: failed open due: No such file or directory"]))
         self.put("due", GOOD)
         status, lines, _ = self.due("./due", tool=("cmsproof-archive", "due"))
         self.assertEqual((status, lines), (0, []))
@@ -302,7 +302,7 @@ class Named(WithRecords):
         self.assertEqual(self.due("records/b.ers")[:2], (0, []))
         expected = "due now records/c.ers: failed open records/c.ers: it is no regular file"
         self.assertEqual(self.due("records/c.ers", timeout=60)[:2], (4, [expected]))
-        self.assertEqual(self.due("none.ers")[:2], (4, ["due now none.ers: failed open none.ers"]))
+        self.assertEqual(self.due("none.ers")[:2], (4, ["due now none.ers: failed open none.ers: No such file or directory"]))
 
     def test_names_of_a_stranger(self):
         """No name makes a line of its own, or ends one as another does."""
@@ -323,7 +323,7 @@ class Named(WithRecords):
         os.chmod(self.folder, 0o755), os.chmod(self.folder / "records" / "a.ers", 0), os.chmod(self.folder / "records" / "b", 0)
         status, lines, _ = self.due("records", **who)
         os.chmod(self.folder / "records" / "b", 0o755)
-        expected = ["due now records/a.ers: failed open records/a.ers", "due now records/b: failed read records/b"]
+        expected = ["due now records/a.ers: failed open records/a.ers: Permission denied", "due now records/b: failed read records/b"]
         self.assertEqual((status, lines[0], lines[2:]), (4, expected[0], [f"due now records/d.ers: {UNKNOWN}"]))
         self.assertTrue(lines[1].startswith("due now records/b: failed "), lines)
 

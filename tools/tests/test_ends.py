@@ -169,7 +169,7 @@ class Descriptors(WithFiles):
             (">&-", ["a", "r"], (4, "", closed)),
             ("<&-", ["a", "r"], (1, lines, "")),
             ("<&-", ["-"], (4, "", "cmsproof-archive: failed read -: Bad file descriptor\n")),
-            ("<&-", ["/dev/stdin"], (4, "/dev/stdin: failed open /dev/stdin\n", "")),
+            ("<&-", ["/dev/stdin"], (4, "/dev/stdin: failed open /dev/stdin: No such file or directory\n", "")),
             ("<&- >&- 2>&-", ["a", "r"], (4, "", "")),
             (">&- 2>&-", ["a"], (4, "", "")),
             ("<&- 2>&-", ["a"], (0, f"a: {ACCEPTED}\n", "")),

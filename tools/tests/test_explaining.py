@@ -152,7 +152,9 @@ class Kinds(WithFiles):
         found["a mail"] = b"Return-Path: <a@example.org>\nX-A: b\n\tc\nReceived: from b\nMIME-Version: 1.0\n\n"
         found["a file of OpenPGP"] = b"-----BEGIN PGP SIGNATURE-----\n"
         found["a certificate in PEM"] = keys.certificate("P-256").read_bytes()
-        found["a list of cmsproof"] = b"cmsproof trust 2\n"
+        found["a trust list of cmsproof"] = b"cmsproof trust 2\n"
+        found["a questions text of cmsproof"] = b"cmsproof questions 1\n"
+        found["an answers list of cmsproof"] = b"cmsproof answers 1\n"
         found["BER, with open lengths: openssl cms -cmsout -inform DER"] = (REAL / "bc_attached_default.p7s").read_bytes()
         found["PEM, but neither CMS"] = openssl("genpkey", "-algorithm", "ED25519")
         return found

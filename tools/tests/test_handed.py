@@ -89,17 +89,17 @@ class Descriptors(WithFiles):
         for number in range(3, 40):
             for path in (f"/dev/fd/{number}", f"/proc/self/fd/{number}"):
                 if number % 7 == 3 or path.startswith("/dev"):
-                    self.assertEqual(self.run_archive(path), (4, [f"{path}: failed open {path}"], ""))
+                    self.assertEqual(self.run_archive(path), (4, [f"{path}: failed open {path}: No such file or directory"], ""))
         # (of so many digits Python makes no number)
         for path in ("/dev/fd/" + "1" * 5000, "/dev/" + "9" * 5000):
             found = self.run_archive(path, self.file("b"))
-            self.assertEqual(found, (4, [f"{path}: failed open {path}", f"b: {ACCEPTED}"], ""))
+            self.assertEqual(found, (4, [f"{path}: failed open {path}: File name too long", f"b: {ACCEPTED}"], ""))
         found = self.run_archive("--content", "/dev/fd/3", "a")
-        self.assertEqual(found, (4, ["a: failed open /dev/fd/3"], ""))
+        self.assertEqual(found, (4, ["a: failed open /dev/fd/3: No such file or directory"], ""))
         found = self.run_archive("--files-from", "/dev/fd/3")
         self.assertEqual(found, (4, [], "cmsproof-archive: failed open /dev/fd/3: No such file or directory\n"))
         found = run_tool("cmsproof-archive", "--trust", "/dev/fd/3", "a", cwd=self.folder)
-        self.assertEqual(found, (4, b"", "cmsproof-archive: failed open /dev/fd/3\n"))
+        self.assertEqual(found, (4, b"", "cmsproof-archive: failed open /dev/fd/3: No such file or directory\n"))
 
     def test_what_is_no_regular_file(self):
         self.file("a")
@@ -118,11 +118,12 @@ class Descriptors(WithFiles):
             found = self.run_with([*words, "--content", "pipe", "a"], input=b"")
             self.assertEqual(found, (4, [f"a: failed open pipe: {NO_FILE}"], ""))
             found = self.run_with([*words, "--content", "folder", "a"], input=b"")
-            self.assertEqual(found, (4, ["a: failed read folder"], ""))
+            self.assertEqual(found, (4, ["a: failed read folder: Is a directory"], ""))
             found = self.run_with(["--trust", "pipe", "a"], input=b"")
             self.assertEqual(found, (4, [], f"cmsproof-archive: failed open pipe: {NO_FILE}\n"))
         found = self.run_with([*words, "/dev/null", "folder"], input=b"")
-        self.assertEqual(found, (2, ["/dev/null: malformed M1 End at 0"], "cmsproof-archive: folder: no file is in it\n"))
+        told = "cmsproof-archive: folder: no file is in it\ncmsproof-archive: /dev/null: it is empty\n"
+        self.assertEqual(found, (2, ["/dev/null: malformed M1 End at 0"], told))
         found = self.run_with([*words, "--content", "/dev/null", self.detached("d")], input=b"")
         self.assertEqual(found, (1, [f"d: {DIFFERS}"], ""))
 
@@ -229,7 +230,7 @@ class Names(WithFiles):
         for words, said, names in rows:
             found = self.run_archive(*words, "-", said=said)
             if names is None:
-                self.assertEqual(found, (4, ["a\\r: failed open a\\r", f"b: {ACCEPTED}"], ""))
+                self.assertEqual(found, (4, ["a\\r: failed open a\\r: No such file or directory", f"b: {ACCEPTED}"], ""))
             else:
                 self.assertEqual(found, (0, [f"{name}: {ACCEPTED}" for name in names], ""), said)
         (self.folder / "names").write_bytes(b"a\0b\0")

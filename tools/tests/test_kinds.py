@@ -83,8 +83,11 @@ class Alone(unittest.TestCase):
                 real("rsa_attached.p7s"), kind, element(0x30, element(2, b"\1"))
             )
         yield "", real("rsa_attached.p7s")
+        for words in (["rsa", "-traditional"], ["pkey"]):
+            yield "it looks like a private key", openssl(words[0], *words[1:], "-in", keys.private("rsa"), "-outform", "DER")
+        yield "it looks like a SignedData without the ContentInfo", der.elements(der.only(real("two_attached_ts.p7s")).body())[1].body()
         yield "", b"\x30\x03\x02\x01\x05"
-        yield "", b""
+        yield "it is empty", b""
 
     def test_kinds(self):
         for text, octets in self.rows():

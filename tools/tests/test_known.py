@@ -316,11 +316,11 @@ class Several(unittest.TestCase):
         self.assertEqual(lines.count(b"\n"), 7)
         texts, first, second = "F1 text\nF1 mail\n", "S10 one.pem block 1\nS1 one.pem block 2\n", "S10 two.pem block 1\n"
         for text, status, told, said in (
-            ("", 1, ["text", "mail"], "0 acknowledged; new: 4 refused"),
-            ("F1 text\n", 1, ["mail"], "1 acknowledged; new: 3 refused"),
+            ("", 1, ["text", "mail"], "0 acknowledged; new: 2 refused, 2 unsigned"),
+            ("F1 text\n", 1, ["mail"], "1 acknowledged; new: 2 refused, 1 unsigned"),
             (texts + first, 1, [], "3 acknowledged; new: 1 refused"),
             (texts + first + second, 1, [], "3 acknowledged; new: 1 refused"),
-            (first + second + "S1 two.pem block 2\n", 1, ["text", "mail"], "2 acknowledged; new: 2 refused"),
+            (first + second + "S1 two.pem block 2\n", 1, ["text", "mail"], "2 acknowledged; new: 2 unsigned"),
             (texts + first + second + "S1 two.pem block 2\n", 5, [], "4 acknowledged; new: none"),
         ):
             (folder / "known").write_text(text)

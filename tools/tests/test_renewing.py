@@ -177,7 +177,7 @@ class Renewed(WithRecords):
         self.assert_nothing_done(0)
         # without these words it is a file of this name, as it was
         status, out, _ = run_tool("cmsproof-archive", "renew", "--trust", "list", cwd=self.folder)
-        self.assertEqual((status, out), (4, b"renew: failed open renew\n"))
+        self.assertEqual((status, out), (4, b"renew: failed open renew: No such file or directory\n"))
 
     def test_a_state_beside_the_records(self):
         """Without a word the state stands beside the records, by their name."""
@@ -356,7 +356,7 @@ class Left(WithRecords):
         status, lines, err = self.renew(**who)
         self.assertEqual(status, 4, err)
         reason = "it may not be replaced"
-        last = "due now records/e.ers: failed open records/e.ers"
+        last = "due now records/e.ers: failed open records/e.ers: Permission denied"
         self.assertEqual(lines, [*(f"due {LATER} records/{name}.ers: {reason}" for name in ("a", "b/c.tif", "b/d")), last])
         self.assertEqual(len(self.authority.asked), 0)
 

@@ -258,7 +258,7 @@ class Stamped(WithAuthority):
         self.assert_nothing_made(0)
         # without these words it is a file of this name, as it was
         status, out, _ = run_tool("cmsproof-archive", "stamp", "--trust", "list", cwd=self.folder)
-        self.assertEqual((status, out), (4, b"stamp: failed open stamp\n"))
+        self.assertEqual((status, out), (4, b"stamp: failed open stamp: No such file or directory\n"))
 
     def beside(self, folder, *words, into, state, status=0, cwd="", count=4):
         """A run without words for the places of what is made, or with some, has it in these."""

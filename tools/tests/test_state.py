@@ -245,13 +245,13 @@ class Again(unittest.TestCase):
 
     def test_a_content_that_cannot_be_read_is_not_none(self):
         found = self.again(GOOD, "--content", "none")
-        self.assertEqual(found, (4, {}, "cmsproof-archive: failed open none\n"))
+        self.assertEqual(found, (4, {}, "cmsproof-archive: failed open none: No such file or directory\n"))
 
     def test_a_file_that_is_gone_is_never_as_before(self):
-        self.assertEqual(self.again("gone.p7s")[:2], (4, {"gone.p7s": "failed open gone.p7s"}))
-        self.assertEqual(self.again("gone.p7s")[:2], (4, {"gone.p7s": "failed open gone.p7s"}))
+        self.assertEqual(self.again("gone.p7s")[:2], (4, {"gone.p7s": "failed open gone.p7s: No such file or directory"}))
+        self.assertEqual(self.again("gone.p7s")[:2], (4, {"gone.p7s": "failed open gone.p7s: No such file or directory"}))
         (self.made / "moved").unlink()
-        self.assertEqual(self.again("moved")[:2], (4, {"moved": "failed open moved"}))
+        self.assertEqual(self.again("moved")[:2], (4, {"moved": "failed open moved: No such file or directory"}))
 
     @unittest.skipUnless(PROGRAM.exists(), "the program is not built")
     def test_the_program_says_the_line_of_each_row(self):

@@ -507,9 +507,9 @@ class Texts(unittest.TestCase):
         other = "cmsproof-verify: -: line {} is no question: five fields in hexadecimal, with a space between two\n".format
         head, good = "cmsproof questions 1\n", self.good
         rows = [
-            ("", first),
+            ("", first.replace("\n", "; it is empty\n")),
             ("\n" + head, first),
-            ("cmsproof answers 1\n", first),
+            ("cmsproof questions\n", first),
             ("cmsproof questions 10\n", first),
             ("cmsproof questions 1 \n", first),
             ("cmsproof questions 1\r\r\n", first),

@@ -16,6 +16,7 @@ from cmsproof_tools.checking import Unread, Work, content_named, outcomes_of, ou
 from cmsproof_tools.descriptors import path_of
 from cmsproof_tools.evidenced import Records, records_in
 from cmsproof_tools.issuer_words import asked_of, names_issuers
+from cmsproof_tools.listing import no_list
 from cmsproof_tools.outcomes import json_lines, lost, named, text_lines
 from cmsproof_tools.pairs import USUAL, Pairs, check_ends, rows_of_all
 from cmsproof_tools.progress import Progress
@@ -68,7 +69,7 @@ def contents_of(path: str) -> bytes:
         return descriptors.contents(path, Started.descriptors)
     except OSError as error:
         done = "read" if isinstance(error, IsADirectoryError) else "open"
-        raise Stop(FAILED, f"failed {done} {shown(path)}") from error
+        raise Stop(FAILED, f"failed {done} {shown(path)}: {error.strerror}") from error
     except descriptors.Unfit as error:
         raise Stop(FAILED, f"failed open {shown(path)}: {error}") from error
 
@@ -87,8 +88,7 @@ def trust_list(path: str, explain: bool) -> TrustList:
     try:
         return TrustList(octets)
     except ListRefused as error:
-        more = f". {module('cures').said_of(error.code)}" if explain else ""
-        raise Stop(MALFORMED, f"{shown(path)}: {error}{more}") from error
+        raise no_list(path, octets, error, f". {module('cures').said_of(error.code)}" if explain else "") from error
     except ImportError as error:
         raise Stop(FAILED, str(error)) from error
 
@@ -216,6 +216,15 @@ def directly_in(folder: str) -> list[str]:
         return []
 
 
+def check_behind(parser: Words, names: list[str]) -> None:
+    """Ends the tool where one of these files, which stand behind a revocation list or a response and would be checked as signed files, is
+    another one: what it revokes would not count."""
+    for name in names:
+        if kind := module("revocation").known_at(name):
+            checked_as = "would be checked as a signed file: --crl and --ocsp are said before each one"
+            parser.error(f"{shown(name)} is {kind}, and {checked_as}")
+
+
 def check_outputs(parser: Words, given: argparse.Namespace, names: list[str], pairs: Pairs, records: Records | None) -> None:
     """Ends the tool where a file that is to be written is one that is read. (A list may take the place of the one that it grew from.)"""
     if given.write_trust is not None and given.write_trust in names:
@@ -305,6 +314,7 @@ def judged(tool: str, given: Any, parser: Words) -> int:
     """Checks the files that the words name, and answers the tool's exit status."""
     # (what a person wrote is read first, so that a mistake in it costs no time)
     known = None if given.known is None else module("known").Known(given.known)
+    check_behind(parser, given.behind)
     # A missing library ends the tool here, and not in a worker.
     module("verifying")
     if not os.path.isdir(path_of("")):

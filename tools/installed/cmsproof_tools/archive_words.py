@@ -5,7 +5,7 @@ import argparse
 import importlib
 import os
 
-from cmsproof_tools.issuer_words import add_words, goes_with_issuers, names_issuers
+from cmsproof_tools.issuer_words import add_words, behind, goes_with_issuers, names_issuers
 from cmsproof_tools.pairs import ending_of
 from cmsproof_tools.running import VERDICTS, Words
 from cmsproof_tools.texts import is_moment
@@ -219,4 +219,5 @@ def main(tool: str, words: list[str]) -> int:
     given = parser.parse_args(words)
     check_words(parser, given)
     check_issuers(parser, given)
+    given.behind = behind(words, ("--crl", "--ocsp"))
     return int(importlib.import_module("cmsproof_tools.archive").judged(tool, given, parser))

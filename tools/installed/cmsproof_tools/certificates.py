@@ -12,7 +12,7 @@ from cryptography import x509
 from cryptography.utils import CryptographyDeprecationWarning
 
 from cmsproof_tools import der
-from cmsproof_tools.kinds import BEGINNING, kind_of
+from cmsproof_tools.kinds import CERTIFICATE, kind_instead
 from cmsproof_tools.periods import Period
 from cmsproof_tools.running import one_line
 
@@ -31,6 +31,8 @@ ANY, NO_TEXT = re.compile(rb"-----([^-]*)-----END "), re.compile(rb"[\x01-\x08\x
 # how a certificate of version 2 or 3 begins, also in BER, which Java reads: two sequences, and the version (X.690 8.1.3)
 LENGTH = rb"(?:[\x00-\x80]|\x81.|\x82..|\x83...|\x84....)"
 BEGINS = re.compile(b"\x30" + LENGTH + b"\x30" + LENGTH + b"\xa0", re.DOTALL)
+# what the library says of ASN.1 that it cannot read, and the names of the parts that it says
+ASN_1, QUOTED = re.compile(r"error parsing asn1 value: ParseError \{ kind: (\w+)"), re.compile(r'"([^"]*)"')
 # how a SignedData begins (RFC 5652 3, 5.1), which brings certificates and lists along
 SIGNED_DATA = re.compile(b"\x30" + LENGTH + re.escape(bytes.fromhex("06092a864886f70d010702")), re.DOTALL)
 EXTENSIONS, TRUE, FALSE, VERSION, KEY_IDENTIFIER = 0xA3, b"\xff", b"\0", 0xA0, 0x80
@@ -250,8 +252,16 @@ def certificate_in_der(octets: bytes) -> Certificate | None:
         return None
 
 
-def certificates_in(octets: bytes) -> list[Certificate]:
-    """The certificates of a file: one in DER, or all that are there in PEM. Raises ValueError, with a line, where none is."""
+def reason_of(error: Exception) -> str:
+    """Why the library reads no certificate, list or response, without the words of the language that it is written in."""
+    text = str(error)
+    found = ASN_1.match(text)
+    return text if found is None else f"its ASN.1 cannot be read ({' at '.join([found[1], *QUOTED.findall(text)[-1:]])})"
+
+
+def certificates_in(octets: bytes, left_out: Callable[[str], None] | None = None) -> list[Certificate]:
+    """The certificates of a file: one in DER, or all that are there in PEM. Raises ValueError, with a line, where none is; of one that cannot
+    be read, `left_out` is called with that line instead."""
     alone = certificate_in_der(octets)
     if alone is not None:
         # (which OpenSSL 3.0 shows in place of this one)
@@ -261,15 +271,22 @@ def certificates_in(octets: bytes) -> list[Certificate]:
     blocks, around = parts_of(octets, BLOCK)
     if not blocks and b"-----BEGIN " in octets:
         raise ValueError("no certificate is in it, but other PEM")
-    if not blocks and (kind := kind_of(octets[:BEGINNING])):
+    kind = "" if blocks else kind_instead(octets)
+    is_meant = bool(blocks) or BEGINS.match(octets) is not None or kind == CERTIFICATE
+    if kind and not is_meant:
         raise ValueError(f"it is no certificate in PEM or DER: {kind}")
     found = []
     for number, block in enumerate(blocks or [octets], start=1):
         try:
-            found.append(Certificate(octets_in(block) if blocks else octets))
+            certificate = Certificate(octets_in(block) if blocks else octets)
+            certificate.validity()
+            found.append(certificate)
         except ValueError as error:
             what = f"certificate {number} is none" if blocks else "it is no certificate in PEM or DER"
-            raise ValueError(f"{what}: {error}") from error
+            line = f"{what}: {reason_of(error)}"
+            if left_out is None or not is_meant:
+                raise ValueError(line) from error
+            left_out(line)
     if blocks and len(BEGIN.findall(octets)) > len(blocks):
         raise ValueError("another certificate begins in it, which is not read here, but is elsewhere")
     if blocks and others_beside(around, may_be_certificate):

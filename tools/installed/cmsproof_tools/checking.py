@@ -1,6 +1,7 @@
 """How one file is checked: opened, read, and asked of the proved library, in this process. No word of a user is handed on."""
 from __future__ import annotations
 
+import errno
 import math
 import os
 import stat
@@ -86,8 +87,9 @@ class Judge(Vouching):
 
 
 def unread(name: str, error: OSError) -> Unread:
-    """The line of a file that cannot be read; only what `check` does not say has a reason."""
-    return Unread("read", name, str(error).removeprefix(f"{name}: ") if isinstance(error, Changed) else "")
+    """The line of a file that cannot be read, with the reason."""
+    changed = isinstance(error, Changed)
+    return Unread("read", name, str(error).removeprefix(f"{name}: ") if changed else error.strerror or "")
 
 
 def file_at(descriptor: int, name: str, found: Union[os.stat_result, None] = None) -> File:
@@ -95,9 +97,11 @@ def file_at(descriptor: int, name: str, found: Union[os.stat_result, None] = Non
     try:
         reading = os.open(path_of(descriptor), os.O_RDONLY | os.O_CLOEXEC)
     except OSError as error:
-        raise Unread("open", name) from error
+        raise unopened(name, error) from error
     try:
         found = found or os.fstat(reading)
+        if stat.S_ISDIR(found.st_mode):
+            raise IsADirectoryError(errno.EISDIR, os.strerror(errno.EISDIR))
         if not stat.S_ISCHR(found.st_mode):
             return File(reading, name, found)
         # the device that is always empty
@@ -124,8 +128,8 @@ def check_unchanged(file: File) -> None:
 
 
 def unopened(name: str, error: Exception) -> Unread:
-    """The line of a file that cannot be opened; only what `check` does not say has a reason."""
-    return Unread("open", name, str(error) if isinstance(error, descriptors.Unfit) else "")
+    """The line of a file that cannot be opened, with the reason."""
+    return Unread("open", name, (error.strerror or "") if isinstance(error, OSError) else str(error))
 
 
 def content_named(name: str) -> Union[File, Unread]:
@@ -215,7 +219,8 @@ def explained(work: Work, outcome: Outcome, found: Found) -> Outcome:
         is_malformed = outcome.status == MALFORMED
         # (of a record in BER nothing helps that helps a signed file)
         is_other = is_malformed and found.kind == RECORD and found.signed[:2] != b"\x30\x80"
-        if is_other or (outcome.status in (MALFORMED, REFUSED) and found.kind == "signed"):
+        is_empty = is_malformed and not len(found.signed)
+        if is_other or is_empty or (outcome.status in (MALFORMED, REFUSED) and found.kind == "signed"):
             from cmsproof_tools.kinds import kind_of_signed
 
             outcome = outcome._replace(kind=kind_of_signed(found.signed, is_malformed))

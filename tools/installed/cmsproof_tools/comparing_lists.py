@@ -5,9 +5,9 @@ from typing import Iterable, Iterator, NamedTuple
 
 from cmsproof import ListRefused, TrustList
 from cmsproof_tools.certificates import Certificate
-from cmsproof_tools.listing import HEAD, NO_TIME, entry_lines, is_for_no_time
+from cmsproof_tools.listing import HEAD, NO_TIME, entry_lines, is_for_no_time, no_list
 from cmsproof_tools.periods import OPEN, Period
-from cmsproof_tools.running import FAILED, MALFORMED, Stop, one_line, read, shown
+from cmsproof_tools.running import FAILED, Stop, one_line, read, shown
 from cmsproof_tools.texts import SERVES, numbered_lines, trust_entries
 
 ENDS = b"# ends: "
@@ -66,7 +66,7 @@ def list_at(path: str) -> bytes:
     try:
         TrustList(octets)
     except ListRefused as error:
-        raise Stop(MALFORMED, f"{shown(path)}: {error}") from error
+        raise no_list(path, octets, error) from error
     except ImportError as error:
         raise Stop(FAILED, str(error)) from error
     return octets

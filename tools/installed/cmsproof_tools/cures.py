@@ -223,7 +223,8 @@ ROWS = (
         "S7 UnknownSigner",
         "the list has no `signer` that it names; or if a token passes, none that is also valid and in its "
         "period at that time",
-        COMPARED.format("signature", "signer") + ". It is never a time-stamping authority's",
+        COMPARED.format("signature", "signer")
+        + ". It is never a time-stamping authority's, nor an issuer's: `--issuer` of `cmsproof-trust` names that",
     ),
     Row(
         "5",
@@ -316,8 +317,9 @@ ROWS = (
     Row(
         "7",
         "L1 Version",
-        "the first line is neither `cmsproof trust 1` nor `cmsproof trust 2`: a certificate in the place of "
-        "a list, or an editor's mark before the text (UTF-16, or UTF-8 with a mark)",
+        "the first line of what is named as trust list is neither `cmsproof trust 1` nor `cmsproof trust 2`: an answers list, a certificate "
+        "or an empty file in its place, or an editor's mark before the text (UTF-16, or UTF-8 with a mark)",
+        "`head -1 LIST` shows what it is, and the tools say it. If it is an answers list, exchange the files of `--trust` and `--answers`; "
         "`cmsproof-trust` makes a list of certificates; `sed '1s/^\\xef\\xbb\\xbf//'` takes the mark of UTF-8 away",
     ),
     Row(
@@ -338,8 +340,8 @@ ROWS = (
     Row(
         "7",
         "B1 Version",
-        "the first line is not `cmsproof answers 1`: mostly the questions were given",
-        "`cmsproof-verify` makes answers of questions: no list may vouch for itself",
+        "the first line of what is named as answers list is not `cmsproof answers 1`: mostly the questions were given, or the trust list",
+        "`head -1 ANSWERS` shows what it is; `cmsproof-verify` makes answers of questions: no list may vouch for itself",
     ),
     Row(
         "7",

@@ -18,6 +18,7 @@ from cmsproof_tools.checking import STATUSES, Unread, check_unchanged, opened
 from cmsproof_tools.evidenced import first_ends
 from cmsproof_tools.finding import again_in_der, as_one, found_apart
 from cmsproof_tools.found import Found, Unfound
+from cmsproof_tools.listing import no_list
 from cmsproof_tools.outcomes import lost
 from cmsproof_tools.running import DONE, FAILED, MALFORMED, REFUSED, USAGE, Started, Stop, Words
 from cmsproof_tools.running import check_kept, module, one_line, shown, tell, write
@@ -85,7 +86,7 @@ def trust_of(octets: Any, name: str) -> cmsproof.TrustList:
     try:
         return cmsproof.TrustList(bytes(octets))
     except cmsproof.ListRefused as error:
-        raise Stop(MALFORMED, f"{shown(name)}: {error}") from error
+        raise no_list(name, bytes(octets), error) from error
 
 
 @contextmanager

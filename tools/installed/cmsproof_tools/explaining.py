@@ -33,6 +33,11 @@ ISSUE_IT = (
     "no path from it to an issuer of the list held at the time of a stamp, as standard error said when the list was made. {}: name its "
     "issuer by {}, once you compared the SHA-256 of that with what its owner told you in another way than by this file; "
 )
+# what helps where the list has an issuer in the place of whom it issued a certificate to
+ISSUER = (
+    "an entry as {} trusts nobody to whom it issued a certificate: name the issuer by {} of cmsproof-trust or cmsproof-archive, once you "
+    "compared its SHA-256 with what its owner told you in another way, or list the {}'s own certificate likewise (REFUSALS.md, {})"
+)
 STAMP_AGAIN = "or have the signature stamped by an authority that you trust (REFUSALS.md, K10)"
 CURES = {
     "S7": LIST_IT.format("signature", "signer", "S7"),
@@ -40,6 +45,8 @@ CURES = {
     "S7 by issuers": ISSUE_IT.format("It is about the signer", "--issuer") + "else leave the file refused (REFUSALS.md, S7)",
     "K10 by issuers": ISSUE_IT.format("It is about the time-stamping authority, and not about the signer", "--tsa-issuer")
     + STAMP_AGAIN,
+    "S7 of an issuer": ISSUER.format("signer", "--issuer", "signer", "S7"),
+    "K10 of an issuer": ISSUER.format("tsa", "--tsa-issuer", "token's signer", "K10"),
     "period": "the certificate was valid then, but its entry is for another time: give it another period, if you trust it then",
     "early": "it was stamped before the certificate was valid: have the content signed and stamped again",
     "late": "it was stamped after the certificate had expired: only an earlier stamp helps",
@@ -169,6 +176,14 @@ def entry_text(entry: TrustEntry, certificate: Certificate) -> str:
     return f"line {entry.number} of the list, {shown(subject)}, {valid}, trusted {entry.first} to {entry.last}"
 
 
+def issuer_among(entries: list[tuple[TrustEntry, Certificate]], sid: der.Element) -> tuple[TrustEntry, Certificate] | None:
+    """The first entry with the certificate of the issuer that a signer names, or None where there is none."""
+    if sid.identifier == KEY_IDENTIFIER:
+        return None
+    issuer = der.elements(sid.contents)[0].whole
+    return next((pair for pair in entries if pair[1].is_issuer() and pair[1].fields[4].whole == issuer), None)
+
+
 def of_certificate(trusted: bytes, role: str, sid: der.Element, times: list[str], code: str) -> str:
     """What is to be said of the certificate that a signer names, at these times."""
     entries = [(entry, Certificate(entry.octets)) for entry in trust_entries(trusted) if entry.role == role]
@@ -176,6 +191,9 @@ def of_certificate(trusted: bytes, role: str, sid: der.Element, times: list[str]
     # (nobody has verified these tokens when the signer's certificate is not known)
     said = "the time in its token is " if len(times) == 1 else "the times in its tokens are "
     stamped = said + " and ".join(times) if times else "no time in a token can be read"
+    if not listed and (issuer := issuer_among(entries, sid)) is not None:
+        named, cure = f"the issuer of the {role} that is named ({sid_text(sid)})", CURES[f"{code} of an issuer"]
+        return f"{entry_text(*issuer)}, is {named}, {stamped}. Cure: {cure}"
     if not listed:
         cure = CURES[f"{code} by issuers" if is_by_issuers(trusted) else code]
         return f"no {role} of the list is the one that is named ({sid_text(sid)}), {stamped}. Cure: {cure}"

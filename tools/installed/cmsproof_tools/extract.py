@@ -14,6 +14,7 @@ from cmsproof_tools import descriptors
 from cmsproof_tools.checking import Unread, opened
 from cmsproof_tools.finding import TOO_LONG, again_in_der, found_in
 from cmsproof_tools.found import Found, Unfound
+from cmsproof_tools.kinds import EMPTY
 from cmsproof_tools.outcomes import lost, named
 from cmsproof_tools.running import DONE, FAILED, Started, Stop, Words, one_line, shown, tell, write
 from cmsproof_tools.signed_parts import without_empty
@@ -100,7 +101,9 @@ def mended(found: Union[Found, Unfound]) -> Union[Found, Unfound]:
 
 
 def ready(found: Union[Found, Unfound], mend: bool) -> Union[Found, Unfound]:
-    """The same in DER, and mended if that is asked for; where nothing was to be mended a note says so."""
+    """The same in DER, and mended if that is asked for; where nothing was to be mended a note says so. Of an empty file nothing is written."""
+    if isinstance(found, Found) and not len(found.signed):
+        return Unfound(found.part, "F1", EMPTY, found.container)
     # (which the library finds malformed too, so that it would be taken for BER)
     before = mended(found) if mend else found
     read = in_der(before)

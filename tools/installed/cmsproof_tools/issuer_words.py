@@ -37,9 +37,25 @@ def add_words(parser: argparse.ArgumentParser, several: bool) -> None:
         ("--trusted-list", "a national trusted list (ETSI TS 119 612), whose authorities and issuers are trusted"),
     ):
         more: dict[str, Any] = {"action": "extend", "nargs": "+"} if several else {"action": "append"}
+        what += "" if several else "; say it before each"
         parser.add_argument(word, default=[], metavar="DIR" if word == "--crl-dir" else "FILE", help=what, **more)
     operator = "the certificate under which trusted lists are signed; without it nobody verifies that"
     parser.add_argument("--scheme-operator", action="once", metavar="FILE", help=operator)
+
+
+def behind(words: Sequence[str], options: Sequence[str]) -> list[str]:
+    """The words that stand behind the value of one of these options, up to the next word that begins with `-`: where one value is taken,
+    they are files of another kind."""
+    found, at = list[str](), 0
+    while at < len(words) and words[at] != "--":
+        name, equals, _ = words[at].partition("=")
+        at += 1
+        if name in options:
+            at += not equals
+            while at < len(words) and not words[at].startswith("-"):
+                found.append(words[at])
+                at += 1
+    return found
 
 
 def names_issuers(given: argparse.Namespace) -> bool:

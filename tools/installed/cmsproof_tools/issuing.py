@@ -8,7 +8,7 @@ from pathlib import Path as Place
 from typing import Callable, Iterable, Iterator
 
 from cmsproof import TrustList
-from cmsproof_tools.certificates import Certificate, certificates_in
+from cmsproof_tools.certificates import Certificate, certificates_in, reason_of
 from cmsproof_tools.checking import Unread, opened
 from cmsproof_tools.descriptors import number_named
 from cmsproof_tools.finding import found_apart, found_in
@@ -16,6 +16,7 @@ from cmsproof_tools.found import Found
 from cmsproof_tools.issuer_words import Asked
 from cmsproof_tools.issuers import Entry, Growing, Trusted
 from cmsproof_tools.paths import Judge, OpenSSL, Statuses, private_folder
+from cmsproof_tools.kinds import CMS_BEGINS, OCSP, kind_instead
 from cmsproof_tools.listing import HEAD, JUDGED, entry_lines, warnings_of
 from cmsproof_tools.outcomes import called
 from cmsproof_tools.periods import Period
@@ -28,6 +29,8 @@ from cmsproof_tools.stamping import tokens_beside
 from cmsproof_tools.workers import Workers
 
 Told = Callable[[str], None]
+# what is said of CMS in the place of a revocation list
+SIGNED_INSTEAD = "it looks like CMS, as a signed file, and each FILE behind --crl is a list"
 # after how many files the next ones are looked at by several processes; then after twice as many more each time
 FIRST = 256
 
@@ -36,6 +39,14 @@ def certificates_of(path: str) -> list[Certificate]:
     """The certificates of a file."""
     try:
         return certificates_in(read(path))
+    except ValueError as error:
+        raise Stop(MALFORMED, f"{shown(path)}: {error}") from error
+
+
+def intermediates_of(path: str, told: Told) -> list[Certificate]:
+    """The certificates of a file that may be part of a path; each that cannot be read is left out, with a line."""
+    try:
+        return certificates_in(read(path), lambda line: told(f"{shown(path)}: {line}: it is left out"))
     except ValueError as error:
         raise Stop(MALFORMED, f"{shown(path)}: {error}") from error
 
@@ -63,15 +74,19 @@ def revocation_of(asked: Asked, revocation: Revocation, told: Told) -> Revocatio
     if not asked.lists and not asked.folders and not asked.responses:
         return None
     for path in asked.lists:
+        octets = read(path)
         try:
-            revocation.add_list(path, read(path))
+            revocation.add_list(path, octets)
         except ValueError as error:
-            raise Stop(MALFORMED, f"{shown(path)}: it is no revocation list: {error}") from error
+            kind = SIGNED_INSTEAD if CMS_BEGINS.match(octets) else "" if b"-----BEGIN " in octets else kind_instead(octets)
+            raise Stop(MALFORMED, f"{shown(path)}: it is no revocation list: {kind or error}") from error
     for path in asked.responses:
+        octets = read(path)
         try:
-            revocation.responses.append(Response(path, read(path)))
+            revocation.responses.append(Response(path, octets))
         except ValueError as error:
-            raise Stop(MALFORMED, f"{shown(path)}: it is no response of OCSP: {error}") from error
+            kind = "" if OCSP.match(octets) else kind_instead(octets)
+            raise Stop(MALFORMED, f"{shown(path)}: it is no response of OCSP: {kind or reason_of(error)}") from error
     for folder in asked.folders:
         add_folder(revocation, folder, told)
     return revocation
@@ -160,7 +175,7 @@ def trusted_by(asked: Asked, lists: list[TrustedList], told: Told) -> Iterator[T
         openssl = OpenSSL(folder)
         issuers = [*issuers_of(asked.issuers, asked.several), *services_of(lists, False)]
         tsa_issuers = [*issuers_of(asked.tsa_issuers, asked.several), *services_of(lists, True)]
-        between = tuple(found for path in asked.between for found in certificates_of(path))
+        between = tuple(found for path in asked.between for found in intermediates_of(path, told))
         judges = (
             Judge(openssl, issuers, asked.sha1, statuses_of(lists, False)),
             Judge(openssl, tsa_issuers, asked.sha1, statuses_of(lists, True)),
@@ -287,6 +302,8 @@ def list_text(
             jobs,
             asked.stamps,
         )
+        if trusted.revocation is not None:
+            trusted.revocation.tell_rest()
         text = "".join(line + "\n" for line in lines_of(head_of(trusted, lists), entries)).encode("utf-8", "surrogateescape")
     if len(TrustList(text)) != len(entries):
         raise Stop(FAILED, "the list that was made is not read as it was meant")

@@ -30,13 +30,15 @@ KINDS = [
     (re.compile(rb"\APK\x03\x04"), "a zip file, as an office document or ASiC is: unpack it, and check the *.p7s in it"),
     (re.compile(rb"\A\x1f\x8b"), "a file that is compressed: gzip -d unpacks it"),
     (re.compile(rb"\A\s*-----BEGIN PGP "), "a file of OpenPGP, which is no CMS: gpg checks it"),
-    (re.compile(rb"\A\s*-----BEGIN (?:X509 )?CERTIFICATE-----"), "a certificate in PEM and no signed file"),
+    (re.compile(rb"\A\s*-----BEGIN (?:X509 )?CERTIFICATE-----"), "a certificate in PEM: cmsproof-trust lists it"),
     (re.compile(rb"-----BEGIN " + LABELS + rb"-----"), "PEM: " + CMS.format("PEM")),
     (re.compile(rb"-----BEGIN "), "PEM, but neither CMS nor PKCS7"),
     (re.compile(rb"\A(?:\xef\xbb\xbf)?\s*<"), "XML or HTML: signatures in XML (XAdES) are no CMS; another program checks them"),
     (MAIL, "a mail, S/MIME: " + CMS.format("SMIME")),
     (re.compile(rb"\AM[A-Za-z0-9+/\s]{60,}"), "base64: openssl base64 -d -in FILE -out FILE.der decodes it"),
-    (re.compile(rb"\Acmsproof (?:trust|questions|answers) [0-9]"), "a list of cmsproof and no signed file"),
+    (re.compile(rb"\Acmsproof trust [0-9]"), "a trust list of cmsproof, which --trust names"),
+    (re.compile(rb"\Acmsproof questions [0-9]"), "a questions text of cmsproof: cmsproof-verify writes answers for it"),
+    (re.compile(rb"\Acmsproof answers [0-9]"), "an answers list of cmsproof, which cmsproof check --answers names"),
     (re.compile(rb"\AMZ"), "a program of Windows: " + AUTHENTICODE),
     (re.compile(rb"\AMSCF"), "a cabinet of Windows: " + AUTHENTICODE),
     (re.compile(rb"\A\xd0\xcf\x11\xe0\xa1\xb1\x1a\xe1"), "an MSI or an older office document, in OLE: " + AUTHENTICODE),
@@ -55,7 +57,7 @@ SHOWN = {
         "attach` puts that into the file whose signature it stamps, and this one is checked" + BESIDE
     ),
     "tst": "the content of a time-stamp token (RFC 3161 2.4.2) alone: nobody signed it. `cmsproof show tst` shows it",
-    "certificate": "a certificate, and no signed file: `cmsproof cert` shows it",
+    "certificate": "a certificate: `cmsproof cert` shows it, and cmsproof-trust lists it",
     "evidence": "an evidence record (RFC 4998), and no signed file: `cmsproof show evidence` shows it",
 }
 TST_INFO, INDIRECT, TRUST_LIST = "1.2.840.113549.1.9.16.1.4", "1.3.6.1.4.1.311.2.1.4", "1.3.6.1.4.1.311.10.1"
@@ -67,16 +69,33 @@ BUNDLE = (
     "a bundle of certificates or revocation lists, which nobody signed (PKCS #7 without signers): openssl pkcs7 -inform DER -in FILE "
     "-print_certs lists it"
 )
-# how other files in DER begin: behind the first header (X.690 8.1)
-HEADER = rb"\A\x30(?:[\x00-\x7f]|\x81.|\x82..|\x83...|\x84....)"
+# how other files in DER begin: behind the first header (X.690 8.1); a SignedData by its version and digestAlgorithms (RFC 5652 5.1), a
+# private key by its version and an algorithm, a modulus, or the octets of the key (RFC 5958 2, 8017 A.1.2, 5915 3)
+LENGTH = rb"(?:[\x00-\x7f]|\x81.|\x82..|\x83...|\x84....)"
+HEADER = rb"\A\x30" + LENGTH
+SIGNED = HEADER + rb"\x02\x01[\x01\x03-\x05]\x31(?:\x00|" + LENGTH + rb"\x30" + LENGTH + rb"\x06)"
+KEY = HEADER + rb"\x02\x01(?:[\x00\x01]\x30" + LENGTH + rb"\x06|[\x00\x01]\x02|\x01\x04)"
+OCSP = re.compile(HEADER + rb"\x0a\x01", re.DOTALL)
 OTHERS = [
     (
         re.compile(HEADER + rb"\x02\x01\x03\x30", re.DOTALL),
-        "a file of PKCS #12, with a key: whoever signs needs it, and nobody who checks",
+        "a file of PKCS #12, with a key: whoever signs needs it, and nobody who checks; openssl pkcs12 -nokeys -in FILE writes its "
+        "certificates",
     ),
-    (re.compile(HEADER + rb"\x02\x01[\x00\x01]", re.DOTALL), "a private key: whoever signs needs it, and nobody who checks"),
-    (re.compile(HEADER + rb"\x0a\x01", re.DOTALL), "a response of OCSP: cmsproof-trust --ocsp reads it"),
+    (
+        re.compile(SIGNED, re.DOTALL),
+        "a SignedData without the ContentInfo around it (RFC 5652 3, 5.1), which is not read: ask whoever made it for the file with that",
+    ),
+    (re.compile(KEY, re.DOTALL), "a private key: whoever signs needs it, and nobody who checks"),
+    (OCSP, "a response of OCSP: cmsproof-trust --ocsp reads it"),
 ]
+# how CMS begins, also in BER, of whichever type (RFC 5652 3), and what is said of it where a certificate is wanted
+CMS_BEGINS = re.compile(rb"\A\x30(?:\x80|" + LENGTH + rb")\x06\x09\x2a\x86\x48\x86\xf7\x0d\x01\x07", re.DOTALL)
+CMS_INSTEAD = (
+    "it looks like CMS, as a signed file or a bundle of certificates: openssl cms -verify -noverify -signer takes out the certificate under "
+    "which the signature verifies, openssl pkcs7 -print_certs those of a bundle"
+)
+EMPTY, CERTIFICATE = "it is empty", f"it is {SHOWN['certificate']}"
 
 
 def says_stamp(kind: str) -> bool:
@@ -86,6 +105,8 @@ def says_stamp(kind: str) -> bool:
 
 def kind_of(beginning: bytes) -> str:
     """What a file with this beginning is, and what to do with it; no text where that is not known."""
+    if not beginning:
+        return EMPTY
     return next((f"it looks like {text}" for pattern, text in KINDS if pattern.search(beginning)), "")
 
 
@@ -94,10 +115,18 @@ def kind_in_der(octets: Any) -> str:
     is not known."""
     if len(octets) > MOST_SHOWN:
         return ""
-    show = importlib.import_module("cmsproof").show
     whole = bytes(octets)
-    found = [f"it is {text}" for kind, text in SHOWN.items() if "line" not in show(kind, whole)]
+    try:
+        show = importlib.import_module("cmsproof").show
+        found = [f"it is {text}" for kind, text in SHOWN.items() if "line" not in show(kind, whole)]
+    except ImportError:
+        found = []  # (a list of certificates is made without the library too)
     return next(iter([*found, *(f"it looks like {text}" for pattern, text in OTHERS if pattern.search(whole))]), "")
+
+
+def kind_instead(octets: bytes) -> str:
+    """What octets are that were named as a certificate, a list or a response; no text where that is not known."""
+    return CMS_INSTEAD if CMS_BEGINS.match(octets) else kind_of(octets[:BEGINNING]) or kind_in_der(octets)
 
 
 def kind_of_signed(octets: Any, malformed: bool) -> str:

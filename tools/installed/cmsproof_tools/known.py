@@ -8,7 +8,7 @@ import re
 from collections import Counter
 from typing import Iterable, Iterator
 
-from cmsproof_tools.lines import parts_of
+from cmsproof_tools.lines import counts_as, parts_of
 from cmsproof_tools.outcomes import Outcome
 from cmsproof_tools.progress import counted
 from cmsproof_tools.running import ACKNOWLEDGED, DONE, MALFORMED, REFUSED, USAGE, Stop, module, one_line, read, shown
@@ -92,7 +92,7 @@ class Known:
             self.old += bool(bad)
             return DONE
         ended = max(new, key=lambda outcome: outcome.status)
-        self.new[ended.line.partition(" ")[0]] += 1
+        self.new[counts_as(ended.line, ended.part)] += 1
         return ended.status
 
     def status(self, worst: int) -> int:

@@ -18,6 +18,15 @@ LINES = {
     FAILED: re.compile(rf"(?P<verdict>failed) (?:{CODE}(?: .*)?|.*)"),
 }
 
+# what a file counts as in which there is no signature in a form that is read, and the lines that say so of a file
+UNSIGNED = "unsigned"
+WITHOUT = ("refused F1 UnknownForm", "refused C2 NotSignedData")
+
+
+def counts_as(line: str, part: str) -> str:
+    """What a line counts as: its first word, or `unsigned` where it says of a file, and not of a part of one, that it has no signature."""
+    return UNSIGNED if line in WITHOUT and not part else line.partition(" ")[0]
+
 
 def parts_of(status: int, line: str) -> dict[str, str] | None:
     """The parts that a line of this status has, by their names, or None where no line of this status is like it."""

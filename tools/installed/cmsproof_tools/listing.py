@@ -4,8 +4,10 @@ from __future__ import annotations
 from typing import TYPE_CHECKING, Iterator
 
 from cmsproof_tools.periods import OPEN, Period
+from cmsproof_tools.running import MALFORMED, Stop, shown
 
 if TYPE_CHECKING:
+    from cmsproof import ListRefused
     from cmsproof_tools.certificates import Certificate
 
 HEAD = "cmsproof trust 2"
@@ -17,6 +19,16 @@ JUDGED = "paths were judged by "
 # what the comment of an entry for no time says first, and what ends the moment that is its period: a second's last nanosecond
 NO_TIME = "for no time"
 LAST_NANOSECOND = ".999999999Z"
+
+
+def no_list(path: str, octets: bytes, error: ListRefused, more: str = "") -> Stop:
+    """What ends a tool where a file is no trust list, and more of it; if its first line is not that of one, with what it is."""
+    kind = ""
+    if error.code == "L1" and not octets.startswith(b"cmsproof trust "):
+        from cmsproof_tools.kinds import kind_instead
+
+        kind = kind_instead(octets)
+    return Stop(MALFORMED, f"{shown(path)}: {error}" + (f": {kind}; cmsproof-trust writes trust lists" if kind else "") + more)
 
 
 def warnings_of(role: str, certificate: Certificate) -> list[str]:

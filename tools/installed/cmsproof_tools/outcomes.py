@@ -115,9 +115,9 @@ def json_lines(outcome: Outcome) -> str:
     """The line of a file as JSON: the parts that `check`'s line has, and how many questions and good signatures there were."""
     import json
 
-    from cmsproof_tools.lines import parts_of
+    from cmsproof_tools.lines import counts_as, parts_of
 
-    found = parts_of(outcome.status, outcome.line) or {"verdict": outcome.line.partition(" ")[0]}
+    found = {**(parts_of(outcome.status, outcome.line) or {}), "verdict": counts_as(outcome.line, outcome.part)}
     numbers = {name: int(found.pop(name)) for name in NUMBERS if name in found}
     part = {"part": one_line(outcome.part)} if outcome.part else {}
     members = {**named(outcome.name), **part, "status": outcome.status, "line": one_line(outcome.line), **found, **numbers}

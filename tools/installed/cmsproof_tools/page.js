@@ -14,7 +14,7 @@
     row => row[3].map(number => data.authorities[number]).join(", "),
     row => row[4],
   ];
-  const word = row => data.lines[row[1]].split(" ", 1)[0];
+  const word = row => data.verdicts[row[1]];
   const fits = (number, row) => !verdict.value || (verdict.value === "new" ? fresh.has(number) : word(row) === verdict.value);
   const sought = data.rows.map(row => [0, 1, 3].map(column => text[column](row)).join("\n").toLowerCase());
   let order = data.rows.map((_, number) => number), shown = order, column = -1, descending = false;

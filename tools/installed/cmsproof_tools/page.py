@@ -14,7 +14,7 @@ from cmsproof_tools.certificates import Certificate
 from cmsproof_tools.cures import known_cures, plain
 from cmsproof_tools.evidenced import Records
 from cmsproof_tools.known import Known as Acknowledged
-from cmsproof_tools.lines import parts_of
+from cmsproof_tools.lines import counts_as, parts_of
 from cmsproof_tools.periods import Period
 from cmsproof_tools.report import is_new
 from cmsproof_tools.rows import Row, time_text
@@ -43,6 +43,8 @@ SERVING = "Certificates last here until they serve no more, also where it is kno
 MOST_KINDS, MOST_PICTURES = 10_000, 20
 # what says when the last time-stamp of a record must be renewed: by what it was judged, its algorithms and its authority
 Last = Tuple[int, str, str, Tuple[str, ...]]
+# a line of a row, and what it counts as
+Line = Tuple[str, str]
 # a role, and the SHA-256 of a certificate in it
 Place = tuple[str, str]
 Pairs = Counter[Place]
@@ -75,7 +77,7 @@ class Tally:
 
     def add(self, row: Row, basis: int, new: bool | None) -> None:
         """One row more, and whether it is new."""
-        verdict = row.line.partition(" ")[0]
+        verdict = counts_as(row.line, row.part)
         self.verdicts[verdict] += 1
         self.bases[basis] += 1
         first, last = self.judged
@@ -328,12 +330,12 @@ def sections(tally: Tally, hanging: Hanging, known: dict[Place, Known], bases: d
     return "\n".join([*found, section("bases", "By what they were judged", bases_table(tally, bases))])
 
 
-def row_data(name: str, row: Row, lines: dict[str, int], places: dict[str, int], known: dict[Place, Known]) -> list[object]:
+def row_data(name: str, row: Row, lines: dict[Line, int], places: dict[str, int], known: dict[Place, Known]) -> list[object]:
     """A row as the script of the page has it, whose file is shown by this name."""
     decided = grounds_in(row.grounds).decided if row.status == DONE else ()
     found = list(dict.fromkeys(authority for one in decided for authority in one.authorities))
     until = max((known["tsa", authority].until for authority in found if ("tsa", authority) in known), default="")
-    place = lines.setdefault(row.line, len(lines))
+    place = lines.setdefault((row.line, counts_as(row.line, row.part)), len(lines))
     judged = "" if row.judged <= 0 else day_of(time_text(row.judged))
     return [name, place, judged, [places.setdefault(authority, len(places)) for authority in found], day_of(until)]
 
@@ -369,8 +371,9 @@ def left_out(tally: Tally, rows: list[Row], bad: int) -> str:
 def files_data(
     state: State, rows: list[Row], known: dict[Place, Known], acknowledged: Acknowledged | None
 ) -> dict[str, list[Any]]:
-    """What the script of the page has of the files: their rows, the lines and the codes of these, authorities, and which rows are new."""
-    lines: dict[str, int] = {}
+    """What the script of the page has of the files: their rows, the lines, what these count as and their codes, authorities, and which rows
+    are new."""
+    lines: dict[Line, int] = {}
     places: dict[str, int] = {}
     codes: dict[str, str] = {}
     data = [row_data(state.called(row), row, lines, places, known) for row in rows]
@@ -379,8 +382,9 @@ def files_data(
             codes[row.line] = code_of(row) if row.status != DONE else ""
     return {
         "rows": data,
-        "lines": list(lines),
-        "codes": [codes[line] for line in lines],
+        "lines": [line for line, _ in lines],
+        "verdicts": [verdict for _, verdict in lines],
+        "codes": [codes[line] for line, _ in lines],
         "authorities": [known["tsa", name].subject if ("tsa", name) in known else name for name in places],
         "new": [] if acknowledged is None else [at for at, row in enumerate(rows) if is_new(state, row, acknowledged)],
     }

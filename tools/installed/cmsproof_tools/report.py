@@ -11,7 +11,7 @@ from typing import Any, Iterator
 from cmsproof_tools.evidenced import ENDING, records_in
 from cmsproof_tools.known import Known
 from cmsproof_tools.outcomes import named
-from cmsproof_tools.lines import parts_of
+from cmsproof_tools.lines import counts_as, parts_of
 from cmsproof_tools.rows import Row, time_text
 from cmsproof_tools.running import DONE, USAGE, Stop, Words, check_kept, module, one_line, shown, tell, write
 from cmsproof_tools.stamp import is_within
@@ -74,7 +74,8 @@ def members(row: Row, basis: Basis | None) -> dict[str, Any]:
         "part": one_line(row.part),
         "status": row.status,
         "line": row.line,
-        **{name: parts.get(name, "") for name in ("verdict", "code", "time")},
+        "verdict": counts_as(row.line, row.part),
+        **{name: parts.get(name, "") for name in ("code", "time")},
         **deciding(row, parts),
         "sha256": row.sha256.hex(),
         "content": row.content.hex(),

@@ -9,6 +9,7 @@ from typing import TYPE_CHECKING, Any, Iterable, Iterator, Sequence
 
 from cmsproof_tools.checking import Work
 from cmsproof_tools.evidenced import ENDING
+from cmsproof_tools.lines import counts_as
 from cmsproof_tools.outcomes import Outcome, called
 from cmsproof_tools.rows import Row, mark_now, seen_here
 from cmsproof_tools.running import DONE, tell
@@ -79,7 +80,7 @@ class Resume:
             if rows:
                 self.forget_others(name)
                 ended = max(rows, key=lambda row: row.status)
-                self.kept[ended.line.partition(" ")[0]] += 1
+                self.kept[counts_as(ended.line, ended.part)] += 1
                 self.worst = max(self.worst, self.status_of(rows, ended.status))
             else:
                 found.append(name)

@@ -15,6 +15,7 @@ from __future__ import annotations
 
 import base64
 import hashlib
+import os
 import re
 import textwrap
 from datetime import datetime
@@ -23,7 +24,9 @@ from typing import Any, Callable, Iterable, Iterator, NamedTuple, Optional
 from cryptography import x509
 
 from cmsproof_tools import der
-from cmsproof_tools.certificates import Certificate, certificates_in, name_key, octets_in, others_beside, parts_of
+from cmsproof_tools.certificates import Certificate, certificates_in, name_key, octets_in, others_beside, parts_of, reason_of
+from cmsproof_tools.descriptors import AT_ONCE
+from cmsproof_tools.kinds import BEGINNING, HEADER, LENGTH, OCSP
 from cmsproof_tools.paths import Broken, OpenSSL, Path, Row
 from cmsproof_tools.periods import OPEN, Period, just_before, moment_of, utc
 from cmsproof_tools.running import shown
@@ -33,10 +36,15 @@ from cmsproof_tools.texts import in_order, time_in
 # where a list may begin, also by a label that nobody reads here (RFC 7468 6)
 BEGIN = re.compile(rb"-----BEGIN [^\n-]*CRL *-----")
 BLOCK = re.compile(rb"-----BEGIN X509 CRL-----"), re.compile(rb"-----END X509 CRL-----")
+# how a list in DER begins: its version, if it says one, and its algorithm (RFC 5280 5.1), which is not the name of a kind of CMS
+NO_CMS = rb"(?!\x09\x2a\x86\x48\x86\xf7\x0d\x01\x07)"
+LIST_BEGINS = re.compile(HEADER + rb"\x30" + LENGTH + rb"(?:\x02\x01\x01)?\x30" + LENGTH + rb"\x06" + NO_CMS, re.DOTALL)
 DELTA, EXPIRED_ON_LIST, DISTRIBUTION, CERTIFICATE_ISSUER = "2.5.29.27", "2.5.29.60", "2.5.29.28", "2.5.29.29"
 DISTRIBUTION_POINTS, POINT_NAME = "2.5.29.31", 0xA0
 # what a list counts for that OpenSSL does not take
 REVOKES, STRANGE = "what it revokes counts all the same", "if another key of it signed it, name that by --intermediate"
+# how many lines are told of lists that are not those of an issuer of their name
+MOST_TOLD = 3
 # critical ones that OpenSSL knows: the issuing distribution point, and who issued the list
 KNOWN = (DISTRIBUTION, "2.5.29.35", "2.5.29.20")
 # the reasons for which stamps of earlier times stay good (RFC 3161 4)
@@ -97,8 +105,8 @@ class RevocationList:
 
     def __init__(self, name: str, octets: bytes) -> None:
         der.only(der.SEQUENCE, octets)
-        self.name, self.octets, self.signed = shown(name), octets, signed_in(octets)
-        self.read = x509.load_der_x509_crl(octets)
+        self.name, self.octets, self.read = shown(name), octets, x509.load_der_x509_crl(octets)
+        self.signed = signed_in(octets)
         self.this, self.next = time_of(self.read, "last_update"), time_of(self.read, "next_update")
         self.issuer = name_key(self.read.issuer.rfc4514_string())
         self.extensions = {extension.oid.dotted_string: extension for extension in self.read.extensions}
@@ -242,6 +250,22 @@ def is_list(octets: bytes) -> bool:
         return False
 
 
+def known_at(name: str) -> str:
+    """What a regular file of this name is, if it is a revocation list or a response of OCSP by its first octets, or else no text."""
+    try:
+        if not os.path.isfile(name):
+            return ""
+        reading = os.open(name, AT_ONCE)
+        try:
+            octets = os.read(reading, BEGINNING)
+        finally:
+            os.close(reading)
+    except (OSError, ValueError):
+        return ""
+    is_crl = begins_in(octets) or LIST_BEGINS.match(octets)
+    return "a revocation list" if is_crl else "a response of OCSP" if OCSP.match(octets) else ""
+
+
 def is_element(octets: bytes) -> bool:
     """Whether octets are one SEQUENCE in DER."""
     try:
@@ -288,6 +312,8 @@ class Revocation:
         self.trusted, self.between = list(trusted), list(between)
         self.lists: list[RevocationList] = []
         self.responses: list[Any] = []
+        # the lines about lists that are not those of an issuer of their name
+        self.strange: set[str] = set()
 
     def about(self) -> Iterator[str]:
         """What is given, for a reader."""
@@ -307,7 +333,7 @@ class Revocation:
             except Broken as fault:
                 self.told(str(fault))
             except Exception as error:  # the library has a word of its own for each fault of a list
-                raise ValueError(str(error)) from error
+                raise ValueError(reason_of(error)) from error
 
     def known(self, row: Row) -> Iterator[Known]:
         """What is known of the first certificate of a path, by lists and responses that hold; a line for each that does not."""
@@ -333,11 +359,23 @@ class Revocation:
         fault = found.partial or found.fault(self.openssl, row)
         weak, held = is_weak(found.signed.algorithm, self.sha1), not fault or self.is_of(found, row)
         if fault and not (found.partial and held):
-            self.told(f"{found.name}: not a list of {row[1].name_text('subject')}: {fault}; {REVOKES if held else STRANGE}")
+            more = REVOKES if held else STRANGE
+            self.tell_strange(f"{found.name}: not a list of {row[1].name_text('subject')}: {fault}; {more}")
         elif weak:
             self.told(f"{found.name}: signed by SHA-1, or by an algorithm that is not known: only what it revokes counts")
         if held:
             yield from found.known(row[0], not fault and not weak)
+
+    def tell_strange(self, line: str) -> None:
+        """Tells of a list that is not of an issuer of its name: of the first ones, for each path can meet each list."""
+        if line not in self.strange and len(self.strange) < MOST_TOLD:
+            self.told(line)
+        self.strange.add(line)
+
+    def tell_rest(self) -> None:
+        """Tells how many lines `tell_strange` left out."""
+        if (count := len(self.strange) - MOST_TOLD) > 0:
+            self.told(f"{count} more lines as `not a list of` above: lists with the name of an issuer that are not that one's")
 
     def is_of(self, found: RevocationList, row: Row) -> bool:
         """Whether a list is signed by the issuer of the first certificate of a path, by any of its keys."""

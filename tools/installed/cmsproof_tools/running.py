@@ -18,8 +18,9 @@ from cmsproof_tools.writing import put, written
 
 # the exit statuses, which are those of the program, and that of a run in which all that is not accepted is acknowledged
 DONE, REFUSED, MALFORMED, USAGE, FAILED, ACKNOWLEDGED = range(6)
-# what a file can be: `stamped` is a time-stamp alone, and `evidenced` an evidence record alone
-VERDICTS = ("accepted", "stamped", "evidenced", "refused", "malformed", "failed")
+# what a file can count as: `stamped` is a time-stamp alone, `evidenced` an evidence record alone, and `unsigned` is refused since there is no
+# signature in it (lines.py)
+VERDICTS = ("accepted", "stamped", "evidenced", "unsigned", "refused", "malformed", "failed")
 OLDEST_PYTHON = (3, 9)
 # the modules that read the words of a tool, where others do its work
 READING = {"archive": "archive_words"}

@@ -16,7 +16,7 @@ from functools import lru_cache
 from typing import Any, Iterable, Iterator, NamedTuple
 from urllib.parse import quote
 
-from cmsproof_tools.lines import parts_of
+from cmsproof_tools.lines import UNSIGNED, WITHOUT, parts_of
 from cmsproof_tools.rows import Decided, Ground, Linked, Row, mark_now
 from cmsproof_tools import running
 from cmsproof_tools.running import FAILED, Stop, shown, shown_apart
@@ -37,6 +37,8 @@ MADE = sorted((("table", name, statement) for name, statement in TABLES.items())
 COLUMNS = "name, part, size, time, mark, sha256, content, status, line, judged"
 INSERT = f"INSERT OR REPLACE INTO files ({COLUMNS}, ground, basis) VALUES ({'?, ' * 11}?)"
 SELECT = f"SELECT {COLUMNS}, grounds.text, basis FROM files LEFT JOIN grounds ON grounds.number = ground"
+# what a row counts as (lines.counts_as)
+COUNTS_AS = f"CASE WHEN part = x'' AND line IN {WITHOUT} THEN '{UNSIGNED}' ELSE verdict END"
 # what a value may be long: a trust list of many thousand certificates
 LONGEST = 1 << 28
 # what a file can be
@@ -398,9 +400,9 @@ class State:
         )
 
     def names(self, verdict: str) -> list[str]:
-        """The names of the files of which a part has this verdict, in the order of their octets."""
+        """The names of the files of which a part counts as this, in the order of their octets."""
         with told(self.path):
-            found = self.database.execute("SELECT DISTINCT name FROM files WHERE verdict = ? ORDER BY name", (verdict,))
+            found = self.database.execute(f"SELECT DISTINCT name FROM files WHERE {COUNTS_AS} = ? ORDER BY name", (verdict,))
             return [os.fsdecode(name) for (name,) in found if isinstance(name, bytes) and name and b"\0" not in name]
 
     def names_ending(self, ending: str) -> list[str]:
@@ -414,7 +416,7 @@ class State:
 
     def rows(self, only: str = "") -> Iterator[tuple[Row, int]]:
         """All rows, or those of one verdict, in the order of their names, each with the number of its basis."""
-        return self.rows_where("WHERE ? IN ('', verdict) ORDER BY name, part", (only,))
+        return self.rows_where(f"WHERE ? IN ('', {COUNTS_AS}) ORDER BY name, part", (only,))
 
     def bases(self) -> dict[int, Basis]:
         """By what files were judged, by the numbers of their rows."""

@@ -5,6 +5,7 @@ from itertools import chain
 from typing import TYPE_CHECKING, Any, Callable, Iterator
 
 from cmsproof_tools.checking import Work, all_noted
+from cmsproof_tools.lines import counts_as
 from cmsproof_tools.outcomes import Outcome
 from cmsproof_tools.running import DONE, module
 from cmsproof_tools.texts import UNHOLDING
@@ -39,7 +40,7 @@ def told_of(outcomes: list[Outcome], line_of: Callable[[Outcome], str], is_kept:
         ended, said = max(outcomes, key=lambda outcome: outcome.status), tuple(complaints(outcomes))
         lines = "".join([line_of(outcome) + "\n" for outcome in outcomes])
     rows = module("rows").values_of_all(outcomes) if is_kept else []
-    return lines.encode(), said, ended.status, [ended.line.partition(" ")[0]], [rows], outcomes if is_known else []
+    return lines.encode(), said, ended.status, [counts_as(ended.line, ended.part)], [rows], outcomes if is_known else []
 
 
 def all_told(
@@ -65,7 +66,7 @@ def quietly_told(several: list[Outcome], line_of: Callable[[Outcome], str], is_k
         some = several[at : at + MOST]
         lines = "\n".join([*map(line_of, some), ""]).encode()
         rows = [[] if values_of is None else [values_of(one)] for one in some]
-        verdicts = [one.line.partition(" ")[0] for one in some]
+        verdicts = [counts_as(one.line, one.part) for one in some]
         found.append((len(some), (lines, (), max([one.status for one in some]), verdicts, rows, [])))
     return found
 

@@ -8,7 +8,7 @@ from typing import TYPE_CHECKING, Callable, Iterator, NamedTuple
 from cmsproof_tools.issuer_words import add_words, asked_of, goes_with_issuers, names_issuers
 from cmsproof_tools.listing import HEAD, warnings_of
 from cmsproof_tools.running import DONE, MALFORMED, REFUSED, Stop, Words, module, read, shown, tell, write
-from cmsproof_tools.texts import in_order, is_moment
+from cmsproof_tools.texts import in_order, is_moment, trust_entries
 
 if TYPE_CHECKING:
     from cmsproof_tools.certificates import Certificate
@@ -35,8 +35,9 @@ entry ends with what is known, and a line above it says until when the certifica
 A line on standard error warns of an authority's certificate that is not for time-stamping alone (RFC 3161 2.3), for the program
 refuses the tokens under it, and of one that is an issuer's.
 
-Exit status: 0 done; 1 a file has several certificates, or one that is no issuer's, two lists differ, or two trusted lists are of one
-territory; 2 a file does not have the form of what it was named as; 3 wrong words; 4 a file, a library or OpenSSL failed.
+Exit status: 0 done; 1 a file has several certificates, or one that is no issuer's, two lists differ, two trusted lists are of one
+territory, or nobody gets an entry, and no list is written; 2 a file does not have the form of what it was named as; 3 wrong words;
+4 a file, a library or OpenSSL failed.
 """
 # the words about lists, each of which is said alone
 LISTS = {"explain", "diff", "merge"}
@@ -172,6 +173,8 @@ def issued(tool: str, given: argparse.Namespace, entries: list[Entry]) -> int:
     known = [issuers.Entry(entry.role, period, entry.certificate, shown(entry.path)) for entry in entries]
     asked = asked_of(given, given.all, period)
     text, status = issuing.list_text(asked, known, names, lambda line: tell(tool, line), jobs=len(os.sched_getaffinity(0)))
+    if not any(trust_entries(text)):
+        raise Stop(max(status, REFUSED), "no certificate of these files gets an entry: no list is written")
     write("-", text)
     return int(status)
 

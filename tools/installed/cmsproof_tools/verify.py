@@ -116,7 +116,7 @@ def main(tool: str, words: list[str]) -> int:
     except ValueError as error:
         from cmsproof_tools.kinds import BEGINNING, kind_of
 
-        kind = "" if text.startswith(b"cmsproof ") else kind_of(text[:BEGINNING]) or DER * text.startswith(b"\x30")
+        kind = "" if text.startswith(b"cmsproof questions ") else kind_of(text[:BEGINNING]) or DER * text.startswith(b"\x30")
         raise Stop(MALFORMED, f"{shown(given.questions)}: {error}" + (f"; {kind}" if kind else "")) from error
     for number, fault in faults:
         tell(tool, f"line {number}: {fault}")

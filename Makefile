@@ -14,13 +14,20 @@ DOCDIR = $(DESTDIR)$(PREFIX)/share/doc/cmsproof
 FOR_BASH = $(DESTDIR)$(PREFIX)/share/bash-completion/completions
 FOR_ZSH = $(DESTDIR)$(PREFIX)/share/zsh/site-functions
 FOR_FISH = $(DESTDIR)$(PREFIX)/share/fish/vendor_completions.d
-# the machines that packages are made for
-ARCHES ?= amd64 arm64
+# the machines that packages are made for: this one, or those of ARCHES='amd64 arm64', by a compiler for each
+ARCHES ?= $(patsubst x86_64,amd64,$(patsubst aarch64,arm64,$(shell uname -m)))
 # What is installed of the tools is what their folder has, and no list of it stands anywhere: the commands, and under the names of
 # Python's packages the modules and what lies beside them. (A hidden file, a backup of an editor or what Python compiled has another name.)
 TOOLS := $(shell test ! -d tools/installed || LC_ALL=C find tools/installed -maxdepth 1 -type f -regex 'tools/installed/cmsproof-[a-z]+' | LC_ALL=C sort)
 MODULES := $(shell cd tools/installed 2> /dev/null && LC_ALL=C find cmsproof cmsproof_tools -type f \
     -regex '[a-z0-9_/]+\.[a-z]+' ! -name '*.pyc' ! -path '*/__pycache__/*' | LC_ALL=C sort)
+# The documents that are installed, and below `examples` what their commands use of the repository, under its names: all that is in these
+# folders, but of the guide's session its files alone, beside which the builder may have keys.
+DOCUMENTS := LICENSE NOTICE README.md dist/PROVENANCE $(addprefix docs/,GUIDE.md PROVED.md REFUSALS.md TOOLS.md guide.svg records.svg)
+EXAMPLES := $(addprefix data/guide/,answers.txt authority.pem found.pem found_authority.pem letter.p7s letter.tsq letter.tsr read.txt \
+    second.pem second.tsr signer.pem trusted.txt trusted_second.txt trusted_until.txt) \
+    $(shell test ! -d data/real || LC_ALL=C find data/real data/records tools/oracle tools/samples -type f \
+    -regex '[a-z_/]+/[A-Za-z0-9_]+\(\.[a-z0-9]+\)?' ! -name '*.pyc' | LC_ALL=C sort)
 FISH := $(addprefix packaging/completion/,cmsproof.fish $(patsubst %,%.fish,$(notdir $(TOOLS))))
 # each of the names in $(2), in the folder $(1), whose name may have a space or a %
 IN = $(foreach name,$(2),"$(1)/$(name)")
@@ -159,8 +166,9 @@ install: build install-tools
 	install -d "$(MANDIR)/man1" "$(MANDIR)/man5"
 	install -m 644 $(wildcard man/*.1) "$(MANDIR)/man1"
 	install -m 644 $(wildcard man/*.5) "$(MANDIR)/man5"
-	install -d "$(DOCDIR)"
-	install -m 644 LICENSE NOTICE docs/REFUSALS.md "$(DOCDIR)"
+	install -d $(call IN,$(DOCDIR)/examples,$(sort $(dir $(EXAMPLES))))
+	install -m 644 $(DOCUMENTS) "$(DOCDIR)"
+	set -e; for example in $(EXAMPLES); do install -m 644 "$$example" "$(DOCDIR)/examples/$$example"; done
 	install -d "$(FOR_BASH)" "$(FOR_ZSH)" "$(FOR_FISH)"
 	install -m 644 packaging/completion/cmsproof.bash "$(FOR_BASH)/cmsproof"
 	for tool in $(notdir $(TOOLS)); do ln -sf cmsproof "$(FOR_BASH)/$$tool"; done
@@ -179,7 +187,7 @@ install-tools: $(LIBRARY)
 
 # Which files of the folders are installed as they are: whoever makes packages in a clone asks git whether it knows them all.
 list-installed:
-	@printf '%s\n' $(TOOLS) $(addprefix tools/installed/,$(MODULES)) $(wildcard man/*.1) $(wildcard man/*.5)
+	@printf '%s\n' $(TOOLS) $(addprefix tools/installed/,$(MODULES)) $(wildcard man/*.1) $(wildcard man/*.5) $(DOCUMENTS) $(EXAMPLES)
 
 uninstall:
 	rm -f "$(BINDIR)/cmsproof" $(call IN,$(BINDIR),$(notdir $(TOOLS)))

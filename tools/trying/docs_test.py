@@ -26,7 +26,8 @@ How a block is marked:
   prepare files, what they print is not compared, and they must succeed.
 
 All commands of a document run in one shell, in a new folder that is removed afterwards: `crates`, `data`, `docs` and `tools`
-in it are those of the repository, but where installed tools are tested `tools` has none; `cmsproof` and its tools are on the PATH. So
+in it are those of the repository, but where installed tools are tested `tools` has none; for a document that is installed it has
+copies of what is in `examples` beside that one, and nothing of the repository. `cmsproof` and its tools are on the PATH. So
 `echo $?` prints the status of the command before it. What `mktemp` makes is removed too.
 """
 import argparse
@@ -144,8 +145,17 @@ def the_program():
     return Path(TREE, "bin", "cmsproof") if TREE else Path(os.environ.get("CMSPROOF", ROOT / "cmsproof")).resolve()
 
 
-def link_repository(folder):
-    """Has a folder show what the documents name of the repository, but not its tools where those that are installed are tested."""
+def is_ours(path):
+    """Whether a document is one of the repository, and not one that was installed elsewhere."""
+    return ROOT in path.parents
+
+
+def show(path, folder):
+    """Has a folder show what a document names: of the repository, but not its tools where those that are installed are tested, or what
+    was installed beside it."""
+    if not is_ours(path):
+        shutil.copytree(path.parent / "examples", folder, dirs_exist_ok=True)
+        return
     for name in "crates", "data", "docs":
         os.symlink(ROOT / name, Path(folder, name))
     if not TREE:
@@ -164,19 +174,19 @@ def keep(session, kept):
             shutil.copyfile(Path(session, path.name), path)
 
 
-def printed(steps, program, kept):
+def printed(path, steps, program, kept):
     """What each command printed, as lines; fewer where the shell ended before."""
     with tempfile.TemporaryDirectory() as folder, tempfile.TemporaryDirectory() as programs:
-        link_repository(folder)
+        show(path, folder)
         os.symlink(program, Path(programs, "cmsproof"))
-        path = os.pathsep.join([programs, str(tools_folder()), os.environ["PATH"]])
+        places = os.pathsep.join([programs, str(tools_folder()), os.environ["PATH"]])
         done = subprocess.run(
             ["bash", "-c", script_of(steps)],
             cwd=folder,
             stdin=subprocess.DEVNULL,
             stdout=subprocess.PIPE,
             stderr=subprocess.STDOUT,
-            env={**os.environ, "PATH": path, "TMPDIR": programs, "LC_ALL": "C.UTF-8", "TZ": "UTC"},
+            env={**os.environ, "PATH": places, "TMPDIR": programs, "LC_ALL": "C.UTF-8", "TZ": "UTC"},
         )
         if kept:
             keep(folder, kept)
@@ -187,9 +197,9 @@ def printed(steps, program, kept):
 def test(path, program, write, kept, left_out):
     """How many commands a document has that can be run, and how many of them print something else."""
     lines = path.read_text(encoding="utf-8").split("\n")
-    name = path.relative_to(ROOT)
+    name = path.relative_to(ROOT) if is_ours(path) else path
     steps = steps_of(lines, path.parent.name == "man", left_out)
-    seen, status = printed(steps, program, kept)
+    seen, status = printed(path, steps, program, kept)
     wrong = 0
     for step, got in reversed(list(zip(steps, seen))):
         got = [] if got == [""] else got

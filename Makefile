@@ -41,7 +41,7 @@ NEED_PYTHON = $(PYTHON) -c 'import cryptography' 2> /dev/null || \
 
 .PHONY: build proved dist verify-dist demo check test soak tools-test docs-test fuzz hostile install uninstall clean bench instructions
 .PHONY: install-tools list-installed
-.PHONY: report-test check-dist test-without-rt deb tarball library library-test library-soak install-library uninstall-library
+.PHONY: report-test test-all test-without-rt deb tarball library library-test library-soak install-library uninstall-library
 
 build: cmsproof $(LIBRARY)
 
@@ -83,9 +83,9 @@ check:
 # narrow and as rt fmt lays them out; the edits that are owed because something changed that they stand on; every proof (from nothing, unless this machine proved
 # the same text before), the edits that the gate keeps, none of them bad, the tests, the program as two compilers build it; then whether
 # dist/ is what those proved sources compile to, the rows of the tests on the program that is built from it, whether all of the tools is
-# installed and packed, what jobs of the program cost, and rows on aarch64's if it can be emulated.
+# installed and packed, and runs the guide's commands there, what jobs of the program cost, and rows on aarch64's if it can be emulated.
 # RT_JOBS=N has N checks run side by side, SOAK_MINUTES=N gives the edits that are owed N minutes. Without `rt`, what can be done
-# without it.
+# without it, and is not long.
 ifeq ($(shell command -v rt 2> /dev/null),)
 test: test-without-rt
 else
@@ -107,19 +107,20 @@ test:
 	$(PYTHON) tools/dist.py emulated
 endif
 
-test-without-rt:
-	@echo "cmsproof: no command 'rt' is on the PATH: nothing is proved, and no edit is tried; the rest is 'make check-dist', which runs now"
-	@$(MAKE) --no-print-directory check-dist
-
 # What can be tested without `rt`: that dist/ is as its sums say, what the built program says of all rows that a program can show,
-# the tests of the tools, and the commands of the documents. What this machine lacks is left out, with a line that says why; the last
-# line counts it.
-check-dist:
+# the tests of the tools, and the commands of the documents; where `make test` does it, without the tests that take long, in ten minutes
+# on two processors. What is left out, for that or since this machine lacks something, has a line that says why; the last line counts it.
+test-without-rt:
+	@echo "cmsproof: no command 'rt' is on the PATH: nothing is proved, and no edit is tried"
+	@$(MAKE) --no-print-directory test-all TESTED=short
+
+test-all: TESTED =
+test-all:
 	@CC='$(CC)' sh tools/build.sh
 	@$(MAKE) --no-print-directory --always-make $(LIBRARY)
-	@cd dist && sha256sum --check --quiet SHA256SUMS && echo "check-dist: dist/ is as its sums say"
+	@cd dist && sha256sum --check --quiet SHA256SUMS && echo "dist/ is as its sums say"
 	@$(PYTHON) tools/program_rows.py ./cmsproof
-	@status=0; { $(LOOK); } || status=1; $(PYTHON) tools/on_installed.py || status=1; exit $$status
+	@status=0; { $(LOOK); } || status=1; $(PYTHON) tools/on_installed.py $(TESTED) || status=1; exit $$status
 
 # The workloads of dist/ here, timed by bench/run against those of the dist/ of commit SINCE, with SEED=N: no proof is needed.
 bench:

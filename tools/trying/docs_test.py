@@ -32,6 +32,7 @@ copies of what is in `examples` beside that one, and nothing of the repository. 
 """
 import argparse
 import difflib
+import json
 import os
 import re
 import shutil
@@ -223,6 +224,11 @@ def test(path, program, write, kept, left_out):
     return count, wrong
 
 
+def documents():
+    """All documents with commands that are there."""
+    return [ROOT / name for name in DOCUMENTS if (ROOT / name).exists()] + sorted((ROOT / "man").glob("*.[1-9]"))
+
+
 def main():
     parser = argparse.ArgumentParser(add_help=False)
     parser.add_argument("--write", action="store_true")
@@ -233,8 +239,7 @@ def main():
     if missing := [str(path) for path in (program, tools_folder()) if not path.exists()]:
         print("docs_test.py: not found: %s" % ", ".join(missing), file=sys.stderr)
         return 3
-    documents = [ROOT / name for name in DOCUMENTS if (ROOT / name).exists()] + sorted((ROOT / "man").glob("*.[1-9]"))
-    paths = [Path(word).resolve() for word in given.documents] or documents
+    paths = [Path(word).resolve() for word in given.documents] or documents()
     missing = [name for name in NEEDED if not is_there(name)]
     for path in paths:
         if missing:
@@ -247,18 +252,18 @@ def main():
 
 def told(results, left_out):
     """Says what was left out, and in the last line how it went, and gives the exit status."""
-    for reason, count in sorted(left_out.items()):
-        print("documents: %d commands left out: %s" % (count, reason))
-    wrong = sum(result[1] for result in results)
-    line = "documents: %d commands, %d differ, %d left out" % (
-        sum(result[0] for result in results),
-        wrong,
-        sum(left_out.values()),
-    )
-    print(line)
-    if os.environ.get("CMSPROOF_COUNTS"):
-        Path(os.environ["CMSPROOF_COUNTS"]).write_text(line + "\n", encoding="utf-8")
+    for reason, number in sorted(left_out.items()):
+        print("documents: %d commands left out: %s" % (number, reason))
+    commands, wrong = (sum(result[place] for result in results) for place in (0, 1))
+    print("documents: %d commands, %d differ, %d left out" % (commands, wrong, sum(left_out.values())))
+    count(commands, wrong, left_out)
     return 1 if wrong else 0
+
+
+def count(number, wrong, left_out, **more):
+    """Keeps for who runs this how many there were, how many of them are wrong, how many were left out for each reason, and more."""
+    if kept := os.environ.get("CMSPROOF_COUNTS"):
+        Path(kept).write_text(json.dumps({"all": number, "wrong": wrong, "left_out": left_out, **more}), encoding="utf-8")
 
 
 if __name__ == "__main__":

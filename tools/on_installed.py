@@ -321,10 +321,9 @@ def main() -> int:
         runs = [run for one in (("tests", "documents") if what in ("short", "all") else (what,)) for run in runs_of(one, words)]
         surroundings = {**environment(root), **({"CMSPROOF_SHORT": "1"} if what == "short" else {})}
         found = list(side_by_side(runs, folder, surroundings, MOST if what == "gate" else math.inf))
-    wrong = told(found)
-    if what == "record" and not wrong:
+    if what == "record":
         record(found)
-    return 1 if wrong else 0
+    return 1 if told(found) else 0
 
 
 if __name__ == "__main__":

@@ -47,7 +47,7 @@ LIBRARIES = {"cryptography": "python3-cryptography"}
 GATE, MOST = ("test_install", "test_packages.Unpacked"), 1800
 # The tests that take more than so many seconds of a processor, each in a line with how many, and why they are left out.
 LONG, SECONDS = TESTS / "long.txt", 3
-TAKES_LONG = "it takes long, and make test-all runs it"
+TAKES_LONG = "they take long, and make test-all runs them"
 HEAD = f"# the tests that take more than {SECONDS} seconds of a processor, and how many: `python3 tools/on_installed.py record` writes this\n"
 
 
@@ -216,7 +216,7 @@ def runs_of(what: str, words: list[str]) -> list[Run]:
     """The processes of what was asked for."""
     if what == "documents":
         paths = list(map(Path, words)) or docs_test.documents()
-        return [Run(what, os.path.relpath(path, TOP), [docs_test.__file__, str(path)]) for path in paths]
+        return [Run(what, str(path).replace(f"{TOP}/", ""), [docs_test.__file__, str(path)]) for path in paths]
     names = GATE if what == "gate" else what == "tests" and words or sorted(path.stem for path in TESTS.glob("test_*.py"))
     return [Run("tests", name, [__file__, "--here", name]) for name in names]
 

@@ -25,7 +25,7 @@ def wait(mine, other):
     open(f'{os.environ["PLACE"]}/{mine}', 'w').write(str(os.getpid()))
     while not os.path.exists(f'{os.environ["PLACE"]}/{other}'): time.sleep(0.01)
 """
-LONG = "tests: 1 left out: it takes long, and make test-all runs it: test_good 1"
+LONG = "tests: 1 left out: they take long, and make test-all runs them: test_good 1"
 # what is run, the status, and the lines that are printed among others, of which the last is the last one
 ROWS = [
     ("tests test_good test_needs", 0, ["tests: 1 left out: there is no flute: test_needs 1", "tests: 3, 0 failed, 1 left out"]),

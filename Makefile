@@ -14,13 +14,20 @@ DOCDIR = $(DESTDIR)$(PREFIX)/share/doc/cmsproof
 FOR_BASH = $(DESTDIR)$(PREFIX)/share/bash-completion/completions
 FOR_ZSH = $(DESTDIR)$(PREFIX)/share/zsh/site-functions
 FOR_FISH = $(DESTDIR)$(PREFIX)/share/fish/vendor_completions.d
-# the machines that packages are made for
-ARCHES ?= amd64 arm64
+# the machines that packages are made for: this one, or those of ARCHES='amd64 arm64', by a compiler for each
+ARCHES ?= $(patsubst x86_64,amd64,$(patsubst aarch64,arm64,$(shell uname -m)))
 # What is installed of the tools is what their folder has, and no list of it stands anywhere: the commands, and under the names of
 # Python's packages the modules and what lies beside them. (A hidden file, a backup of an editor or what Python compiled has another name.)
 TOOLS := $(shell test ! -d tools/installed || LC_ALL=C find tools/installed -maxdepth 1 -type f -regex 'tools/installed/cmsproof-[a-z]+' | LC_ALL=C sort)
 MODULES := $(shell cd tools/installed 2> /dev/null && LC_ALL=C find cmsproof cmsproof_tools -type f \
     -regex '[a-z0-9_/]+\.[a-z]+' ! -name '*.pyc' ! -path '*/__pycache__/*' | LC_ALL=C sort)
+# The documents that are installed, and below `examples` what their commands use of the repository, under its names: all that is in these
+# folders, but of the guide's session its files alone, beside which the builder may have keys.
+DOCUMENTS := LICENSE NOTICE README.md dist/PROVENANCE $(addprefix docs/,GUIDE.md PROVED.md REFUSALS.md TOOLS.md guide.svg records.svg)
+EXAMPLES := $(addprefix data/guide/,answers.txt authority.pem found.pem found_authority.pem letter.p7s letter.tsq letter.tsr read.txt \
+    second.pem second.tsr signer.pem trusted.txt trusted_second.txt trusted_until.txt) \
+    $(shell test ! -d data/real || LC_ALL=C find data/real data/records tools/oracle tools/samples -type f \
+    -regex '[a-z_/]+/[A-Za-z0-9_]+\(\.[a-z0-9]+\)?' ! -name '*.pyc' | LC_ALL=C sort)
 FISH := $(addprefix packaging/completion/,cmsproof.fish $(patsubst %,%.fish,$(notdir $(TOOLS))))
 # each of the names in $(2), in the folder $(1), whose name may have a space or a %
 IN = $(foreach name,$(2),"$(1)/$(name)")
@@ -34,7 +41,7 @@ NEED_PYTHON = $(PYTHON) -c 'import cryptography' 2> /dev/null || \
 
 .PHONY: build proved dist verify-dist demo check test soak tools-test docs-test fuzz hostile install uninstall clean bench instructions
 .PHONY: install-tools list-installed
-.PHONY: report-test check-dist test-without-rt deb tarball library library-test library-soak install-library uninstall-library
+.PHONY: report-test test-all test-without-rt deb tarball library library-test library-soak install-library uninstall-library
 
 build: cmsproof $(LIBRARY)
 
@@ -76,9 +83,9 @@ check:
 # narrow and as rt fmt lays them out; the edits that are owed because something changed that they stand on; every proof (from nothing, unless this machine proved
 # the same text before), the edits that the gate keeps, none of them bad, the tests, the program as two compilers build it; then whether
 # dist/ is what those proved sources compile to, the rows of the tests on the program that is built from it, whether all of the tools is
-# installed and packed, what jobs of the program cost, and rows on aarch64's if it can be emulated.
+# installed and packed, and runs the guide's commands there, what jobs of the program cost, and rows on aarch64's if it can be emulated.
 # RT_JOBS=N has N checks run side by side, SOAK_MINUTES=N gives the edits that are owed N minutes. Without `rt`, what can be done
-# without it.
+# without it, and is not long.
 ifeq ($(shell command -v rt 2> /dev/null),)
 test: test-without-rt
 else
@@ -100,19 +107,20 @@ test:
 	$(PYTHON) tools/dist.py emulated
 endif
 
-test-without-rt:
-	@echo "cmsproof: no command 'rt' is on the PATH: nothing is proved, and no edit is tried; the rest is 'make check-dist', which runs now"
-	@$(MAKE) --no-print-directory check-dist
-
 # What can be tested without `rt`: that dist/ is as its sums say, what the built program says of all rows that a program can show,
-# the tests of the tools, and the commands of the documents. What this machine lacks is left out, with a line that says why; the last
-# line counts it.
-check-dist:
+# the tests of the tools, and the commands of the documents; where `make test` does it, without the tests that take long, in ten minutes
+# on two processors. What is left out, for that or since this machine lacks something, has a line that says why; the last line counts it.
+test-without-rt:
+	@echo "cmsproof: no command 'rt' is on the PATH: nothing is proved, and no edit is tried"
+	@$(MAKE) --no-print-directory test-all TESTED=short
+
+test-all: TESTED =
+test-all:
 	@CC='$(CC)' sh tools/build.sh
 	@$(MAKE) --no-print-directory --always-make $(LIBRARY)
-	@cd dist && sha256sum --check --quiet SHA256SUMS && echo "check-dist: dist/ is as its sums say"
+	@cd dist && sha256sum --check --quiet SHA256SUMS && echo "dist/ is as its sums say"
 	@$(PYTHON) tools/program_rows.py ./cmsproof
-	@status=0; { $(LOOK); } || status=1; $(PYTHON) tools/on_installed.py || status=1; exit $$status
+	@status=0; { $(LOOK); } || status=1; $(PYTHON) tools/on_installed.py $(TESTED) || status=1; exit $$status
 
 # The workloads of dist/ here, timed by bench/run against those of the dist/ of commit SINCE, with SEED=N: no proof is needed.
 bench:
@@ -159,8 +167,9 @@ install: build install-tools
 	install -d "$(MANDIR)/man1" "$(MANDIR)/man5"
 	install -m 644 $(wildcard man/*.1) "$(MANDIR)/man1"
 	install -m 644 $(wildcard man/*.5) "$(MANDIR)/man5"
-	install -d "$(DOCDIR)"
-	install -m 644 LICENSE NOTICE docs/REFUSALS.md "$(DOCDIR)"
+	install -d $(call IN,$(DOCDIR)/examples,$(sort $(dir $(EXAMPLES))))
+	install -m 644 $(DOCUMENTS) "$(DOCDIR)"
+	set -e; for example in $(EXAMPLES); do install -m 644 "$$example" "$(DOCDIR)/examples/$$example"; done
 	install -d "$(FOR_BASH)" "$(FOR_ZSH)" "$(FOR_FISH)"
 	install -m 644 packaging/completion/cmsproof.bash "$(FOR_BASH)/cmsproof"
 	for tool in $(notdir $(TOOLS)); do ln -sf cmsproof "$(FOR_BASH)/$$tool"; done
@@ -179,7 +188,7 @@ install-tools: $(LIBRARY)
 
 # Which files of the folders are installed as they are: whoever makes packages in a clone asks git whether it knows them all.
 list-installed:
-	@printf '%s\n' $(TOOLS) $(addprefix tools/installed/,$(MODULES)) $(wildcard man/*.1) $(wildcard man/*.5)
+	@printf '%s\n' $(TOOLS) $(addprefix tools/installed/,$(MODULES)) $(wildcard man/*.1) $(wildcard man/*.5) $(DOCUMENTS) $(EXAMPLES)
 
 uninstall:
 	rm -f "$(BINDIR)/cmsproof" $(call IN,$(BINDIR),$(notdir $(TOOLS)))

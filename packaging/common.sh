@@ -82,20 +82,10 @@ known() {
         > "$work/known" 2> "$work/unknown" || stop "what would be packed is not as git knows it: $(head -n 1 "$work/unknown")"
 }
 
-# the files of docs/GUIDE.md, and none that the builder has beside them
-examples='answers.txt authority.pem found.pem found_authority.pem letter.p7s letter.tsq letter.tsr read.txt second.pem second.tsr
-signer.pem trusted.txt trusted_second.txt trusted_until.txt'
-
-# tree FOLDER PREFIX: what `make install` puts there, with the texts that packages have besides.
+# tree FOLDER PREFIX: what `make install` puts there.
 tree() {
     known
     make -s -C "$top" -o cmsproof -o tools/installed/cmsproof/libcmsproof.so.1 install DESTDIR="$1" PREFIX="$2" > "$work/install.log"
-    documents=$1$2/share/doc/cmsproof
-    install -m 644 "$top/README.md" "$top/docs/PROVED.md" "$top/dist/PROVENANCE" "$documents"
-    # the guide, whose files are the examples, and what it sends its readers to
-    install -m 644 "$top/docs/GUIDE.md" "$top/docs/guide.svg" "$top/docs/records.svg" "$top/docs/TOOLS.md" "$documents"
-    install -d "$documents/examples"
-    for example in $examples; do install -m 644 "$top/data/guide/$example" "$documents/examples"; done
 }
 
 # put FILE NAME: puts a package into packages/, whole or not at all.

@@ -4,11 +4,14 @@ The attacks on PDF are made here from their descriptions: universal signature fo
 (Mladenov and others, 2019), shadow attacks (Mainka and others, 2021).
 """
 import io
+import os
 import re
+import shutil
 import struct
 import unittest
 import zipfile
 import zlib
+from unittest import mock
 
 from containing import PDF, WithMaker, made
 from making import processor_seconds
@@ -430,6 +433,24 @@ class Hostile(WithMaker):
         found = self.lines("--jobs", "1")
         self.assertLess(processor_seconds() - began, 30)
         self.assertEqual({line.split()[0] for line in found.values()} - {"malformed"}, {"refused"}, found)
+
+    def test_how_long_openssl_may_take(self):
+        """So long by the processor's time, and not by the clock, by which a busy machine would refuse honest files."""
+        from cmsproof_tools.containers import ber
+        from cmsproof_tools.containers.refusals import Refused
+
+        attached, program = self.maker.attached(b"c"), self.folder / "bin" / "openssl"
+        program.parent.mkdir()
+        path = {"PATH": f"{program.parent}:{os.environ['PATH']}"}
+        for waits, wanted in ((f'sleep 2; exec {shutil.which("openssl")} "$@"', attached), ("while :; do :; done", "F4")):
+            program.write_text(f"#!/bin/sh\n{waits}\n")
+            program.chmod(0o755)
+            with mock.patch.object(ber, "SECONDS", 1), mock.patch.dict(os.environ, path):
+                try:
+                    found = ber.in_der(memoryview(made.in_ber(attached)))
+                except Refused as refused:
+                    found = refused.code
+            self.assertEqual(found, wanted)
 
     def test_what_is_missing_stops_its_container_alone(self):
         (self.folder / "gone").mkdir()

@@ -173,7 +173,8 @@ def evil():
         "in_a_string": (file_of({**BASE, 4: NINE}, {9: b"(endobj\n" + in_stream + b")"}).lead(4, in_stream).end(), "F10"),
         "left_out": (file_of({**BASE, 3: page(8).replace(b"8 0 R", b"[4 0 R 8 0 R]")}, whole(8, NINE)).end(), "F10"),
         "left_out_alone": (file_of({**BASE, 3: page(8)}, whole(8, NINE)).end(), "F10"),
-        "left_out_pages": (file_of(whole(2, BASE[2]), {**NO_PAGES, 4: NINE}).end(), "F10"),
+        # (which newer versions of qpdf do not open)
+        "left_out_pages": (file_of(whole(2, BASE[2]), {**NO_PAGES, 4: NINE}).end(), "F(3|10)"),
         "left_out_packed": (file_of({**BASE, 2: TWO_PAGES, 8: NINE, 10: packed_object(7, page(8))}).end_in_a_stream(), "F10"),
         "other_catalog": (file_of(BASE, other).end_in_a_stream(), "F10"),
         "other_trailer": (file_of(BASE, nameless).end().put(b"trailer\n<< /Size 25 /Root 21 0 R >>\n"), "F10"),

@@ -214,7 +214,7 @@ class Building(Tree):
             os.utime(self.top / name, (0, 0))
         for path in self.dist.iterdir():
             os.utime(path, (0, 0))
-        self.build("check-dist", "PYTHON=true")
+        self.build("test-all", "PYTHON=true")
         self.assertNotEqual((self.top / "cmsproof").read_bytes(), b"another program\n")
         self.assertEqual(library.read_bytes(), b"a library\n")
 

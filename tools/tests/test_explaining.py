@@ -39,11 +39,11 @@ class Explanations(unittest.TestCase):
             certificate = Path(folder) / "certificate"
             for entry, serial, end in ((0, "2b", "20350208071756Z"), (5, "30", "20350208071757Z")):
                 certificate.write_bytes(bytes.fromhex(lines_of_list()[entry][3]))
-                words = ["-in", certificate, "-noout", "-serial", "-enddate", "-dateopt", "iso_8601", "-issuer"]
-                said = openssl("x509", *words).decode().splitlines()
+                words = ["-noout", "-serial", "-enddate", "-dateopt", "iso_8601", "-issuer", "-nameopt", "RFC2253"]
+                said = openssl("x509", "-in", certificate, *words).decode().splitlines()
                 self.assertEqual(said[0].lower(), "serial=6d1c05658474a5840ce97e37f4ead3e16cefe6" + serial)
                 self.assertEqual("".join(c for c in said[1] if c.isdigit()) + "Z", end)
-                self.assertEqual(said[2], "issuer=O = anchors, CN = Anchor Root")
+                self.assertEqual(said[2], "issuer=CN=Anchor Root,O=anchors")
 
     def test_a_signer(self):
         serial, time = "6d1c05658474a5840ce97e37f4ead3e16cefe62b", "20261122071759Z"

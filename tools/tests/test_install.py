@@ -20,7 +20,7 @@ class Installing(unittest.TestCase):
     def setUp(self):
         self.folder = folder_of(self)
         (self.folder / "tree" / "crates").mkdir(parents=True)
-        for name in ("Makefile", "LICENSE", "NOTICE"):
+        for name in ("Makefile", "LICENSE", "NOTICE", "README.md"):
             shutil.copy(TOP / name, self.folder / "tree")
         shutil.copytree(SOURCES, self.folder / "tree" / "tools" / "installed", ignore=shutil.ignore_patterns("__pycache__"))
         # what an editor or Python leaves there is not installed, and a new module is, without a word in a list
@@ -36,10 +36,10 @@ class Installing(unittest.TestCase):
             path = self.folder / "tree" / "tools" / "installed" / "cmsproof_tools" / name
             path.parent.mkdir(exist_ok=True)
             path.write_text("no module\n")
-        for name in ("man", "packaging"):
-            shutil.copytree(TOP / name, self.folder / "tree" / name)
-        (self.folder / "tree" / "docs").mkdir()
-        shutil.copy(TOP / "docs" / "REFUSALS.md", self.folder / "tree" / "docs")
+        for name in ("man", "packaging", "docs", "data", "tools/oracle", "tools/samples"):
+            shutil.copytree(TOP / name, self.folder / "tree" / name, ignore=shutil.ignore_patterns("__pycache__"))
+        (self.folder / "tree" / "dist").mkdir()
+        shutil.copy(TOP / "dist" / "PROVENANCE", self.folder / "tree" / "dist")
         (self.folder / "tree" / "cmsproof").write_text("")
         shutil.copy(REAL / "rsa_attached_ts.p7s", self.folder / "file")
         shutil.copy(REAL / "trust.txt", self.folder / "list")
@@ -87,7 +87,12 @@ class Installing(unittest.TestCase):
         pages = self.folder / "root" / "usr" / "share" / "man"
         self.assertEqual({page.name for page in pages.rglob("*.?")}, {page.name for page in (TOP / "man").iterdir()})
         documents = self.folder / "root" / "usr" / "share" / "doc" / "cmsproof"
-        self.assertEqual(sorted(path.name for path in documents.iterdir()), ["LICENSE", "NOTICE", "REFUSALS.md"])
+        there = {str(path.relative_to(documents)) for path in documents.rglob("*") if path.is_file()}
+        texts = "LICENSE NOTICE PROVENANCE README.md GUIDE.md PROVED.md REFUSALS.md TOOLS.md guide.svg records.svg"
+        tree = self.folder / "tree"
+        used = [path for name in ("data", "tools/oracle", "tools/samples") for path in (tree / name).rglob("*")]
+        used = [f"examples/{path.relative_to(tree)}" for path in used if path.is_file()]
+        self.assertEqual(there, {*texts.split(), *used})
         made, share = TOP / "packaging" / "completion", self.folder / "root" / "usr" / "share"
         table = [
             ("bash-completion/completions", {name: "cmsproof.bash" for name in names}),
@@ -117,10 +122,10 @@ class Installing(unittest.TestCase):
         importlib.util.find_spec("pip") and shutil.which("make"), "there is no pip for this Python, or no make"
     )
     def test_installed_by_pip(self):
-        for name in ("pyproject.toml", "README.md", "tools/library.sh"):
+        for name in ("pyproject.toml", "tools/library.sh"):
             shutil.copy(TOP / name, self.folder / "tree" / name)
         for name in ("dist", "include"):
-            shutil.copytree(TOP / name, self.folder / "tree" / name)
+            shutil.copytree(TOP / name, self.folder / "tree" / name, dirs_exist_ok=True)
         # (one that is there is built anew: it may be of another machine)
         (self.folder / "tree" / "tools" / "installed" / "cmsproof" / "libcmsproof.so.1").write_text("of another machine\n")
         words = "pip install --no-deps --no-index --quiet --prefix".split()

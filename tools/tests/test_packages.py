@@ -26,7 +26,9 @@ COPIED = (
     "tools/installed",
     "tools/library.sh",
     "include",
-    "data/guide",
+    "data",
+    "tools/oracle",
+    "tools/samples",
 )
 CODE = "#include <stdio.h>\nextern const char *line;\nint main(void) { puts(line); return 0; }\n"
 MACHINE = os.uname().machine
@@ -100,7 +102,6 @@ class Packages(unittest.TestCase):
             "-o",
             "tools/installed/cmsproof/libcmsproof.so.1",
             *words,
-            f"ARCHES={ARCH}",
             f"BINDIR={self.trees[0].parent / 'bin'}",
         ]
         odd = {"CDPATH": str(self.trees[0].parent), "TAR_OPTIONS": "--exclude=INSTALL", "GZIP": "-v", "POSIXLY_CORRECT": "1"}
@@ -116,14 +117,16 @@ class Packages(unittest.TestCase):
     def test_tarballs_are_the_same(self):
         one, other = self.built("tarball")
         self.assertEqual(one, other)
-        path = next((self.trees[0] / "packages").iterdir())
+        (path,) = (self.trees[0] / "packages").iterdir()
+        self.assertTrue(path.name.endswith(f"-{ARCH}.tar.gz"))
         with tarfile.open(path) as tar:
             members = tar.getmembers()
             tar.extractall(self.trees[0] / "out")
         self.assertEqual({(member.uid, member.gid, member.mtime) for member in members}, {(0, 0, members[0].mtime)})
         folder = self.trees[0] / "out" / path.name.replace(".tar.gz", "")
         wanted = {"bin/cmsproof", "bin/cmsproof-archive", "INSTALL", "share/doc/cmsproof/PROVENANCE"}
-        wanted |= {f"share/doc/cmsproof/examples/{path.name}" for path in (self.trees[0] / "data" / "guide").iterdir()}
+        examples = [path for name in ("data", "tools/oracle", "tools/samples") for path in (self.trees[0] / name).rglob("*")]
+        wanted |= {f"share/doc/cmsproof/examples/{path.relative_to(self.trees[0])}" for path in examples if path.is_file()}
         wanted |= {f"lib/cmsproof/{name}" for name in modules_there()}
         documents = ("GUIDE.md", "guide.svg", "records.svg", "TOOLS.md", "REFUSALS.md", "PROVED.md")
         wanted |= {f"share/doc/cmsproof/{name}" for name in documents}
@@ -155,7 +158,8 @@ class Packages(unittest.TestCase):
     def test_packages_for_debian_are_the_same(self):
         one, other = self.built("deb")
         self.assertEqual(one, other)
-        self.assertEqual({name.split("_")[0] for name in one}, {"cmsproof", "libcmsproof1", "libcmsproof-dev"})
+        names = ("cmsproof", "libcmsproof1", "libcmsproof-dev")
+        self.assertEqual({(name.split("_")[0], name.split("_")[-1]) for name in one}, {(name, f"{ARCH}.deb") for name in names})
         root = self.trees[0] / "root"
         for name in one:
             package = self.trees[0] / "packages" / name
@@ -179,7 +183,12 @@ class Packages(unittest.TestCase):
         for words in (["init", "-q"], ["add", "-f", "."], ["commit", "-q", "-m", "all"]):
             subprocess.run([*git, *words], cwd=tree, check=True, capture_output=True)
         self.assertEqual(self.make(tree, "tarball").returncode, 0)
-        for name in ("tools/installed/cmsproof_tools/mine.py", "tools/installed/cmsproof-mine", "man/mine.1"):
+        for name in (
+            "tools/installed/cmsproof_tools/mine.py",
+            "tools/installed/cmsproof-mine",
+            "man/mine.1",
+            "data/records/mine",
+        ):
             (tree / name).write_text("the builder's\n")
             done = self.make(tree, "tarball", f"GIT_DIR={tree.parent / 'none'}")
             self.assertNotEqual(done.returncode, 0)
@@ -198,6 +207,7 @@ class Packages(unittest.TestCase):
             self.assertNotEqual(done.returncode, 0)
             self.assertIn(told, done.stderr)
             (self.trees[0] / name).write_text(was)
+        self.assertIn("there is no package for riscv64", self.make(self.trees[0], "tarball", "ARCHES=riscv64").stderr)
 
     def test_a_disk_that_fills_leaves_no_part_of_a_package(self):
         odd = self.trees[0].parent / "odd"
@@ -236,7 +246,7 @@ class Unpacked(unittest.TestCase):
         (tree / "cmsproof").write_text(""), (tree / "tools/installed/cmsproof/libcmsproof.so.1").write_text("")
         targets = ["tarball", *(["deb"] if shutil.which("dpkg-deb") else [])]
         built = ["-o", "cmsproof", "-o", "tools/installed/cmsproof/libcmsproof.so.1"]
-        words = ["make", "-s", *built, *targets, f"ARCHES={ARCH}"]
+        words = ["make", "-s", *built, *targets]
         alone = {name: text for name, text in os.environ.items() if not name.startswith("MAKE")}
         done = subprocess.run(words, cwd=tree, capture_output=True, text=True, check=False, env=alone)
         if done.returncode:
@@ -267,6 +277,20 @@ class Unpacked(unittest.TestCase):
         for root in self.roots:
             told = imported_alone(f"{PYTHON} -I", root / "lib" / "cmsproof", cwd=self.folder)
             self.assertEqual(told, wanted, root)
+
+    def test_the_commands_of_the_guide(self):
+        for root in self.roots:
+            # (Debian's package is run by Debian's Python, which is what the guide calls python3 then)
+            debian = [str(Path(DEBIAN).parent)] if root.parent.name == "deb" else []
+            if debian and not has(DEBIAN, "cryptography"):
+                self.skipTest(f"{DEBIAN} has no library cryptography, so of the packages the guide of the tarball was run")
+            path = os.pathsep.join([str(root / "bin"), *debian, os.environ["PATH"]])
+            guide = root / "share" / "doc" / "cmsproof" / "GUIDE.md"
+            words = [sys.executable, TOP / "tools" / "trying" / "docs_test.py", guide]
+            alone = {**os.environ, "PATH": path, "CMSPROOF_TREE": str(root)}
+            alone.pop("CMSPROOF_COUNTS", None)
+            done = subprocess.run(words, capture_output=True, text=True, check=False, env=alone)
+            self.assertRegex(done.stdout, r"GUIDE\.md: 1\d\d commands, 0 differ\n", done.stderr)
 
     def test_a_file_of_each_kind(self):
         """The folder of README.md, with a PDF, ASiC, mail, PEM, BER and DER in it."""

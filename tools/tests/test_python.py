@@ -354,7 +354,9 @@ class Checking(unittest.TestCase):
 
     def test_forks_of_several_threads(self):
         """Each of them ends, as every call beside it; lists that are made meanwhile, and a signal in the middle of a call, change nothing."""
-        done = subprocess.run([sys.executable, "-c", FORKS, MODULES, REAL], capture_output=True, timeout=120, check=False)
+        # (Python 3.12 warns of each such fork)
+        words = [sys.executable, "-W", "ignore:This process:DeprecationWarning", "-c", FORKS, MODULES, REAL]
+        done = subprocess.run(words, capture_output=True, timeout=120, check=False)
         self.assertEqual((done.returncode, done.stdout, done.stderr), (0, b"done\n", b""))
 
 

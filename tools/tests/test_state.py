@@ -505,7 +505,7 @@ class Deciding(unittest.TestCase):
         for octets in [bytes.fromhex(line.split()[-1]) for line in TRUST.read_text().splitlines() if " 30" in line]:
             words = ["openssl", "x509", "-inform", "DER", "-noout", "-subject"]
             shown = subprocess.run(words, input=octets, capture_output=True, check=True).stdout
-            found[shown.split()[-1]] = hashlib.sha256(octets).hexdigest()
+            found[shown.split(b"=")[-1].strip()] = hashlib.sha256(octets).hexdigest()
         return [found[name] for name in (b"rsa_signer", b"ec_signer", b"tsa_ec", b"tsa")]
 
     def test_a_valid_token_alone_counts(self):

@@ -26,11 +26,13 @@ How a block is marked:
   prepare files, what they print is not compared, and they must succeed.
 
 All commands of a document run in one shell, in a new folder that is removed afterwards: `crates`, `data`, `docs` and `tools`
-in it are those of the repository, but where installed tools are tested `tools` has none; `cmsproof` and its tools are on the PATH. So
+in it are those of the repository, but where installed tools are tested `tools` has none; for a document that is installed it has
+copies of what is in `examples` beside that one, and nothing of the repository. `cmsproof` and its tools are on the PATH. So
 `echo $?` prints the status of the command before it. What `mktemp` makes is removed too.
 """
 import argparse
 import difflib
+import json
 import os
 import re
 import shutil
@@ -144,8 +146,17 @@ def the_program():
     return Path(TREE, "bin", "cmsproof") if TREE else Path(os.environ.get("CMSPROOF", ROOT / "cmsproof")).resolve()
 
 
-def link_repository(folder):
-    """Has a folder show what the documents name of the repository, but not its tools where those that are installed are tested."""
+def is_ours(path):
+    """Whether a document is one of the repository, and not one that was installed elsewhere."""
+    return ROOT in path.parents
+
+
+def show(path, folder):
+    """Has a folder show what a document names: of the repository, but not its tools where those that are installed are tested, or what
+    was installed beside it."""
+    if not is_ours(path):
+        shutil.copytree(path.parent / "examples", folder, dirs_exist_ok=True)
+        return
     for name in "crates", "data", "docs":
         os.symlink(ROOT / name, Path(folder, name))
     if not TREE:
@@ -164,19 +175,19 @@ def keep(session, kept):
             shutil.copyfile(Path(session, path.name), path)
 
 
-def printed(steps, program, kept):
+def printed(path, steps, program, kept):
     """What each command printed, as lines; fewer where the shell ended before."""
     with tempfile.TemporaryDirectory() as folder, tempfile.TemporaryDirectory() as programs:
-        link_repository(folder)
+        show(path, folder)
         os.symlink(program, Path(programs, "cmsproof"))
-        path = os.pathsep.join([programs, str(tools_folder()), os.environ["PATH"]])
+        places = os.pathsep.join([programs, str(tools_folder()), os.environ["PATH"]])
         done = subprocess.run(
             ["bash", "-c", script_of(steps)],
             cwd=folder,
             stdin=subprocess.DEVNULL,
             stdout=subprocess.PIPE,
             stderr=subprocess.STDOUT,
-            env={**os.environ, "PATH": path, "TMPDIR": programs, "LC_ALL": "C.UTF-8", "TZ": "UTC"},
+            env={**os.environ, "PATH": places, "TMPDIR": programs, "LC_ALL": "C.UTF-8", "TZ": "UTC"},
         )
         if kept:
             keep(folder, kept)
@@ -187,9 +198,9 @@ def printed(steps, program, kept):
 def test(path, program, write, kept, left_out):
     """How many commands a document has that can be run, and how many of them print something else."""
     lines = path.read_text(encoding="utf-8").split("\n")
-    name = path.relative_to(ROOT)
+    name = path.relative_to(ROOT) if is_ours(path) else path
     steps = steps_of(lines, path.parent.name == "man", left_out)
-    seen, status = printed(steps, program, kept)
+    seen, status = printed(path, steps, program, kept)
     wrong = 0
     for step, got in reversed(list(zip(steps, seen))):
         got = [] if got == [""] else got
@@ -213,6 +224,11 @@ def test(path, program, write, kept, left_out):
     return count, wrong
 
 
+def documents():
+    """All documents with commands that are there."""
+    return [ROOT / name for name in DOCUMENTS if (ROOT / name).exists()] + sorted((ROOT / "man").glob("*.[1-9]"))
+
+
 def main():
     parser = argparse.ArgumentParser(add_help=False)
     parser.add_argument("--write", action="store_true")
@@ -223,8 +239,7 @@ def main():
     if missing := [str(path) for path in (program, tools_folder()) if not path.exists()]:
         print("docs_test.py: not found: %s" % ", ".join(missing), file=sys.stderr)
         return 3
-    documents = [ROOT / name for name in DOCUMENTS if (ROOT / name).exists()] + sorted((ROOT / "man").glob("*.[1-9]"))
-    paths = [Path(word).resolve() for word in given.documents] or documents
+    paths = [Path(word).resolve() for word in given.documents] or documents()
     missing = [name for name in NEEDED if not is_there(name)]
     for path in paths:
         if missing:
@@ -237,18 +252,18 @@ def main():
 
 def told(results, left_out):
     """Says what was left out, and in the last line how it went, and gives the exit status."""
-    for reason, count in sorted(left_out.items()):
-        print("documents: %d commands left out: %s" % (count, reason))
-    wrong = sum(result[1] for result in results)
-    line = "documents: %d commands, %d differ, %d left out" % (
-        sum(result[0] for result in results),
-        wrong,
-        sum(left_out.values()),
-    )
-    print(line)
-    if os.environ.get("CMSPROOF_COUNTS"):
-        Path(os.environ["CMSPROOF_COUNTS"]).write_text(line + "\n", encoding="utf-8")
+    for reason, number in sorted(left_out.items()):
+        print("documents: %d commands left out: %s" % (number, reason))
+    commands, wrong = (sum(result[place] for result in results) for place in (0, 1))
+    print("documents: %d commands, %d differ, %d left out" % (commands, wrong, sum(left_out.values())))
+    count(commands, wrong, left_out)
     return 1 if wrong else 0
+
+
+def count(number, wrong, left_out, **more):
+    """Keeps for who runs this how many there were, how many of them are wrong, how many were left out for each reason, and more."""
+    if kept := os.environ.get("CMSPROOF_COUNTS"):
+        Path(kept).write_text(json.dumps({"all": number, "wrong": wrong, "left_out": left_out, **more}), encoding="utf-8")
 
 
 if __name__ == "__main__":

@@ -5,8 +5,11 @@ after. All else must be the same values: only lengths, strings in pieces and the
 """
 from __future__ import annotations
 
+import resource
 import shutil
+import signal
 import subprocess
+from contextlib import suppress
 from typing import Any, Iterator, NamedTuple
 
 from cmsproof_tools.containers.refusals import Refused
@@ -128,20 +131,25 @@ def fixed_of(info: Element) -> list[Any]:
 
 
 def written_again(octets: memoryview) -> bytes:
-    """What openssl writes of a ContentInfo."""
+    """What openssl writes of a ContentInfo, in so much of the processor's time: on a busy machine it may wait for long."""
     program = shutil.which("openssl")
     if program is None:
         raise Refused("F2", "the program openssl, which makes DER of BER, is missing: install Debian's openssl")
     words = [program, "cms", "-cmsout", "-inform", "DER", "-outform", "DER"]
+    pipe, nowhere = subprocess.PIPE, subprocess.DEVNULL
     try:
-        done = subprocess.run(words, input=octets, capture_output=True, check=False, timeout=SECONDS)
-    except subprocess.TimeoutExpired as error:
-        raise Refused("F4", f"openssl took more than {SECONDS} seconds") from error
+        with subprocess.Popen(words, stdin=pipe, stdout=pipe, stderr=nowhere) as process:
+            # (it has ended, or may have less)
+            with suppress(OSError, ValueError):
+                resource.prlimit(process.pid, resource.RLIMIT_CPU, (SECONDS, SECONDS + 1))
+            written, _ = process.communicate(octets)
     except OSError as error:
         raise Refused("F2", f"the program openssl cannot be run: {error.strerror}") from error
-    if done.returncode != 0 or not done.stdout:
+    if process.returncode == -signal.SIGXCPU:
+        raise Refused("F4", f"openssl took more than {SECONDS} seconds of the processor")
+    if process.returncode != 0 or not written:
         raise Refused("F5", "openssl cms -cmsout does not read it")
-    return done.stdout
+    return written
 
 
 def is_of_other_type(element: Element) -> bool:

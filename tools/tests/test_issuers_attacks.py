@@ -187,13 +187,13 @@ class Attacks(WithWorld):
         known where that is critical (4.2.1.4)."""
         w = self.world
         qualified = sequence(sequence(oid("2.999.5"), sequence(sequence(oid("2.999.6"), b"\5\0"))))
-        for number, value in [
+        for identifier, value in [
             ("2.16.840.1.113730.1.1", b"\3\2\6\x40"),
             ("1.3.6.1.5.5.7.48.1.5", b"\5\0"),
             ("2.5.29.32", qualified),
         ]:
             for critical in (False, True):
-                extension = x509.UnrecognizedExtension(x509.ObjectIdentifier(number), value), critical
+                extension = x509.UnrecognizedExtension(x509.ObjectIdentifier(identifier), value), critical
                 sub, who = h.issue("Servers", w.root, [*h.authority(), extension]), h.issue("A", w.sub, [extension])
                 for leaf, between in (who, w.sub), (h.issue("A", sub), sub):
                     periods, told = self.periods(leaf, [between])
@@ -479,14 +479,14 @@ class Lists(WithWorld):
     def test_critical_extensions_of_responses(self):
         """What a response says beside one that is not known is not known (RFC 6960 4.4); what it revokes is."""
         w = self.world
-        for number, critical, single, good in [
+        for identifier, critical, single, good in [
             ("2.999.9", True, True, False),
             ("2.999.9", True, False, False),
             ("2.999.9", False, True, True),
             ("2.999.9", False, False, True),
             ("1.3.6.1.5.5.7.48.1.2", True, False, True),
         ]:
-            extension = sequence(oid(number), *[b"\1\1\xff"] * critical, element(4, b"\5\0"))
+            extension = sequence(oid(identifier), *[b"\1\1\xff"] * critical, element(4, b"\5\0"))
             response, revokes = (
                 self.extended(h.response(w.anna, w.sub, revoked=date), extension, single) for date in (None, "2024-04-20")
             )
@@ -565,8 +565,8 @@ class Lists(WithWorld):
         w, good = self.world, h.revocation_list(self.world.sub)
         folder = w.folder / "odd"
         folder.mkdir(exist_ok=True)
-        for number, octets in enumerate([good, h.revocation_list(w.root), h.revocation_list(w.clocks)]):
-            (folder / f"{number}.crl").write_bytes(octets)
+        for place, octets in enumerate([good, h.revocation_list(w.root), h.revocation_list(w.clocks)]):
+            (folder / f"{place}.crl").write_bytes(octets)
         twice = h.revocation_list(w.sub, extensions=[(x509.CRLNumber(5), False), (NOTE, False)])
         twice = twice.replace(oid("2.999.9")[2:], b"\x55\x1d\x14")
         odd = good.replace(b"\x0c\x03Sub", b"\x02\x03Sub")

@@ -255,19 +255,21 @@ cmsproof_status cmsproof_evidence_renew(cmsproof_tree *tree, const uint8_t *reco
                                         size_t token_length, uint8_t *renewed, size_t room, size_t *length, cmsproof_answer *answer);
 
 /* The leaf of the tree by which a record gets a new chain, for the data object of this digest by the algorithm of this name, that of the
- * tree. Statuses: as for `cmsproof_evidence_renew_leaf`, but U4; and USAGE also with the line `usage digest`, where the digest isn't as
- * long as one by the algorithm. */
+ * tree; or for several data objects, whose digests stand one after the other. The new chain covers these and no others. So the record is
+ * refused with U11 if its first list has another number of values, unless it is of these data objects `alone`: what else stands in its first
+ * list is then of other records in the tree. Statuses: as for `cmsproof_evidence_renew_leaf`, with U11 for U4; and USAGE also with the line
+ * `usage digest`, where `digest` is not one digest or more by the algorithm. */
 cmsproof_status cmsproof_evidence_rehash_leaf(const uint8_t *record, size_t record_length, const char *algorithm,
-                                              size_t algorithm_length, const uint8_t *digest, size_t digest_length,
+                                              size_t algorithm_length, const uint8_t *digest, size_t digest_length, bool alone,
                                               const uint8_t *token, size_t token_length, uint8_t *leaf, size_t room, size_t *length,
                                               cmsproof_answer *answer);
 
-/* A record with a new chain by a token over the root of the tree, for the data object of this digest by the algorithm of the tree, as
- * `cmsproof evidence rehash` writes it. Statuses: as for `cmsproof_evidence_renew`, but U4; and USAGE also of a digest that isn't as long
- * as one by that algorithm, with the line `usage digest`. */
+/* A record with a new chain by a token over the root of the tree, for the data object or the data objects of these digests by the algorithm
+ * of the tree, as `cmsproof evidence rehash` writes it. Statuses: as for `cmsproof_evidence_renew`, with U11 for U4; and USAGE also with the
+ * line `usage digest`, where `digest` is not one digest or more by that algorithm. */
 cmsproof_status cmsproof_evidence_rehash(cmsproof_tree *tree, const uint8_t *record, size_t record_length, const uint8_t *digest,
-                                         size_t digest_length, const uint8_t *token, size_t token_length, uint8_t *rehashed,
-                                         size_t room, size_t *length, cmsproof_answer *answer);
+                                         size_t digest_length, bool alone, const uint8_t *token, size_t token_length,
+                                         uint8_t *rehashed, size_t room, size_t *length, cmsproof_answer *answer);
 
 /* Whether the content and the signed attributes of each signer of a file belong together, as `cmsproof fit` says it. File and
  * content are handed in as for `cmsproof_check`. Statuses: DONE, with CMSPROOF_FITS and how many signers there are in `signer`;

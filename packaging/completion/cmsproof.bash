@@ -12,7 +12,7 @@ _cmsproof_options() {
     'cmsproof check') echo '--trust --answers --content --sha1 --evidence --end --at --buffer --files-from --null --help' ;;
     'cmsproof questions') echo '--trust --buffer --files-from --null --help' ;;
     'cmsproof stamp') echo '--trust --answers --sha1 --help --files-from --null' ;;
-    'cmsproof evidence') echo '--trust --answers --end --at --whole --help --files-from --null --alg --policy --nonce --cert --token --into --request' ;;
+    'cmsproof evidence') echo '--trust --answers --end --at --whole --help --files-from --null --alg --policy --nonce --cert --token --into --request --alone' ;;
     'cmsproof attach') echo '--signer --token --help' ;;
     'cmsproof compare') echo '--first --second --help' ;;
     'cmsproof migrate') echo '--help' ;;

@@ -102,6 +102,7 @@ complete -c cmsproof -n '__cmsproof_at evidence' -l cert -d 'Asks for the author
 complete -c cmsproof -n '__cmsproof_at evidence' -l token -r -F -d 'The token that stamps the root of the tree over SUMS and the records'
 complete -c cmsproof -n '__cmsproof_at evidence' -l into -r -F -d 'The folder with the records'
 complete -c cmsproof -n '__cmsproof_at evidence' -l request -r -F -d 'The file to write the request into'
+complete -c cmsproof -n '__cmsproof_at evidence' -l alone -d 'Takes further hash values of a record’s first list for those of neighbours in its tree'
 complete -c cmsproof -n '__cmsproof_at attach' -l signer -x -d 'The number of the signer'
 complete -c cmsproof -n '__cmsproof_at attach' -l token -r -F -d 'The token to attach'
 complete -c cmsproof -n '__cmsproof_at attach' -l help -d 'Print help'

@@ -14,16 +14,21 @@ from oracle.rules import digest, digest_name
 from oracle.sums import Refused
 
 Answer = tuple[str, int, dict[str, bytes]]
-RULES = {"U3": "NoStamp", "U7": "TokenMalformed", "U8": "ImprintDiffers", "U9": "Order"}
+RULES = {"U3": "NoStamp", "U7": "TokenMalformed", "U8": "ImprintDiffers", "U9": "Order", "U11": "Unnamed"}
 
 
 class Standing(NamedTuple):
-    """What a renewal stands on: the name of its digest algorithm, the leaf that it must cover, the last moment, and whether it is made already."""
+    """What a renewal stands on: the name of its digest algorithm, what it must cover, the last moment, and whether it is made already."""
 
     alg: str
-    leaf: bytes
+    covered: list[bytes]
     time: str
     done: bool
+
+    @property
+    def leaf(self) -> bytes:
+        """The leaf of the hash tree."""
+        return evidence.node(self.alg, self.covered)
 
 
 def refused(code: str) -> Refused:
@@ -80,7 +85,7 @@ def last_stamp(chains: list[list[Stamp]]) -> Standing:
     alg, told = evidence.algorithm_of(chain[0], stated(chain[0].token)), stated(chain[-1].token)
     if alg is None or told is None:
         raise refused("U3")
-    return Standing(alg, digest(alg, chain[-1].token), told.time, False)
+    return Standing(alg, [digest(alg, chain[-1].token)], told.time, False)
 
 
 def renewal_of(record: Record, token: Optional[bytes]) -> Standing:
@@ -96,25 +101,30 @@ def renewal_of(record: Record, token: Optional[bytes]) -> Standing:
     return last_stamp(record.chains)
 
 
-def rehash_of(record: Record, token: Optional[bytes], of_file: bytes) -> Standing:
-    """What a new chain by SHA-256 of a record stands on, for the file of this digest (5.2, steps 1 to 4)."""
+def rehash_of(record: Record, token: Optional[bytes], of_files: list[bytes], alone: bool = False) -> Standing:
+    """What a new chain by SHA-256 of a record stands on, for the files of these digests (5.2, steps 1 to 5), which must be as many as its
+    first list has values, unless other values there are of neighbours."""
 
     def over(count: int) -> Standing:
         told = stated(record.chains[count - 1][-1].token)
         if told is None:
             raise refused("U3")
-        leaf = digest("sha256", of_file + digest("sha256", sequence(*record.wholes[:count])))
-        return Standing("sha256", leaf, told.time, False)
+        before = digest("sha256", sequence(*record.wholes[:count]))
+        covered = sorted({digest("sha256", of_file + before) for of_file in of_files})
+        return Standing("sha256", covered, told.time, False)
 
     count, last = len(record.chains), record.chains[-1]
     if token is not None and count > 1 and len(last) == 1 and last[0].token == token:
         try:
             found = over(count - 1)
-            if fits(last[0], found.alg, found.leaf, found.time):
+            if all(fits(last[0], found.alg, leaf, found.time) for leaf in found.covered):
                 return found._replace(done=True)
         except Refused:
             pass
-    return over(count)
+    found, lists = over(count), record.chains[0][0].lists
+    if not alone and len(of_files) != (len(lists[0]) if lists else 1):
+        raise refused("U11")
+    return found
 
 
 def record_in(octets: bytes) -> Record:
@@ -140,7 +150,7 @@ def renewed(octets: bytes, standing: Standing, token: bytes, is_chain: bool) -> 
     (whole,) = der.elements(octets)
     version, algorithms, *between, chains = der.elements(whole.body())
     alg = oid(DIGEST_OIDS[standing.alg])
-    lists = element(0xA2, sequence(der.octets(standing.leaf)))
+    lists = element(0xA2, sequence(*map(der.octets, standing.covered)))
     stamp = sequence(element(0xA0, alg), lists, token)
     *before, last = (one.whole() for one in der.elements(chains.body()))
     if is_chain:
@@ -168,10 +178,10 @@ def renew(octets: bytes, token: Optional[bytes], name: str) -> Answer:
     return answered(octets, token, name, lambda record: renewal_of(record, token), False)
 
 
-def rehash(text: bytes, octets: bytes, token: Optional[bytes], name: str) -> Answer:
-    """What `evidence rehash --alg sha256` does with a list of one file, whose record this is."""
+def rehash(text: bytes, octets: bytes, token: Optional[bytes], name: str, alone: bool = False) -> Answer:
+    """What `evidence rehash --alg sha256` does with a list of the files of one record, which this is."""
     try:
-        (line,) = sums.read(text)
+        ((_, digests),) = sums.recorded(text)
     except Refused as error:
         return *error.said, {} if token is None else {name: octets}
-    return answered(octets, token, name, lambda record: rehash_of(record, token, line.digest), True)
+    return answered(octets, token, name, lambda record: rehash_of(record, token, digests, alone), True)

@@ -9,7 +9,7 @@ from typing import NamedTuple
 from oracle.der import element, number, octets, oid, sequence
 
 SHA256 = "2.16.840.1.101.3.4.2.1"
-LINE = re.compile(rb"(\\?)([0-9a-fA-F]{64}) [ *]((?:[^\\\n\r]|\\[\\nr])*)")
+LINE = re.compile(rb"( ?)(\\?)([0-9a-fA-F]{64}) [ *]((?:[^\\\n\r]|\\[\\nr])*)")
 PAIRS = {b"\\\\": b"\\", b"\\n": b"\n", b"\\r": b"\r"}
 
 
@@ -28,21 +28,25 @@ class Refused(Exception):
         self.said = line + "\n", status
 
 
-def read(text: bytes) -> list[Sum]:
-    """The lines of a list by SHA-256."""
+def parsed(text: bytes, is_of_records: bool = False) -> list[tuple[bytes, Sum]]:
+    """The lines of a list by SHA-256, each behind the space with which it begins if it continues the record of the line before it."""
     lines = text.split(b"\n")
     if lines[-1] == b"":
         lines.pop()
-    sums = []
+    sums = list[tuple[bytes, Sum]]()
     for place, line in enumerate(lines, start=1):
         found = LINE.fullmatch(line)
-        if not found or (found[1] == b"\\") != (b"\\" in found[3]):
+        if not found or (found[2] == b"\\") != (b"\\" in found[4]) or found[1] and not (is_of_records and sums):
             raise Refused(f"sums U1 Line at line {place}", 2)
-        name = re.sub(rb"\\.", lambda pair: PAIRS[pair[0]], found[3])
-        sums.append(Sum(bytes.fromhex(found[2].decode()), name))
+        name = re.sub(rb"\\.", lambda pair: PAIRS[pair[0]], found[4])
+        sums.append((found[1], Sum(bytes.fromhex(found[3].decode()), name)))
     if not sums:
         raise Refused("sums U2 Empty", 2)
-    names = [one.name for one in sums]
+    return sums
+
+
+def check_names(names: list[bytes]) -> None:
+    """Raises Refused if one of the names of records can't be one, or is there twice."""
     if any(part in (b"", b".", b"..") or b"\0" in part for name in names for part in name.split(b"/")):
         raise Refused("refused U5 Name", 1)
     if len(set(names)) < len(names):
@@ -51,7 +55,25 @@ def read(text: bytes) -> list[Sum]:
         b"".join(name + b"\n" for name in names).decode()
     except UnicodeDecodeError as error:
         raise Refused("refused U5 Name", 1) from error
+
+
+def read(text: bytes) -> list[Sum]:
+    """The lines of a list by SHA-256."""
+    sums = [one for _, one in parsed(text)]
+    check_names([one.name for one in sums])
     return sums
+
+
+def recorded(text: bytes) -> list[tuple[bytes, list[bytes]]]:
+    """The records of a list by SHA-256: the name of each, and the digests of its files."""
+    found = list[tuple[bytes, list[bytes]]]()
+    for more, one in parsed(text, True):
+        if more:
+            found[-1][1].append(one.digest)
+        else:
+            found.append((one.name, [one.digest]))
+    check_names([name for name, _ in found])
+    return found
 
 
 def tree(leaves: list[bytes], name: str = "sha256") -> tuple[bytes, dict[bytes, list[bytes]]]:

@@ -60,6 +60,7 @@ OTHERS = {
     "U8": "ImprintDiffers",
     "U9": "Order",
     "U10": "TooLong",
+    "U11": "Unnamed",
 }
 
 

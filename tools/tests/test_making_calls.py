@@ -7,7 +7,7 @@ import unittest
 
 from making import PROGRAM, TOP, folder_of, need_tools
 from oracle import sums
-from oracle.der import elements, only, sequence
+from oracle.der import element, elements, octets, oid, only, sequence
 from oracle.identifiers import DIGEST_OIDS
 from samples.authority import STAMPING, certificate, configure, make_certificate, openssl
 
@@ -24,6 +24,17 @@ DOCUMENTS = [b"document %d\n" % number for number in (0, 1, 2, 3, 1, 4)]
 def by(name):
     """The digest of each document."""
     return [hashlib.new(name, document).digest() for document in DOCUMENTS]
+
+
+def grouped(group, path, token, alg=sums.SHA256):
+    """The chain of one time-stamp of a group, whose node leads by these values to the root (RFC 4998 4.2 and 4.3)."""
+    lists = [sequence(*(octets(value) for value in sorted(group))), *(sequence(octets(value)) for value in path[1:])]
+    return sequence(sequence(element(0xA0, oid(alg)), element(0xA2, *lists), token))
+
+
+def node(name, group):
+    """What stands for a group in the tree: of one value itself."""
+    return group[0] if len(group) == 1 else hashlib.new(name, b"".join(sorted(group))).digest()
 
 
 class Records(unittest.TestCase):
@@ -66,7 +77,7 @@ class Records(unittest.TestCase):
         """What is in the folder of records after the program has run with these words."""
         done = subprocess.run([PROGRAM, "evidence", *words], cwd=self.folder, capture_output=True, check=False)
         self.assertEqual((done.returncode, done.stdout, done.stderr), (0, b"", b""))
-        return [(self.folder / "records" / f"{place}.ers").read_bytes() for place in range(len(DOCUMENTS))]
+        return [path.read_bytes() for path in sorted((self.folder / "records").iterdir())]
 
     def put_sums(self, name):
         """A list of the documents' digests, by the names of the records."""
@@ -150,6 +161,47 @@ class Records(unittest.TestCase):
         self.assertEqual([making.renewal_algorithm(one) for one in (records[0], due[0])], ["sha256", "sha512"])
         self.assert_unmade("M1", "malformed M1 End at 0", None, making.renewal_algorithm, b"")
 
+    def put_groups(self, groups):
+        """A list of the digests of groups: the first line of each names the record, and the others begin with a space."""
+        lines = [
+            f"{' ' if behind else ''}{digest.hex()}  {place}{'.' * behind}\n"
+            for place, group in enumerate(groups)
+            for behind, digest in enumerate(group)
+        ]
+        (self.folder / "sums").write_text("".join(lines))
+
+    @unittest.skipUnless(PROGRAM.exists(), "there is no program")
+    def test_rehashed_groups(self):
+        """Records over several data objects get a chain over all of them, whose values are all in its first list (RFC 4998 5.2)."""
+        groups = [DOCUMENTS[:3], DOCUMENTS[3:4], DOCUMENTS[4:]]
+        old, new = ([[hashlib.new(name, one).digest() for one in group] for group in groups] for name in ("sha256", "sha512"))
+        root, paths = sums.tree([node("sha256", group) for group in old])
+        token = self.stamp(root)
+        chains = [grouped(group, paths[node("sha256", group)], token) for group in old]
+        records = [sums.chained([sums.SHA256], [chain]) for chain in chains]
+        values = [
+            [hashlib.sha512(digest + hashlib.sha512(sequence(chain)).digest()).digest() for digest in group]
+            for group, chain in zip(new, chains)
+        ]
+        root, paths = sums.tree([node("sha512", group) for group in values], "sha512")
+        digests = [new[0], new[1][0], tuple(reversed(new[2]))]
+        self.assertEqual(evidence.rehash_root(records, digests, algorithm="sha512"), root)
+        later = self.stamp(root, "sha512")
+        added = [grouped(group, paths[node("sha512", group)], later, SHA512) for group in values]
+        due = [sums.chained([sums.SHA256, SHA512], [*pair]) for pair in zip(chains, added)]
+        self.assertEqual(evidence.rehash(records, digests, later, algorithm="sha512"), due)
+        self.assertEqual(evidence.rehash([*due[:1], *records[1:]], digests, later, algorithm="sha512"), due)
+        for record, group in zip(due, groups):
+            self.assertTrue(evidence.check(record, group, trust=self.trust, whole=True).accepted)
+        (self.folder / "token").write_bytes(later), self.put_groups(new), self.put(records)
+        self.assertEqual(self.written("rehash", "--alg", "sha512", "--into", "records", "--token", "token", "sums"), due)
+        # what is not named is of a neighbour, or is lost
+        line = "refused U11 Unnamed"
+        for named in (new[0][0], new[0][:2], [*new[0], new[1][0]]):
+            self.assert_unmade("U11", line, 1, evidence.rehash_root, [records[1], records[0]], [new[1], named], algorithm="sha512")
+        self.assert_unmade("U11", line, 0, evidence.rehash, records[:1], new[0][:1], token, algorithm="sha512")
+        self.assertEqual(evidence.rehash_root(records[:1], new[0][:1], algorithm="sha512", alone=True), values[0][0])
+
     def assert_unmade(self, code, line, place, call, *words, **options):
         """A call is refused by this rule, with this line, at this place."""
         with self.assertRaises(evidence.Unmade) as caught:
@@ -198,6 +250,8 @@ class Records(unittest.TestCase):
             (evidence.renew, ([], token), {}),
             (evidence.rehash_root, (records, digests[:1]), {}),
             (evidence.rehash, (records, digests, token), {"algorithm": "sha1"}),
+            (evidence.rehash, (records[:1], [[]], token), {}),
+            (evidence.rehash, (records[:1], [[digests[0], b"x"]], token), {}),
         ):
             with self.subTest(call=call.__name__, words=words, **options), self.assertRaises(ValueError) as caught:
                 call(*words, **options)
@@ -210,6 +264,7 @@ class Records(unittest.TestCase):
             (evidence.renew, (7, token)),
             (evidence.renew, (records, None)),
             (evidence.rehash, (records, digests, None)),
+            (evidence.rehash_root, (records[:1], digests[0])),
         ):
             self.assertRaises(TypeError, call, *words)
         self.assertRaises(OSError, evidence.make, digests, self.folder / "none")

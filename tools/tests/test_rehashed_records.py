@@ -11,8 +11,8 @@ import subprocess
 import time
 import unittest
 
-from making import PROGRAM, folder_of, lacking_tools
-from oracle import sums
+from making import PROGRAM, TOP, folder_of, lacking_tools
+from oracle import forms, records, renewals, sums
 from oracle.der import sequence
 from oracle.identifiers import DIGEST_OIDS
 from samples.authority import STAMPING, configure, make_certificate, openssl
@@ -48,9 +48,7 @@ class Folder(unittest.TestCase):
         for tool, to in (("sha256sum", "sums"), ("sha512sum", "new-sums")):
             found = f"find . -type f -print0 | sort -z | xargs -0 {tool} | sed 's|  \\./|  |' > ../{to}"
             subprocess.run(found, shell=True, cwd=self.folder / "files", check=True, env={**os.environ, "LC_ALL": "C"})
-        make_certificate(self.folder, "tsa", STAMPING)
-        configure(self.folder, "tsa.cnf", "tsa", digests="sha256, sha512", more="ess_cert_id_alg = sha256\n")
-        (self.folder / "records").mkdir()
+        self.put_authority()
         token = self.stamp("token", "evidence", "request", "--cert", "sums")
         self.assertEqual(run(self.folder, "evidence", "make", "--token", "token", "--into", "records", "sums"), (0, b"", b""))
         paths = sums.tree([hashlib.sha256(document(name)).digest() for name in names])[1]
@@ -64,6 +62,12 @@ class Folder(unittest.TestCase):
         self.assertIn(root, self.token)
         added = {name: sums.chain(paths[leaves[name]], self.token, SHA512) for name in names}
         self.due = {f"{name}.ers": sums.chained([sums.SHA256, SHA512], [chains[name], added[name]]) for name in names}
+
+    def put_authority(self):
+        """An authority, and a folder for records."""
+        make_certificate(self.folder, "tsa", STAMPING)
+        configure(self.folder, "tsa.cnf", "tsa", digests="sha256, sha512", more="ess_cert_id_alg = sha256\n")
+        (self.folder / "records").mkdir()
 
     def leaf(self, name, chains):
         """What the new time-stamp must cover of a file with these chains (5.2, step 4)."""
@@ -108,6 +112,63 @@ class Folder(unittest.TestCase):
             status, said, _ = run(self.folder, *check, record, f"files/{name}")
             self.assertEqual((status, said[:9]), (0, b"accepted "), name)
             self.assertEqual(run(self.folder, *check, record, f"files/{other}")[0], 1, name)
+
+    def put_group(self):
+        """A record by SHA-256 that Bouncy Castle made of five files, these, their lines by SHA-512, and what shows the record."""
+        self.folder, data = folder_of(self), TOP / "data" / "records"
+        self.put_authority()
+        self.files = [(data / "files" / f"document_{number}").read_bytes() for number in range(5)]
+        for number, octets in enumerate(self.files):
+            (self.folder / str(number)).write_bytes(octets)
+        shutil.copy(data / "records" / "bouncy_castle_group_of_five.ers", self.folder / "records" / "letter.ers")
+        self.old = self.there()
+        own = openssl(self.folder, "x509", "-in", "tsa.pem", "-outform", "DER").hex()
+        (self.folder / "trust").write_text((data / "trust.txt").read_text() + f"tsa - - {own}\n")
+        return [f"{hashlib.sha512(octets).hexdigest()}  letter\n" for octets in self.files]
+
+    def says(self, *words):
+        """What the check says of the record once SHA-256 has ended, as if each signature held."""
+        asked = run(self.folder, "evidence", "questions", "--trust", "trust", "records/letter.ers")[1]
+        (self.folder / "answers").write_bytes(asked.replace(b"questions", b"answers", 1))
+        last, at = (time.strftime("%Y%m%d%H%M%SZ", time.gmtime(time.time() + days * 86400)) for days in (1, 2))
+        lists = ["--trust", "trust", "--answers", "answers", "--end", f"sha256={last}", "--at", at]
+        return run(self.folder, "evidence", "check", *lists, "records/letter.ers", *words)[1].decode()
+
+    def test_group(self):
+        """The record of a group gets a chain over each file that has a line; if one has none, only where the user says that it is of another
+        record."""
+        lines, each = self.put_group(), ["0", "1", "2", "3", "4"]
+        self.assertEqual(self.says("--whole", *each), "refused chain 1 stamp 1 W6 Weak\n")
+        (self.folder / "new-sums").write_text(" ".join(lines))
+        record = forms.whole(self.old["letter.ers"], records.evidence_record)
+        before = hashlib.sha512(sequence(*record.wholes)).digest()
+        covered = sorted(hashlib.sha512(hashlib.sha512(octets).digest() + before).digest() for octets in self.files)
+        standing = renewals.last_stamp(record.chains)._replace(alg="sha512", covered=covered)
+        self.token = self.stamp("new-token", "evidence", "rehash", *NEW, "new-sums", "--request")
+        self.assertIn(hashlib.sha512(b"".join(covered)).digest(), self.token)
+        for few in (lines[:1], lines[:4], lines + lines[:1]):
+            (self.folder / "new-sums").write_text(" ".join(few))
+            self.assertEqual(self.rehashes(), (1, b"refused U11 Unnamed\n", b""))
+            self.assertEqual(self.there(), self.old)
+        (self.folder / "new-sums").write_text(" ".join(lines[::-1]))
+        for _ in range(2):
+            self.assertEqual(self.rehashes(), (0, b"", b""))
+            self.assertEqual(self.there(), {"letter.ers": renewals.renewed(self.old["letter.ers"], standing, self.token, True)})
+        for words in (["--whole", *each], each, *([one] for one in each)):
+            self.assertEqual(self.says(*words), "accepted 20150303120000Z\n")
+        self.assertEqual(self.says("--whole", *each[:4]), "refused chain 1 stamp 1 W8 Others\n")
+
+    def test_group_alone(self):
+        """A chain over one file of a group, where the user says that the others are of other records, shows that file and no other."""
+        lines = self.put_group()
+        (self.folder / "new-sums").write_text(lines[2])
+        asked = run(self.folder, "evidence", "rehash", *NEW, "--request", "asked", "new-sums")
+        self.assertEqual(asked, (1, b"refused U11 Unnamed\n", b""))
+        self.stamp("new-token", "evidence", "rehash", "--alone", *NEW, "new-sums", "--request")
+        alone = run(self.folder, "evidence", "rehash", "--alone", *NEW, "--token", "new-token", "new-sums")
+        self.assertEqual(alone, (0, b"", b""))
+        self.assertEqual(self.says("2"), "accepted 20150303120000Z\n")
+        self.assertEqual(self.says("1"), "refused chain 2 stamp 1 W3 NotCovered\n")
 
     def test_killed(self):
         """Of a run that was killed each record is the old one or the new one; the next run makes the rest, and no other."""

@@ -240,15 +240,19 @@ def sums_line(octets, name):
     return f"{hashlib.sha256(octets).hexdigest()}  {name}\n".encode()
 
 
+# a file that records of one are not for
+OTHER = b"another document"
 SUMS = sums_line(b"one", "a/b") + sums_line(b"two", "c") + b"\\" + sums_line(b"three", "d\\n")
 
 
 def tokens_for(octets, data):
-    """Tokens over what the renewals of a record stand on, one in its last chain and one of a new chain; any others where it has none."""
+    """Tokens over what the renewals of a record stand on, one in its last chain, one of a new chain, and one of such a chain for another file
+    too; any others where it has none."""
     found = []
     for stands in (
         lambda record: renewals.renewal_of(record, None),
-        lambda record: renewals.rehash_of(record, None, hashlib.sha256(data).digest()),
+        lambda record: renewals.rehash_of(record, None, [sha(data)], True),
+        lambda record: renewals.rehash_of(record, None, [sha(data), sha(OTHER)], True),
     ):
         try:
             standing = stands(renewals.record_in(octets))
@@ -372,12 +376,16 @@ class Fuzz:
     def renewals(self, octets):
         """What is said of octets as a record that is renewed, by tokens over what the unchanged record stood on; and of a list of digests, and a
         token, of which a record is made."""
-        renewing, rehashing = self.tokens
+        renewing, rehashing, grouped = self.tokens
         line = sums_line(self.data, "in")
         yield ["evidence", "renew", "--request", "out", "in"], renewals.renew(octets, None, "out")
         yield ["evidence", "renew", "--token", "renewing", "in"], renewals.renew(octets, renewing, "in")
         yield REHASH + ["--request", "out", "sums"], renewals.rehash(line, octets, None, "out")
         yield REHASH + ["--token", "rehashing", "sums"], renewals.rehash(line, octets, rehashing, "in.ers")
+        lines = line + b" " + sums_line(OTHER, "other")
+        yield REHASH + ["--request", "out", "sums-two"], renewals.rehash(lines, octets, None, "out")
+        yield REHASH + ["--alone", "--token", "rehashing", "sums"], renewals.rehash(line, octets, rehashing, "in.ers", True)
+        yield REHASH + ["--alone", "--token", "grouped", "sums-two"], renewals.rehash(lines, octets, grouped, "in.ers", True)
 
     def token(self, octets):
         """What is said of octets as a token: as a stamp, and as that of a record which is made."""
@@ -402,11 +410,12 @@ class Fuzz:
             self.row = chance.choice(self.records.asked[octets])
             self.data = self.row[0]
             self.tokens = tokens_for(octets, self.data)
-            self.runs.put("renewing", self.tokens[0])
-            self.runs.put("rehashing", self.tokens[1])
+            for name, token in zip(("renewing", "rehashing", "grouped"), self.tokens):
+                self.runs.put(name, token)
         octets = mutated_octets(chance, octets) if kind in ("trust", "sums") else mutated(chance, octets, self.donors)
         self.runs.put("data", self.data)
         self.runs.put("sums", sums_line(self.data, "in"))
+        self.runs.put("sums-two", sums_line(self.data, "in") + b" " + sums_line(OTHER, "other"))
         for words, (line, status, *files) in self.kinds[kind](octets):
             # (a command may have replaced them)
             for name in ("in", "in.ers"):

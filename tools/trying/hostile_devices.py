@@ -47,7 +47,7 @@ PRINTING = [
     (["--help"], None),
     (["--version"], None),
 ]
-REHASH = ["evidence", "rehash", "--alg", "sha256", "--into", "."]
+REHASH = ["evidence", "rehash", "--alg", "sha256", "--into", ".", "--alone"]
 # words that make the file `out`, with its octets
 MAKING = [
     (["request", "--digest", DIGEST, "out"], request_of(sha(b"abc"))),

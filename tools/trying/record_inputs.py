@@ -59,19 +59,23 @@ LATER = "20240118100000Z"
 RENEWING = Token(LATER, imprint=sha(SMALL.tokens[-1].octets)).octets
 REHASHING = Token(LATER, imprint=sha(sha(DATA) + sha(SMALL.archive_sequence()))).octets
 SUMS_IN, SUMS_AGAIN = (f"{sha(DATA).hex()}  {name}\n".encode() for name in ("in", "again"))
+SUMS_GROUP = SUMS_IN + f" {sha(OTHER).hex()}  other\n".encode()
+GROUPED = Token(LATER, imprint=renewals.rehash_of(renewals.record_in(OF_GROUP), None, [sha(DATA), sha(OTHER)]).leaf).octets
 MAKE = ["evidence", "make", "--into", "made", "--token"]
 REHASH_HERE = ["evidence", "rehash", "--alg", "sha256", "--into", "."]
+# (in the first lists of the others a neighbour stands)
+REHASH_ALONE = REHASH_HERE + ["--alone"]
 
 
 def rehashed(text):
     """What `evidence rehash` says of a list of digests where the records stand that are named `again`: of another name that there is none."""
     try:
-        names = [one.name for one in sums.read(text)]
+        names = [name for name, _ in sums.recorded(text)]
     except sums.Refused:
         names = [b"again"]
     if names != [b"again"]:
         return None, 4, {"again.ers": TREE}
-    return renewals.rehash(text, TREE, REHASHING, "again.ers")
+    return renewals.rehash(text, TREE, REHASHING, "again.ers", True)
 
 
 EVIDENCE_CHECK = ["evidence", "check", "--trust", "trust-tsa", "--answers", "answers-tsa"]
@@ -130,22 +134,28 @@ COMMANDS = [
     (
         "evidence rehash --request",
         OF_OLD,
-        REHASH_HERE + ["--request", "out", "sums-in"],
-        lambda o: renewals.rehash(SUMS_IN, o, None, "out"),
+        REHASH_ALONE + ["--request", "out", "sums-in"],
+        lambda o: renewals.rehash(SUMS_IN, o, None, "out", True),
     ),
     (
         "evidence rehash, record",
         TREE,
-        REHASH_HERE + ["--token", "rehashing", "sums-in"],
-        lambda o: renewals.rehash(SUMS_IN, o, REHASHING, "in.ers"),
+        REHASH_ALONE + ["--token", "rehashing", "sums-in"],
+        lambda o: renewals.rehash(SUMS_IN, o, REHASHING, "in.ers", True),
+    ),
+    (
+        "evidence rehash, group",
+        OF_GROUP,
+        REHASH_HERE + ["--token", "grouped", "sums-group"],
+        lambda o: renewals.rehash(SUMS_GROUP, o, GROUPED, "in.ers"),
     ),
     (
         "evidence rehash, token",
         REHASHING,
-        REHASH_HERE + ["--token", "in", "sums-again"],
-        lambda o: renewals.rehash(SUMS_AGAIN, TREE, o, "again.ers"),
+        REHASH_ALONE + ["--token", "in", "sums-again"],
+        lambda o: renewals.rehash(SUMS_AGAIN, TREE, o, "again.ers", True),
     ),
-    ("evidence rehash, sums", SUMS_AGAIN, REHASH_HERE + ["--token", "rehashing", "in"], rehashed),
+    ("evidence rehash, sums", SUMS_AGAIN, REHASH_ALONE + ["--token", "rehashing", "in"], rehashed),
 ]
 # what commands change, which is as it was before each
 CHANGED = {"again": TREE, "again.ers": TREE}
@@ -164,6 +174,8 @@ BESIDE = {
     "sums-two": SUMS,
     "renewing": RENEWING,
     "rehashing": REHASHING,
+    "grouped": GROUPED,
+    "sums-group": SUMS_GROUP,
     "sums-in": SUMS_IN,
     "sums-again": SUMS_AGAIN,
     **CHANGED,

@@ -104,7 +104,7 @@ fn digest_from<S: Source>(alg: Alg, source: &mut S) -> Result<Digest, DeviceFaul
 }
 
 /// The verdict about a token that was read, for what a source gives until its end, by a `Checker`, which serves for
-/// many tokens. The source is read once, and digested by the algorithm of the imprint alone.
+/// many tokens.
 ///
 /// Errors: X1 if the source fails, X5 if it gives more than 2^40 octets; otherwise the first of K9 to K14 that fails,
 /// and X2 if the verifier fails.

@@ -1,6 +1,5 @@
 //! `stamp`: a time-stamp token by itself, or a response with one, beside the file that it stamps (RFC 3161 2.4.2).
-ghost use Rattle.std.specs.Prelude.{◌≡◌, IfErr, IfOk, MatchResult};
-ghost use Rattle.std.specs.Borrow.{Bor};
+ghost use Rattle.std.specs.Prelude.{IfErr, IfOk};
 ghost use Rattle.cli_commands.specs.Lists.{IsTrustOf};
 ghost use Rattle.cli_commands.specs.Stamping.{ShowsNoStampQuestions, ShowsStampQuestions, ShowsStamped, ShowsUnstamped};
 ghost use Rattle.cli_commands.specs.Stamping.{HasNoStampQuestions, IsVerdictOf};
@@ -20,8 +19,7 @@ use trust_lists::Trust;
 /// The line that says by when the file of these words existed, if its stamp passes.
 ///
 /// The trust list is opened, read and judged first, then the answers list, and then the stamp. If its token states what
-/// one must (K1 to K8), the other file is opened, and read once, in pieces: it is digested by the algorithm of the
-/// imprint alone.
+/// one must (K1 to K8), the other file is opened, and read once, in pieces.
 #[inline(never)]
 pub fn check_stamp<'a, R: Files + AllocGlobal>(
     rt: &R,

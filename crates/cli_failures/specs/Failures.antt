@@ -229,7 +229,10 @@ abbrev pub failure_of_making : MakeFault → Failure
 failure_of_making making.TooLong = failure.Unmade making.TooLong
 failure_of_making making.OutOfMemory = failure.Memory
 
--- the failure of a command for which a record can't be renewed: a record that isn't one is malformed
+-- the failure of a command for which a record can't be renewed: a record that isn't one is malformed, and a lack of
+-- memory is no rule
 abbrev pub failure_of_leaf : LeafFault → Failure
 failure_of_leaf (leaf.Malformed fault) = failure.Malformed fault
 failure_of_leaf leaf.NoStamp = failure.Unrenewable leaf.NoStamp
+failure_of_leaf leaf.Unnamed = failure.Unrenewable leaf.Unnamed
+failure_of_leaf leaf.OutOfMemory = failure.Memory

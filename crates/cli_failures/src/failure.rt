@@ -332,7 +332,8 @@ impl From<LeafFault> for Failure<'_> {
     fn from(fault: LeafFault) -> Self {
         match fault {
             LeafFault::Malformed(fault) => Failure::Malformed(fault),
-            LeafFault::NoStamp => Failure::Unrenewable(fault),
+            LeafFault::NoStamp | LeafFault::Unnamed => Failure::Unrenewable(fault),
+            LeafFault::OutOfMemory => Failure::Memory,
         }
     }
 }

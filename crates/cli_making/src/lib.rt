@@ -15,7 +15,7 @@ mod system;
 
 pub use given::{Given, given_by};
 pub use make::{make_all, make_records};
-pub use names::text_of;
+pub use names::{has_text, text_of};
 pub use placing::Puts;
 pub use request::make_root_request;
 pub use stamp::{Stamp, stamp_of};

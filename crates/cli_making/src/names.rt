@@ -31,7 +31,9 @@ pub fn text_of(octets: &[u8]) -> &str
 }
 
 /// Whether the name of a line is text.
-fn has_text(alloc: Global, sum: &Sum) -> Result<bool, AllocError>
+///
+/// Errors: memory is refused.
+pub fn has_text(alloc: Global, sum: &Sum) -> Result<bool, AllocError>
     ensures { IfOk result (λ has. has ≡ is_utf8 sum.now.name) }
 {
     if let Some(name) = sum.plain_name() {

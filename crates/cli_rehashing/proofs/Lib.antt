@@ -1,4 +1,6 @@
 pub mod Walks
+pub mod Stated
+pub mod Named
 pub mod Lines
 pub mod Anew
 pub mod Puts

@@ -3,7 +3,7 @@ use Rattle.std.proofs.Common.{◌≡◌, ◌⊎◌, ℕ, List, Option, Some, Non
 use Rattle.std.specs.Prelude.{IfOk, codes}
 use Rattle.digests.specs.Algorithms.{name_of}
 use Rattle.digests.specs.declared.algorithm.Alg.{Alg}
-use Rattle.evidence_sums.specs.SumLines.{SumValue}
+use Rattle.evidence_sums.specs.Records.{RecordValue}
 use Rattle.cli_tasks.specs.declared.task.RehashRequestWords.{RehashRequestWords}
 use Rattle.cli_tasks.specs.declared.task.RehashWords.{RehashWords}
 use Rattle.cli_failures.specs.declared.failure.Failure.{Failure}
@@ -14,20 +14,21 @@ use Rattle.cli_making.specs.Given.{AreGiven, GivesNot}
 use Rattle.cli_making.proofs.Givens.{given_fails, gives_not}
 use Rattle.cli_renewing.specs.Keeping.{system_ways}
 use Rattle.cli_renewing.specs.Runs.{IsRequestOn}
-use Rattle.cli_rehashing.specs.Footings.{AreLineFootings, AreLines}
-use Rattle.cli_rehashing.specs.Rehashing.{IsApart, IsRehashRequest, IsRequested}
+use Rattle.cli_rehashing.specs.Footings.{AreLineFootings}
+use Rattle.cli_rehashing.specs.Lines.{AreLines}
+use Rattle.cli_rehashing.specs.Rehashing.{IsApart, IsRehashRequest, IsRequested, asked_folder, given_folder}
 use Rattle.cli_rehashing.specs.Unrehashed.{AreNotAnew, HaveNoTree, MakesNoRehashRequest}
 use Rattle.cli_rehashing.specs.Unrehashed.{RehashesNot}
 
 -- ---- the request
 
 module _ {F : Type 0} (holds contents : F → Option (List ℕ)) (words : RehashRequestWords) where
-  module _ (alg : Alg) (text : List ℕ) (sums : List SumValue) (are : AreLines alg text sums)
+  module _ (alg : Alg) (text : List ℕ) (sums : List RecordValue) (are : AreLines alg text sums)
       (apart : IsApart words sums) where
     pub octets_if : {O E : Type 0} (items : O → List ℕ) (r : Result O E)
         → IfOk r (λ o.
-        IsRequestOn (λ fs. AreLineFootings (system_ways holds contents) None words.into.now sums fs) (items o))
-        → IfOk r (λ o. (request : IsRehashRequest (system_ways holds contents) words.into.now alg text (items o))
+        IsRequestOn (λ fs. AreLineFootings (system_ways holds contents) None (asked_folder words) sums fs) (items o))
+        → IfOk r (λ o. (request : IsRehashRequest (system_ways holds contents) (asked_folder words) alg text (items o))
         × IsApart words request.sums)
     octets_if items (Err e) made = tt
     octets_if items (Ok o) made = (record { sums = sums; are = are; made = made }, apart)
@@ -35,14 +36,14 @@ module _ {F : Type 0} (holds contents : F → Option (List ℕ)) (words : Rehash
   module _ (alg : Alg) (named : words.alg.now ≡ name_of alg) where
     pub octets_refused : (text : List ℕ) → IsHeld holds text → (f : Failure)
         → Names (codes "request") f ⊎ ((f ≡ failure.Memory)
-        ⊎ HaveNoTree (system_ways holds contents) None words.into.now alg text f)
+        ⊎ HaveNoTree (system_ways holds contents) None (asked_folder words) alg text f)
         → MakesNoRehashRequest holds contents words f
     octets_refused text held f (inl names) = inl names
     octets_refused text held f (inr (inl m)) = inr (inl m)
     octets_refused text held f (inr (inr none)) = inr (inr (inl (inr (alg, named, inr (text, held, none)))))
 
     pub requested : (text : List ℕ) → IsHeld holds text → (octets : List ℕ)
-        → IsRehashRequest (system_ways holds contents) words.into.now alg text octets
+        → IsRehashRequest (system_ways holds contents) (asked_folder words) alg text octets
         → IsRequested holds contents words
     requested text held octets made = record {
       alg = alg;
@@ -64,7 +65,7 @@ module _ {F : Type 0} (holds contents : F → Option (List ℕ)) (words : Rehash
 -- what the words of a command name isn't given; or it is, and the records are not all renewed
 module _ {F : Type 0} (holds contents : F → Option (List ℕ)) (words : RehashWords) where
   abbrev Fails : Alg → (text token : List ℕ) → Failure → Type 0
-  Fails alg text token f = AreNotAnew (system_ways holds contents) None None words.into.now alg text token f
+  Fails alg text token f = AreNotAnew (system_ways holds contents) None None (given_folder words) alg text token f
 
   pub none_given : (f : Failure) → GivesNot holds (Some words.alg.now) words.sums words.token (λ _ _ _ _. ⊥) f
       → RehashesNot holds contents words f

@@ -1,4 +1,5 @@
-pub mod Footings
+pub mod Lines
 pub mod Standing
+pub mod Footings
 pub mod Rehashing
 pub mod Unrehashed

@@ -1,4 +1,4 @@
-//! What the renewals of the records of all lines stand on, and the hash tree over that.
+//! What the renewals of all records stand on, and the hash tree over that.
 ghost use Rattle.std.specs.Prelude.{◌≡◌, ◌≢◌, ◌⊎◌, [], IfErr, IfOk, ℕ, List};
 ghost use Rattle.std.specs.Option.{option_copied};
 ghost use Rattle.digests.specs.declared.algorithm.Alg.{Alg};
@@ -6,26 +6,28 @@ ghost use Rattle.digests.specs.declared.value.Digest.{Digest};
 ghost use Rattle.cli_making.specs.Sums.{IsRootOf};
 ghost use Rattle.cli_renewing.specs.Footings.{IsTreeOn};
 ghost use Rattle.cli_renewing.specs.Steps.{AreOfFirst};
-ghost use Rattle.cli_rehashing.specs.Footings.{AreLineFootings, AreLines};
+ghost use Rattle.cli_rehashing.specs.Footings.{AreLineFootings};
+ghost use Rattle.cli_rehashing.specs.Lines.{AreLines};
 ghost use Rattle.cli_rehashing.specs.Unrehashed.{StopsAt};
 
+use crate::folder::RecordFolder;
 use crate::footing::footing_of;
 use crate::keeping::KeepsBelow;
 use cli_failures::Failure;
 use cli_renewing::{Footing, tree_on};
-use evidence_sums::Sums;
+use evidence_sums::RecordSums;
 use evidence_trees::Tree;
 use std::alloc::Global;
 
-/// What the renewals of the records of these lines stand on, with this token if there is one already.
+/// What the renewals of these records stand on, with this token if there is one already.
 ///
-/// Errors: of the first line for which there is one, that its file can't be read or doesn't hold a record, or U3;
+/// Errors: of the first record for which there is one, that its file can't be read or doesn't hold one, or U3 or U11;
 /// memory is refused.
 pub fn footings_of<'a, K: KeepsBelow>(
     alloc: Global,
     keeps: &K,
-    folder: &str,
-    sums: &Sums,
+    folder: &RecordFolder,
+    sums: &RecordSums,
     token: Option<&[u8]>,
 ) -> Result<Vec<Footing>, Failure<'a>>
     requires { (alg : Alg) × (text : List ℕ) × AreLines alg text sums.now }

@@ -3,13 +3,16 @@
 //! `specs/Rehashing.antt`.
 #![tactic(auto)]
 
+mod folder;
 mod footing;
 mod footings;
 mod keeping;
+mod reading;
 mod rehash;
 mod request;
 mod step;
 
+pub use folder::RecordFolder;
 pub use keeping::KeepsBelow;
 pub use rehash::{rehash_all, rehash_records};
 pub use request::{rehash_request, request_rehash};

@@ -2,26 +2,27 @@
 ghost use Rattle.std.specs.Prelude.{◌≡◌, List, ℕ, Option, [], IfErr, IfOk, OnOk};
 ghost use Rattle.digests.specs.declared.algorithm.Alg.{Alg};
 ghost use Rattle.cli_making.specs.Stamps.{IsStamp};
-ghost use Rattle.cli_making.specs.Sums.{AreNamed};
 ghost use Rattle.cli_renewing.specs.Records.{ArePut, AreTested, IsUntested, StopsAtPut};
-ghost use Rattle.cli_rehashing.specs.Footings.{AreLines};
+ghost use Rattle.cli_rehashing.specs.Lines.{AreLines, AreNamed};
 ghost use Rattle.cli_rehashing.specs.Rehashing.{AreAnew, AreAnewOn, AreRecordsAnew, rehashing};
 ghost use Rattle.cli_rehashing.specs.Unrehashed.{AreLinesNotAnew, AreNotAnew, RehashesNot};
 
+use crate::folder::RecordFolder;
 use crate::footings::{footings_of, tree_of};
 use crate::keeping::KeepsBelow;
+use crate::reading::lines_in;
 use crate::step::{put_line, test_line};
 use cli_failures::Failure;
-use cli_making::{Stamp, System, given_by, sums_in};
+use cli_making::{Stamp, System, given_by};
 use cli_renewing::later_stamp;
 use cli_tasks::RehashWords;
 use digests::Alg;
-use evidence_sums::Sums;
+use evidence_sums::RecordSums;
 use std::alloc::Global;
 use std::rt::Files;
 
-/// Gives the evidence record of each line of the sums that a file states a new chain, by the token that another file
-/// holds: `rehash_all` over the files of the system. Both files are read before one is judged.
+/// Gives each evidence record that the sums in a file name a new chain, by the token that another file holds:
+/// `rehash_all` over the files of the system. Both files are read before one is judged.
 ///
 /// Errors: no algorithm has the name; a file can't be read; and those of `rehash_all`.
 #[inline(never)]
@@ -40,24 +41,29 @@ pub fn rehash_records<'a, R: Files + AllocGlobal>(
     let given = given_by(rt, Some(words.alg), words.sums, words.token)?;
     let (text, token) = (given.text.as_slice(), given.token.as_slice());
     let mut keeps = System::new(rt);
-    rehash_all(rt.alloc(), &mut keeps, words.into, given.alg, text, token)?;
+    let folder = RecordFolder {
+        path: words.into,
+        alone: words.alone,
+    };
+    rehash_all(rt.alloc(), &mut keeps, &folder, given.alg, text, token)?;
     Ok(Vec::new(rt.alloc()))
 }
 
-/// Gives the evidence record of each line of a text of sums by this algorithm, which is below this folder by the line's
-/// name, a new chain by a token over the root of the tree over the leaves of all, in its place.
+/// Gives each evidence record of a text of sums by this algorithm, which is below this folder by its name, a new chain
+/// by a token over the root of the tree over the leaves of all, in its place: for the data objects of the digests that
+/// the text states of it.
 ///
 /// Each record is read for what its renewal stands on; once the token is judged, for a test whether it can be renewed;
 /// and once all can, to be renewed. A file holds the old record or the new one, whenever the work is cut off. At the
 /// next run with the same sums and token, those that have been renewed already are left as they are, and count for the
 /// tree as they stood before.
 ///
-/// Errors: U1, U2, U5 and U6; a file can't be read or replaced; it doesn't hold a record; U3; U7 to U10; memory is
+/// Errors: U1, U2, U5 and U6; a file can't be read or replaced; it doesn't hold a record; U3, U11; U7 to U10; memory is
 /// refused. No file is put if a rule refuses, or a test fails.
 pub fn rehash_all<'a, K: KeepsBelow>(
     alloc: Global,
     keeps: &mut K,
-    folder: &str,
+    folder: &RecordFolder,
     alg: Alg,
     text: &[u8],
     token: &[u8],
@@ -69,16 +75,16 @@ pub fn rehash_all<'a, K: KeepsBelow>(
     ensures failed { IfErr result (AreNotAnew K.ways (K.put keeps.old) (K.put keeps.new) folder.now alg text.now
         token.now) }
 {
-    let sums = sums_in(alloc, alg, text)?;
+    let sums = lines_in(alloc, alg, text)?;
     rehash_lines(alloc, keeps, folder, &sums, token)
 }
 
-/// Gives the record of each of these lines a new chain.
+/// Gives each of these records a new chain.
 fn rehash_lines<'a, K: KeepsBelow>(
     alloc: Global,
     keeps: &mut K,
-    folder: &str,
-    sums: &Sums,
+    folder: &RecordFolder,
+    sums: &RecordSums,
     token: &[u8],
 ) -> Result<(), Failure<'a>>
     requires { (alg : Alg) × (text : List ℕ) × AreLines alg text sums.now }
@@ -95,13 +101,13 @@ fn rehash_lines<'a, K: KeepsBelow>(
     put_lines(alloc, &by, keeps, folder, sums)
 }
 
-/// Tests whether the record of each line can be given a new chain, and put into its place.
+/// Tests whether each record can be given a new chain, and put into its place.
 fn test_lines<'a, K: KeepsBelow>(
     alloc: Global,
     by: &Stamp,
     keeps: &K,
-    folder: &str,
-    sums: &Sums,
+    folder: &RecordFolder,
+    sums: &RecordSums,
 ) -> Result<(), Failure<'a>>
     requires named { AreNamed sums.now }
     requires stamp { IsStamp by.now }
@@ -118,13 +124,13 @@ fn test_lines<'a, K: KeepsBelow>(
     Ok(())
 }
 
-/// Gives the record of each line a new chain, one after the other.
+/// Gives each record a new chain, one after the other.
 fn put_lines<'a, K: KeepsBelow>(
     alloc: Global,
     by: &Stamp,
     keeps: &mut K,
-    folder: &str,
-    sums: &Sums,
+    folder: &RecordFolder,
+    sums: &RecordSums,
 ) -> Result<(), Failure<'a>>
     requires named { AreNamed sums.now }
     requires stamp { IsStamp by.now }

@@ -1,29 +1,31 @@
-//! `evidence rehash` with a request: the request for a stamp of the root of the tree over the leaves of the records of
-//! all lines (RFC 4998 5.2).
+//! `evidence rehash` with a request: the request for a stamp of the root of the tree over the leaves of all records
+//! (RFC 4998 5.2).
 ghost use Rattle.std.specs.Prelude.{◌≡◌, ◌⊎◌, ℕ, List, None, [], IfErr, IfOk, OnOk, codes};
 ghost use Rattle.digests.specs.declared.algorithm.Alg.{Alg};
 ghost use Rattle.cli_failures.specs.Causes.{Names};
-ghost use Rattle.cli_making.specs.Sums.{AreNamed};
-ghost use Rattle.cli_rehashing.specs.Footings.{AreLineFootings, AreLines};
+ghost use Rattle.cli_rehashing.specs.Footings.{AreLineFootings};
+ghost use Rattle.cli_rehashing.specs.Lines.{AreLines, AreNamed};
 ghost use Rattle.cli_renewing.specs.Keeping.{system_ways};
 ghost use Rattle.cli_renewing.specs.Runs.{IsRequestOn};
-ghost use Rattle.cli_rehashing.specs.Rehashing.{IsApart, IsRehashRequest, IsRehashRequestWritten};
+ghost use Rattle.cli_rehashing.specs.Rehashing.{IsApart, IsRehashRequest, IsRehashRequestWritten, asked_folder};
 ghost use Rattle.cli_rehashing.specs.Unrehashed.{HaveNoTree, MakesNoRehashRequest, StopsAt};
 
+use crate::folder::RecordFolder;
 use crate::footings::{footings_of, tree_of};
 use crate::keeping::KeepsBelow;
+use crate::reading::lines_in;
 use cli_failures::request::request_of;
 use cli_failures::{Failure, files};
-use cli_making::{System, sums_in, text_of};
+use cli_making::{System, text_of};
 use cli_tasks::RehashRequestWords;
 use cli_values::alg_of;
 use digests::Alg;
-use evidence_sums::Sums;
+use evidence_sums::RecordSums;
 use std::alloc::Global;
 use std::rt::Files;
 
-/// Makes the request for a stamp of the root of the tree over the leaves of the evidence records of the lines of a file
-/// of sums, and then the file that it goes into, which is refused if it is the one of the sums or of a record.
+/// Makes the request for a stamp of the root of the tree over the leaves of the evidence records that a file of sums
+/// names, and then the file that it goes into, which is refused if it is the one of the sums or of a record.
 ///
 /// Errors: that file is one of these, or can't be written; no algorithm has the name; the sums can't be read; and those
 /// of `rehash_request`.
@@ -56,20 +58,24 @@ fn octets_of<'a, R: Files + AllocGlobal>(
     text: &[u8],
 ) -> Result<Vec<u8>, Failure<'a>>
     ensures made { IfOk result (λ octets. (request : IsRehashRequest (system_ways R.File.remaining R.File.contents)
-        words.now.into.now alg text.now octets.items) × IsApart words.now request.sums) }
+        (asked_folder words.now) alg text.now octets.items) × IsApart words.now request.sums) }
     ensures refused { IfErr result (λ f. Names (codes "request") f ⊎ ((f ≡ Failure.Memory)
-        ⊎ HaveNoTree (system_ways R.File.remaining R.File.contents) None words.now.into.now alg text.now f)) }
+        ⊎ HaveNoTree (system_ways R.File.remaining R.File.contents) None (asked_folder words.now) alg text.now f)) }
 {
-    let sums = sums_in(rt.alloc(), alg, text)?;
+    let sums = lines_in(rt.alloc(), alg, text)?;
     test_apart(rt, words, &sums)?;
-    request_on(rt.alloc(), &System::new(rt), words.into, &sums)
+    let folder = RecordFolder {
+        path: words.into,
+        alone: words.alone,
+    };
+    request_on(rt.alloc(), &System::new(rt), &folder, &sums)
 }
 
 /// Refuses to put the request into the file of a record.
 fn test_apart<'a, R: Files + AllocGlobal>(
     rt: &R,
     words: &RehashRequestWords<'a>,
-    sums: &Sums,
+    sums: &RecordSums,
 ) -> Result<(), Failure<'a>>
     requires { AreNamed sums.now }
     ensures apart { OnOk result (IsApart words.now sums.now) }
@@ -85,14 +91,14 @@ fn test_apart<'a, R: Files + AllocGlobal>(
     Ok(())
 }
 
-/// The octets of the request for a stamp of the root of the tree over the leaves of the records of the lines of a text
-/// of sums by this algorithm, which are below this folder.
+/// The octets of the request for a stamp of the root of the tree over the leaves of the records that a text of sums by
+/// this algorithm names, which are below this folder.
 ///
-/// Errors: U1, U2, U5 and U6; a record's file can't be read, or doesn't hold one; U3; memory is refused.
+/// Errors: U1, U2, U5 and U6; a record's file can't be read, or doesn't hold one; U3, U11; memory is refused.
 pub fn rehash_request<'a, K: KeepsBelow>(
     alloc: Global,
     keeps: &K,
-    folder: &str,
+    folder: &RecordFolder,
     alg: Alg,
     text: &[u8],
 ) -> Result<Vec<u8>, Failure<'a>>
@@ -101,16 +107,16 @@ pub fn rehash_request<'a, K: KeepsBelow>(
     // The first reason is told.
     ensures refused { IfErr result (HaveNoTree K.ways None folder.now alg text.now) }
 {
-    let sums = sums_in(alloc, alg, text)?;
+    let sums = lines_in(alloc, alg, text)?;
     request_on(alloc, keeps, folder, &sums)
 }
 
-/// The octets of the request for a stamp of the root of the tree over the leaves of the records of these lines.
+/// The octets of the request for a stamp of the root of the tree over the leaves of these records.
 fn request_on<'a, K: KeepsBelow>(
     alloc: Global,
     keeps: &K,
-    folder: &str,
-    sums: &Sums,
+    folder: &RecordFolder,
+    sums: &RecordSums,
 ) -> Result<Vec<u8>, Failure<'a>>
     requires { (alg : Alg) × (text : List ℕ) × AreLines alg text sums.now }
     ensures made { IfOk result (λ octets.

@@ -14,7 +14,7 @@ use Rattle.evidence_making.specs.declared.fault.LeafFault.{LeafFault}
 use Rattle.evidence_making.specs.declared.fault.LeafFault.TheVariants as leaf
 use Rattle.evidence_making.specs.declared.leaves.LastStamp.{LastStamp}
 use Rattle.evidence_making.specs.Done.{IsDoneBy, StandsOn}
-use Rattle.evidence_making.specs.Leaves.{HasNoStamp, IsLastStamp}
+use Rattle.evidence_making.specs.Leaves.{HasNoStamp, IsLastStamp, IsOfLast}
 use Rattle.cli_failures.specs.declared.failure.Failure.{Failure}
 use Rattle.cli_failures.specs.declared.failure.Failure.TheVariants as failure
 use Rattle.cli_failures.specs.Failures.{failure_of_leaf}
@@ -33,10 +33,12 @@ use Rattle.cli_renewing.proofs.Zips.{all_push, split_at, zip_next}
 pub no_footing : (octets : List ℕ) (r : Result LastStamp LeafFault) (fault : LeafFault) → r ≡ Err fault
     → (r ≡ Err leaf.NoStamp) ↔ HasNoStamp octets
     → ((its : Fault) → r ≡ Err (leaf.Malformed its) → Faults (file evidence_record) octets its)
-    → HasNoFooting octets (failure_of_leaf fault)
-no_footing octets r (leaf.Malformed its) is none malformed =
-    inr (inl (record { fault = its; malformed = refl; found = malformed its is }))
-no_footing octets r leaf.NoStamp is none malformed = inr (inr (refl, none.0 is))
+    → IsOfLast fault → HasNoFooting octets (failure_of_leaf fault)
+no_footing octets r (leaf.Malformed its) is none malformed other =
+    inl (record { fault = its; malformed = refl; found = malformed its is })
+no_footing octets r leaf.NoStamp is none malformed other = inr (refl, none.0 is)
+no_footing octets r leaf.Unnamed is none malformed other = absurd other
+no_footing octets r leaf.OutOfMemory is none malformed other = absurd other
 
 -- what is found is what the renewal stands on
 pub stands_on : (token : Option (List ℕ)) (octets : List ℕ) (done : Bool) (last : LastStamp)
@@ -67,7 +69,8 @@ module _ (tree : HashTree) (token : List ℕ) (m : ℕ) (octets : List ℕ) wher
   pub outside_fault : (fault : Fault) → Faults (file evidence_record) octets fault → IsOutside tree token m octets
   outside_fault fault found = inl (fault, found)
 
-  pub outside_none : (f : Failure) → (f ≡ failure.Memory → ⊥) → HasNoFooting octets f → IsOutside tree token m octets
+  pub outside_none : (f : Failure) → (f ≡ failure.Memory → ⊥) → (f ≡ failure.Memory) ⊎ HasNoFooting octets f
+      → IsOutside tree token m octets
   outside_none f never (inl memory) = absurd (never memory)
   outside_none f never (inr (inl h)) = outside_fault h.fault h.found
   outside_none f never (inr (inr (told, none))) = inr (inl none)
@@ -123,8 +126,10 @@ module _ (ways : Ways) (token : Option (List ℕ)) (paths : List (Bor (List ℕ)
         why = why;
       }
 
-  pub refused_at : (f : Failure) → RefusesRecord ways path.now f → StopsAt ways token paths f
-  refused_at f why = stops f (inl why)
+  pub refused_at : (f : Failure) → (f ≡ failure.Memory) ⊎ RefusesRecord ways path.now f
+      → (f ≡ failure.Memory) ⊎ StopsAt ways token paths f
+  refused_at f (inl memory) = inl memory
+  refused_at f (inr why) = inr (stops f (inl why))
 
   pub mixed_at : (f : Footing) → AreOfFirst footings → (IsOfFirst footings (alg_of f.leaf) → ⊥)
       → IsFootingRead ways token path.now f → StopsAt ways token paths failure.Mixed

@@ -19,7 +19,8 @@ abbrev pub IsFound : (token : Option (List ℕ)) → (octets : List ℕ) → (do
 IsFound token octets true last = IsDoneBy token octets last
 IsFound token octets false last = IsNotDone token octets × IsLastStamp octets last
 
--- memory ran out, the octets encode no record, or U3
+-- the octets encode no record; or, by U3, the record is encrypted, its last time-stamp is no token, or its last chain
+-- has no algorithm that is known
 abbrev pub HasNoFooting : (octets : List ℕ) → Failure → Type 0
-HasNoFooting octets f = (f ≡ failure.Memory) ⊎ (IsMalformed (file evidence_record) octets f
-    ⊎ ((f ≡ failure.Unrenewable leaf.NoStamp) × HasNoStamp octets))
+HasNoFooting octets f = IsMalformed (file evidence_record) octets f
+    ⊎ ((f ≡ failure.Unrenewable leaf.NoStamp) × HasNoStamp octets)

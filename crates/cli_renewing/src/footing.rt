@@ -1,5 +1,5 @@
 //! What the renewal of one record stands on.
-ghost use Rattle.std.specs.Prelude.{IfErr, IfOk, MatchOption};
+ghost use Rattle.std.specs.Prelude.{◌≡◌, ◌⊎◌, IfErr, IfOk, MatchOption};
 ghost use Rattle.std.specs.Option.{option_copied};
 ghost use Rattle.evidence_making.specs.Done.{IsDoneBy};
 ghost use Rattle.evidence_making.specs.Leaves.{IsLastStamp};
@@ -69,7 +69,7 @@ pub fn standing_of<'a>(
     token: Option<&[u8]>,
 ) -> Result<Standing, Failure<'a>>
     ensures found { IfOk result (λ s. IsFound (option_copied token.entry) octets.now s.done s.last) }
-    ensures refused { IfErr result (HasNoFooting octets.now) }
+    ensures refused { IfErr result (λ f. (f ≡ Failure.Memory) ⊎ HasNoFooting octets.now f) }
 {
     match done_by(alloc, octets, token)? {
         Some(last) => Ok(Standing { last, done: true }),
@@ -90,7 +90,7 @@ pub fn footing_at<'a, K: Keeps>(
     token: Option<&[u8]>,
 ) -> Result<Footing, Failure<'a>>
     ensures found { IfOk result (IsFootingRead K.ways (option_copied token.entry) path.now) }
-    ensures refused { IfErr result (RefusesRecord K.ways path.now) }
+    ensures refused { IfErr result (λ f. (f ≡ Failure.Memory) ⊎ RefusesRecord K.ways path.now f) }
 {
     let octets = keeps.read_file(path)?;
     let standing = standing_of(alloc, octets.as_slice(), token)?;

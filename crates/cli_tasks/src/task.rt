@@ -312,6 +312,8 @@ pub struct RehashRequestWords<'a> {
     pub sums: &'a str,
     /// The path of the folder with the records.
     pub into: &'a str,
+    /// Whether other values of a record's first list are of neighbours in its tree.
+    pub alone: bool,
     /// The path of the file that the request goes into.
     pub out: &'a str,
 }
@@ -325,6 +327,8 @@ pub struct RehashWords<'a> {
     pub sums: &'a str,
     /// The path of the folder with the records.
     pub into: &'a str,
+    /// Whether other values of a record's first list are of neighbours in its tree.
+    pub alone: bool,
     /// The path of the file that holds the token of the stamp.
     pub token: &'a str,
 }

@@ -82,6 +82,7 @@ pub record IsRehashRequestIn (given : Found) (words : RehashRequestWords) : Type
   pub alg : first_value given (codes "alg") ≡ Some words.alg.now
   pub sums : first_value given (codes "SUMS") ≡ Some words.sums.now
   pub into : first_value given (codes "into") ≡ Some words.into.now
+  pub alone : IsFlagIn given (codes "alone") words.alone
   pub out : first_value given (codes "request") ≡ Some words.out.now
   pub no_token : first_value given (codes "token") ≡ None
 
@@ -90,6 +91,7 @@ pub record IsRehashIn (given : Found) (words : RehashWords) : Type 0 where
   pub alg : first_value given (codes "alg") ≡ Some words.alg.now
   pub sums : first_value given (codes "SUMS") ≡ Some words.sums.now
   pub into : first_value given (codes "into") ≡ Some words.into.now
+  pub alone : IsFlagIn given (codes "alone") words.alone
   pub token : first_value given (codes "token") ≡ Some words.token.now
   pub no_request : first_value given (codes "request") ≡ None
 

@@ -398,8 +398,9 @@ prints.
 If several are given for one algorithm, the earliest counts.
 --at TIME names the end of the use of the last time-stamp, the moment at which it must still hold.
 Without it that is its own time, and nothing is said of what held later, as today.
---whole refuses a record (W8) whose first list has other hash values than those of DATA: the files
-are then all that it was made for, as a group. Without it the record may be for other files too.
+--whole refuses a record (W8) whose first list has other hash values than those of DATA, as that of
+a group. It shows nothing against whoever holds the record: where no later chain covers its lists,
+they can be rewritten for one file of the group.
 
 The words are judged first: `usage end` if an --end isn't ALG=TIME, and then `usage at` if the TIME
 of --at is none (status 3). Otherwise one line is printed. For the lists, as by `check`: `trust ..`,
@@ -560,9 +561,19 @@ pub const EVIDENCE_REHASH_LINES: &str = "\
 Before a digest algorithm of an evidence record (RFC 4998, DER) no longer serves, the record gets a
 new chain by another one, over the data and the old chains (5.2). One time-stamp is enough for all:
 SUMS has a line for each file, as the help of `evidence request` says, with its digest by the new
-algorithm, that of --alg; its record is FOLDER/NAME.ers, with the NAME of that line. The time-stamp
-is for the root of the hash tree over the leaves, of each line the digest of two joined digests:
-that of the line, and that of the record's chains as they stand.
+algorithm, that of --alg; its record is FOLDER/NAME.ers, with the NAME of that line. A line that
+begins with a space has behind it the line of a further file of the record of the line before it.
+The new chain covers the files of these lines, and no others.
+
+The time-stamp is for the root of the hash tree over the leaves, one of each record. That of a line
+is the digest of two joined digests: that of the line, and that of the record's chains as they
+stand. It is the record's leaf; of several lines that is the digest of theirs, in ascending order
+and joined (4.2).
+
+A record of several files shows each of them as long as its chains do, so all must have a line: a
+record whose first list has another number of hash values than lines is refused (U11). --alone says
+that the others, if there are more, are not of files of the record but of neighbours in its tree, as
+in the example of RFC 4998 4.2.
 
 With --request the request for it is made, for no policy, without a nonce and without a certificate.
 With --token, the token of the answer to it, as `match` writes it, each record is replaced by a new
@@ -575,10 +586,12 @@ Otherwise the first rule that fails is printed, and nothing is written:
   refused U5 Name            a name is empty, begins with `/`, or has an octet 0, or between its
                              slashes an empty part, a part `.` or a part `..`; or, after U6, it
                              isn't UTF-8 (status 1, and the others too)
-  refused U6 NameTwice       two lines have one name
+  refused U6 NameTwice       two lines have one name; U5 and U6 are not of lines behind a space
 then of the records, in the order of the lines, one of these:
   malformed FAULT            it isn't an evidence record in DER (status 2)
   refused U3 NoStamp         its data are encrypted, or its last time-stamp states no time
+  refused U11 Unnamed        without --alone: its first list has another number of hash values than
+                             SUMS has lines for it
 then, with --token:
   refused U7 TokenMalformed  TOKEN isn't a CMS SignedData whose content is a TSTInfo, in DER
   refused U8 ImprintDiffers  the token isn't for the root: the request was for other SUMS or records
@@ -601,6 +614,7 @@ check` says that, and tells a record that was exchanged.
 
 Examples:
   sha512sum *.pdf > SHA512SUMS
+  sha512sum a.txt b.txt c.txt | sed '2,$s/^/ /' >> SHA512SUMS   # of a.txt.ers, which is of all three
   cmsproof evidence rehash --alg sha512 --into records --request request.tsq SHA512SUMS
   cmsproof match request.tsq response.tsr token.tok
   cmsproof evidence rehash --alg sha512 --into records --token token.tok SHA512SUMS";

@@ -194,18 +194,20 @@ fn rehash_in<'a>(given: &ArgMatches<'a>) -> Result<EvidenceTask<'a>, Failure<'a>
     ensures group { IfOk result (λ task. evidence_group_of task ≡ Group.Evidence) }
 {
     let (alg, sums) = (value(given, "alg")?, value(given, "SUMS")?);
-    let into = value(given, "into")?;
+    let (into, alone) = (value(given, "into")?, given.get_flag("alone"));
     match (given.get_str("request"), given.get_str("token")) {
         (Some(out), None) => Ok(EvidenceTask::RequestRehash(RehashRequestWords {
             alg,
             sums,
             into,
+            alone,
             out,
         })),
         (None, Some(token)) => Ok(EvidenceTask::Rehash(RehashWords {
             alg,
             sums,
             into,
+            alone,
             token,
         })),
         _ => Err(Failure::Usage("request")),

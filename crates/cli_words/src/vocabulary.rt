@@ -158,7 +158,7 @@ const REQUEST_OUT: Word = Word {
     help: "The file to write, as request.tsq; one that is there is replaced",
 };
 
-/// The digests of many files, of `evidence request`, `evidence make` and `evidence rehash`.
+/// The digests of many files, of `evidence request` and `evidence make`.
 const SUMS: Word = Word {
     name: "SUMS",
     takes: Takes::Place,
@@ -532,7 +532,7 @@ pub static EVIDENCE_RENEW: [Word; 3] = [
 ];
 
 /// The words of `evidence rehash`, in the order of its help.
-pub static EVIDENCE_REHASH: [Word; 5] = [
+pub static EVIDENCE_REHASH: [Word; 6] = [
     Word {
         name: "alg",
         takes: Takes::NamedAlgorithm,
@@ -545,6 +545,13 @@ pub static EVIDENCE_REHASH: [Word; 5] = [
         required: true,
         help: "The folder with the records, as --into records (no default): that of NAME is FOLDER/NAME.ers",
     },
+    Word {
+        name: "alone",
+        takes: Takes::Nothing,
+        required: false,
+        help: "Takes further hash values of a record's first list for those of neighbours in its tree (by default SUMS \
+               must have as many lines for the record as the list has values)",
+    },
     RENEWAL_REQUEST,
     Word {
         name: "token",
@@ -553,5 +560,11 @@ pub static EVIDENCE_REHASH: [Word; 5] = [
         help: "The token that stamps the root of the tree over SUMS and the records, as --token token.tok (no \
                default: this or --request is given)",
     },
-    SUMS,
+    Word {
+        name: "SUMS",
+        takes: Takes::Place,
+        required: true,
+        help: "The digests to read, as SHA512SUMS (no default): a line for each file, as `sha256sum` and its kin write \
+               it, behind a space if its record is that of the line before",
+    },
 ];

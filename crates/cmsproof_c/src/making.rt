@@ -89,34 +89,36 @@ pub extern "C" fn cmsproof_evidence_renew(
     put_by!(alloc, tree: TreeHandle, held => tell_renewed(alloc, &held, evidence, token, text) => size, said)
 }
 
-/// The leaf of the tree by which an evidence record gets a new chain, for the data object of a digest.
+/// The leaf of the tree by which an evidence record gets a new chain, for the data objects of these digests.
 #[unsafe(no_mangle)]
 pub extern "C" fn cmsproof_evidence_rehash_leaf(
     alloc: Global,
     evidence: &[u8],
     algorithm: &[u8],
-    digest: &[u8],
+    digests: &[u8],
+    alone: bool,
     token: &[u8],
     text: &mut [u8],
     size: &mut usize,
     said: &mut Answer,
 ) -> u32
-    // The digest of this digest and of that of the record's chains, or if it has the new chain already of those before;
-    // or the first reason why there is none.
-    ensures { IsToldOf (IsNewLeafOf algorithm.now digest.now evidence.now token.now)
-        (HasNoNewLeaf algorithm.now digest.now evidence.now) said.new result text.old size.new text.new }
+    // The node of the digests of each of these digests and of that of the record's chains, or if it has the new chain
+    // already of those before; or the first reason why there is none.
+    ensures { IsToldOf (IsNewLeafOf algorithm.now digests.now evidence.now alone token.now)
+        (HasNoNewLeaf algorithm.now digests.now evidence.now alone) said.new result text.old size.new text.new }
 {
-    put!(tell_rehash_leaf(alloc, algorithm, digest, evidence, token, text) => size, said)
+    put!(tell_rehash_leaf(alloc, algorithm, digests, evidence, alone, token, text) => size, said)
 }
 
-/// An evidence record with a new chain by a token over the root of the tree of a handle, for the data object of a
-/// digest.
+/// An evidence record with a new chain by a token over the root of the tree of a handle, for the data objects of these
+/// digests.
 #[unsafe(no_mangle)]
 pub extern "C" fn cmsproof_evidence_rehash(
     alloc: Global,
     tree: &mut TreeHandle,
     evidence: &[u8],
-    digest: &[u8],
+    digests: &[u8],
+    alone: bool,
     token: &[u8],
     text: &mut [u8],
     size: &mut usize,
@@ -124,10 +126,15 @@ pub extern "C" fn cmsproof_evidence_rehash(
 ) -> u32
     // The octets of the new record, or of the old one if it has this chain already; or the first reason why it gets
     // none; without a tree nothing.
-    ensures rehashed { TellsBy tree.old.inside.kept (λ t. IsRehashed t digest.now token.now evidence.now)
-        (λ t. RehashesNot t digest.now token.now evidence.now) said.new result text.old size.new text.new }
+    ensures rehashed { TellsBy tree.old.inside.kept (λ t. IsRehashed t digests.now alone token.now evidence.now)
+        (λ t. RehashesNot t digests.now alone token.now evidence.now) said.new result text.old size.new text.new }
     // The tree stays as it was.
     ensures tree { tree.new.inside.kept ≡ tree.old.inside.kept }
 {
-    put_by!(alloc, tree: TreeHandle, held => tell_rehashed(alloc, &held, digest, evidence, token, text) => size, said)
+    put_by!(
+        alloc,
+        tree: TreeHandle,
+        held => tell_rehashed(alloc, &held, digests, evidence, alone, token, text) => size,
+        said
+    )
 }

@@ -30,7 +30,7 @@ use Rattle.evidence_making.specs.declared.leaves.LastStamp.{LastStamp}
 use Rattle.evidence_making.specs.Done.{AreRehashed, AreRenewed, FitsOver, IsRootOver, StampsAfter}
 use Rattle.evidence_making.specs.DoneSteps.{AreLastTwo, AreTwo, EndsAlone}
 use Rattle.evidence_making.specs.declared.fault.LeafFault.{LeafFault}
-use Rattle.evidence_making.specs.declared.fault.LeafFault.TheVariants.{Malformed, NoStamp}
+use Rattle.evidence_making.specs.declared.fault.LeafFault.TheVariants.{Malformed, NoStamp, OutOfMemory, Unnamed}
 use Rattle.evidence_making.specs.Leaves.{OfOpen}
 use Rattle.evidence_making.specs.LeafSteps.{IsOpened}
 use Rattle.evidence_making.specs.Renewed.{with_stamp}
@@ -359,6 +359,8 @@ module _ (octets token : List ℕ) where
 
   pub never_open : (Is : Chains → Type 0) (fault : LeafFault) → IsOpened octets (Err fault) → OfOpen octets Is → ⊥
   never_open Is (Malformed fault) h k = never_encoded octets fault h k.0 k.1
+  never_open Is Unnamed h k = absurd h
+  never_open Is OutOfMemory h k = absurd h
   never_open Is NoStamp h k = not_open k.0.encryption k.2
       (subst (λ (w : EvidenceValue). IsSome w.encryption)
       (evidence_unique octets h.record_value k.0 h.encodes k.1) h.encrypted)

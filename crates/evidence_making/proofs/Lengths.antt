@@ -1,5 +1,5 @@
 -- How long what is made is.
-use Rattle.std.proofs.Common.{◌≡◌, ℕ, ◌+◌, ◌<◌, ◌≤◌, List, [], ◌∷◌, ◌++◌, length, map, refl, ap, ◌∙◌, arith}
+use Rattle.std.proofs.Common.{◌≡◌, ℕ, ◌+◌, ◌<◌, ◌≤◌, List, [], ◌∷◌, ◌++◌, length, map, Some, None, refl, ap, ◌∙◌, arith}
 use Rattle.std.proofs.Common.{length-append}
 use Rattle.std.proofs.lemmas.List.Concat.{flat_map-cons}
 use Rattle.der_core.specs.Element.{len, el}
@@ -8,9 +8,10 @@ use Rattle.digests.specs.declared.algorithm.Alg.{Alg}
 use Rattle.digests.specs.Algorithms.{contents_of}
 use Rattle.digests.proofs.Named.{contents_short}
 use Rattle.tsp_types.proofs.LengthsMade.{length_el, length_small, length_version}
-use Rattle.evidence_types.specs.StampValue.{hash_list_element, optional_hash_lists}
-use Rattle.evidence_making.specs.Made.{plain, lists_of}
-use Rattle.evidence_making.specs.Frames.{FrameValue, added, lists_inside, stamp_inside, chain_inside, chains_inside}
+use Rattle.evidence_types.specs.StampValue.{hash_list_element, hash_list_parts, hash_lists_parts, optional_hash_lists}
+use Rattle.evidence_making.specs.Made.{plain}
+use Rattle.evidence_making.specs.Frames.{FrameValue, Lists, added, each_inside, lists_inside, stamp_inside}
+use Rattle.evidence_making.specs.Frames.{chain_inside, chains_inside}
 use Rattle.evidence_making.specs.Frames.{algorithms_inside, record_inside}
 
 -- an element whose contents have so many octets
@@ -30,16 +31,23 @@ plain_length t alg =
     omega (arith, length-append (el 0x06 c) [], length_small 0x06 c (omega (arith, short))) in
     omega (arith, inside, short, length_small t (algorithm_parts (plain alg)) (omega (arith, inside, short)))
 
-pub lists_cons_length : (v : List ℕ) (vs : List (List ℕ))
-    → length (lists_inside (v ∷ vs)) ≡ length (hash_list_element (v ∷ [])) + length (lists_inside vs)
-lists_cons_length v vs = ap (λ (l : List ℕ). length l)
-    (flat_map-cons hash_list_element (v ∷ []) (map (λ (w : List ℕ). w ∷ []) vs))
-    ∙ length-append (hash_list_element (v ∷ [])) (lists_inside vs)
+pub parts_cons_length : (list : List (List ℕ)) (lists : List (List (List ℕ)))
+    → length (hash_lists_parts (list ∷ lists)) ≡ length (hash_list_element list) + length (hash_lists_parts lists)
+parts_cons_length list lists = ap (λ (l : List ℕ). length l) (flat_map-cons hash_list_element list lists)
+    ∙ length-append (hash_list_element list) (hash_lists_parts lists)
 
-lists_less : (values : List (List ℕ))
-    → length (lists_inside values) ≤ length (optional_hash_lists 0xa2 (lists_of values))
-lists_less [] = omega arith
-lists_less (v ∷ values) = inside_less 0xa2 (lists_inside (v ∷ values))
+pub lists_cons_length : (v : List ℕ) (vs : List (List ℕ))
+    → length (each_inside (v ∷ vs)) ≡ length (hash_list_element (v ∷ [])) + length (each_inside vs)
+lists_cons_length v vs = parts_cons_length (v ∷ []) (map (λ (w : List ℕ). w ∷ []) vs)
+
+pub list_cons_length : (v : List ℕ) (vs : List (List ℕ))
+    → length (hash_list_parts (v ∷ vs)) ≡ length (el 0x04 v) + length (hash_list_parts vs)
+list_cons_length v vs = ap (λ (l : List ℕ). length l) (flat_map-cons (λ (x : List ℕ). el 0x04 x) v vs)
+    ∙ length-append (el 0x04 v) (hash_list_parts vs)
+
+lists_less : (lists : Lists) → length (lists_inside lists) ≤ length (optional_hash_lists 0xa2 lists)
+lists_less None = omega arith
+lists_less (Some lists) = inside_less 0xa2 (hash_lists_parts lists)
 
 -- a size, by the length of the contents
 abbrev pub Size : (size contents : ℕ) → Type 0
@@ -47,31 +55,31 @@ Size size contents = size ≡ 1 + length (len contents) + contents
 
 -- ---- the elements round a token
 
-module _ (f : FrameValue) (values : List (List ℕ)) (token : List ℕ) where
+module _ (f : FrameValue) (lists : Lists) (token : List ℕ) where
   abbrev stamp : List ℕ
-  stamp = stamp_inside f.alg values token
+  stamp = stamp_inside f.alg lists token
 
   abbrev chain : List ℕ
-  chain = chain_inside f values token
+  chain = chain_inside f lists token
 
   abbrev chains : List ℕ
-  chains = chains_inside f values token
+  chains = chains_inside f lists token
 
   abbrev algorithms : List ℕ
   algorithms = algorithms_inside f
 
   abbrev whole : List ℕ
-  whole = record_inside f values token
+  whole = record_inside f lists token
 
   pub stamp_length : (a l : ℕ) → a ≡ length (el 0xa0 (algorithm_parts (plain f.alg)))
-      → l ≡ length (optional_hash_lists 0xa2 (lists_of values)) → a + l + length token ≡ length stamp
+      → l ≡ length (optional_hash_lists 0xa2 lists) → a + l + length token ≡ length stamp
   stamp_length a l a-is l-is =
       omega (
         arith,
         a-is,
         l-is,
-        length-append (el 0xa0 (algorithm_parts (plain f.alg))) (optional_hash_lists 0xa2 (lists_of values) ++ token),
-        length-append (optional_hash_lists 0xa2 (lists_of values)) token,
+        length-append (el 0xa0 (algorithm_parts (plain f.alg))) (optional_hash_lists 0xa2 lists ++ token),
+        length-append (optional_hash_lists 0xa2 lists) token,
       )
 
   pub chain_length : (s : ℕ) → s ≡ length (el 0x30 stamp) → length f.stamps + s ≡ length chain
@@ -121,29 +129,29 @@ module _ (f : FrameValue) (values : List (List ℕ)) (token : List ℕ) where
   pub stamp_less : length stamp ≤ length whole
   stamp_less = omega (arith, inside_less 0x30 stamp, chain_length (length (el 0x30 stamp)) refl, chain_less)
 
-  pub lists_less_whole : length (lists_inside values) ≤ length whole
+  pub lists_less_whole : length (lists_inside lists) ≤ length whole
   lists_less_whole = omega (
     arith,
-    lists_less values,
+    lists_less lists,
     stamp_length (length (el 0xa0 (algorithm_parts (plain f.alg))))
-        (length (optional_hash_lists 0xa2 (lists_of values))) refl refl,
+        (length (optional_hash_lists 0xa2 lists)) refl refl,
     stamp_less,
   )
 
   -- ---- what is too long makes the record so
 
   chain_by_stamp : (a l s : ℕ) → a ≡ length (el 0xa0 (algorithm_parts (plain f.alg)))
-      → l ≡ length (optional_hash_lists 0xa2 (lists_of values)) → Size s (a + l + length token)
+      → l ≡ length (optional_hash_lists 0xa2 lists) → Size s (a + l + length token)
       → length f.stamps + s ≡ length chain
   chain_by_stamp a l s a-is l-is s-is = chain_length s (el_length 0x30 stamp _ s (stamp_length a l a-is l-is) s-is)
 
   pub long_chain : (a l s : ℕ) → a ≡ length (el 0xa0 (algorithm_parts (plain f.alg)))
-      → l ≡ length (optional_hash_lists 0xa2 (lists_of values)) → Size s (a + l + length token)
+      → l ≡ length (optional_hash_lists 0xa2 lists) → Size s (a + l + length token)
       → 4294967295 < length f.stamps + s → 4294967296 ≤ length whole
   long_chain a l s a-is l-is s-is over = omega (arith, chain_by_stamp a l s a-is l-is s-is, over, chain_less)
 
   pub long_chains : (a l s c : ℕ) → a ≡ length (el 0xa0 (algorithm_parts (plain f.alg)))
-      → l ≡ length (optional_hash_lists 0xa2 (lists_of values)) → Size s (a + l + length token)
+      → l ≡ length (optional_hash_lists 0xa2 lists) → Size s (a + l + length token)
       → Size c (length f.stamps + s) → 4294967295 < length f.chains + c → 4294967296 ≤ length whole
   long_chains a l s c a-is l-is s-is c-is over = omega (
     arith,
@@ -153,23 +161,23 @@ module _ (f : FrameValue) (values : List (List ℕ)) (token : List ℕ) where
   )
 
 -- how long the contents of each element are, by the sizes of those inside it
-pub record Sums (f : FrameValue) (values : List (List ℕ)) (token : List ℕ) (a l s c k n m : ℕ) : Type 0 where
-  pub stamp : a + l + length token ≡ length (stamp_inside f.alg values token)
-  pub chain : length f.stamps + s ≡ length (chain_inside f values token)
-  pub chains : length f.chains + c ≡ length (chains_inside f values token)
+pub record Sums (f : FrameValue) (lists : Lists) (token : List ℕ) (a l s c k n m : ℕ) : Type 0 where
+  pub stamp : a + l + length token ≡ length (stamp_inside f.alg lists token)
+  pub chain : length f.stamps + s ≡ length (chain_inside f lists token)
+  pub chains : length f.chains + c ≡ length (chains_inside f lists token)
   pub algorithms : length f.algorithms + n ≡ length (algorithms_inside f)
-  pub whole : 3 + m + length f.others + k ≡ length (record_inside f values token)
+  pub whole : 3 + m + length f.others + k ≡ length (record_inside f lists token)
 
-pub sums : (f : FrameValue) (values : List (List ℕ)) (token : List ℕ) (a l s c k n m : ℕ)
+pub sums : (f : FrameValue) (lists : Lists) (token : List ℕ) (a l s c k n m : ℕ)
     → a ≡ length (el 0xa0 (algorithm_parts (plain f.alg)))
-    → l ≡ length (optional_hash_lists 0xa2 (lists_of values)) → Size s (a + l + length token)
+    → l ≡ length (optional_hash_lists 0xa2 lists) → Size s (a + l + length token)
     → Size c (length f.stamps + s) → Size k (length f.chains + c) → n ≡ length (added f.alg f.adds)
-    → Size m (length f.algorithms + n) → Sums f values token a l s c k n m
-sums f values token a l s c k n m a-is l-is s-is c-is k-is n-is m-is =
-    let e1 = stamp_length f values token a l a-is l-is in
-    let e2 = chain_length f values token s (el_length 0x30 (stamp_inside f.alg values token) _ s e1 s-is) in
-    let e3 = chains_length f values token c (el_length 0x30 (chain_inside f values token) _ c e2 c-is) in
-    let e4 = algorithms_length f values token n n-is in
-    let e5 = whole_length f values token m k (el_length 0x30 (algorithms_inside f) _ m e4 m-is)
-    (el_length 0x30 (chains_inside f values token) _ k e3 k-is) in
+    → Size m (length f.algorithms + n) → Sums f lists token a l s c k n m
+sums f lists token a l s c k n m a-is l-is s-is c-is k-is n-is m-is =
+    let e1 = stamp_length f lists token a l a-is l-is in
+    let e2 = chain_length f lists token s (el_length 0x30 (stamp_inside f.alg lists token) _ s e1 s-is) in
+    let e3 = chains_length f lists token c (el_length 0x30 (chain_inside f lists token) _ c e2 c-is) in
+    let e4 = algorithms_length f lists token n n-is in
+    let e5 = whole_length f lists token m k (el_length 0x30 (algorithms_inside f) _ m e4 m-is)
+    (el_length 0x30 (chains_inside f lists token) _ k e3 k-is) in
     record { stamp = e1; chain = e2; chains = e3; algorithms = e4; whole = e5 }

@@ -11,6 +11,8 @@ pub mod Renewed
 pub mod Standing
 pub mod RootStamps
 pub mod StandsOn
+pub mod Groups
 pub mod Already
 pub mod RenewalRows
 pub mod InOrder
+pub mod ForEach

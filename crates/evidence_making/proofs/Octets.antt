@@ -9,7 +9,7 @@ use Rattle.digests.specs.Algorithms.{contents_of}
 use Rattle.digests.proofs.Named.{contents_short}
 use Rattle.evidence_making.specs.declared.headers.Headers.{Headers}
 use Rattle.evidence_making.specs.Made.{plain}
-use Rattle.evidence_making.specs.Frames.{FrameValue, added, stamp_inside, chain_inside, chains_inside}
+use Rattle.evidence_making.specs.Frames.{FrameValue, Lists, added, stamp_inside, chain_inside, chains_inside}
 use Rattle.evidence_making.specs.Frames.{algorithms_inside, record_inside, AreHeaders, head_octets, chains_octets}
 
 -- the AlgorithmIdentifier without parameters
@@ -49,16 +49,16 @@ begun_behind header t b rest e =
 version_is : 0x02 ∷ 0x01 ∷ 0x01 ∷ [] ≡ el 0x02 (1 ∷ [])
 version_is = ap (λ (l : List ℕ). 0x02 ∷ (l ++ (1 ∷ []))) (sym (len_0 1 (omega arith)))
 
-module _ (f : FrameValue) (values : List (List ℕ)) (token : List ℕ) (h : Headers)
-    (are : AreHeaders f values token h) where
+module _ (f : FrameValue) (lists : Lists) (token : List ℕ) (h : Headers)
+    (are : AreHeaders f lists token h) where
   abbrev stamp : List ℕ
-  stamp = stamp_inside f.alg values token
+  stamp = stamp_inside f.alg lists token
 
   abbrev chain : List ℕ
-  chain = chain_inside f values token
+  chain = chain_inside f lists token
 
   abbrev chains : List ℕ
-  chains = chains_inside f values token
+  chains = chains_inside f lists token
 
   chains_are : chains_octets h f ++ stamp ≡ el 0x30 chains
   chains_are = five h.chains f.chains h.chain f.stamps h.stamp stamp
@@ -80,7 +80,7 @@ module _ (f : FrameValue) (values : List (List ℕ)) (token : List ℕ) (h : Hea
       (ap (λ (x : List ℕ). h.algorithms ++ x) (sym (append_assoc f.algorithms adds (f.others ++ rest)))
       ∙ begun_behind h.algorithms 0x30 (algorithms_inside f) (f.others ++ rest) are.algorithms)
 
-  pub all_octets : (head_octets h f ++ chains_octets h f) ++ stamp ≡ el 0x30 (record_inside f values token)
+  pub all_octets : (head_octets h f ++ chains_octets h f) ++ stamp ≡ el 0x30 (record_inside f lists token)
   all_octets = append_assoc (head_octets h f) (chains_octets h f) stamp
       ∙ ap (λ (x : List ℕ). head_octets h f ++ x) chains_are ∙ head_is (el 0x30 chains)
-      ∙ begun h.whole 0x30 (record_inside f values token) are.whole
+      ∙ begun h.whole 0x30 (record_inside f lists token) are.whole

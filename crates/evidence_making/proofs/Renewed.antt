@@ -25,15 +25,16 @@ use Rattle.judge_evidence.proofs.Before.{first_before}
 use Rattle.judge_evidence.proofs.Recorded.{chains_of_record, record_of_chains}
 use Rattle.evidence_making.specs.declared.fault.RenewFault.{RenewFault}
 use Rattle.evidence_making.specs.declared.fault.RenewFault.TheVariants.{Malformed, TooLong, OutOfMemory}
-use Rattle.evidence_making.specs.Made.{plain, stamp_of}
-use Rattle.evidence_making.specs.Frames.{record_inside}
+use Rattle.evidence_making.specs.Made.{group_lists, lists_of, plain, stamp_of, stamp_with}
+use Rattle.evidence_making.specs.Frames.{Lists, record_inside}
 use Rattle.evidence_making.specs.Renewed.{is_this, is_named, with_stamp, renewed, rehashed}
 use Rattle.evidence_making.specs.Renewing.{IsAnswer, IsWritten, StandIn, ChainsStandIn}
 use Rattle.evidence_making.specs.RenewalLaws.{NamesAreFound, ShowsStill, RenewedRecordsShow, RehashedRecordsShow}
 use Rattle.judge_evidence.proofs.Ends.{HasEnd}
 use Rattle.evidence_making.proofs.Ends.{end_of, all_parts}
 use Rattle.evidence_making.proofs.Parts.{front_of, parts_by_front}
-use Rattle.evidence_making.proofs.Placed.{PlacedValue, all_algorithms, value_of, frame_of, GoodPlaced, parts_are}
+use Rattle.evidence_making.proofs.Placed.{PlacedValue, all_algorithms, value_of, frame_of, GoodPlaced, IsFilled}
+use Rattle.evidence_making.proofs.Placed.{parts_are}
 use Rattle.evidence_making.proofs.Placed.{encodes, parts_more}
 use Rattle.evidence_making.proofs.Renewals.{chains_show_after}
 
@@ -125,9 +126,9 @@ renewed_show octets later v alg values token old new =
     shows_still octets later v (renewed v alg values token) s old new refl (is_renewed v s old.1)
 
 pub rehashed_show : RehashedRecordsShow
-rehashed_show octets later v alg values token old new =
-    let s = stamp_of alg values token in
-    shows_still octets later v (rehashed v alg values token) s old new refl (is_rehashed v s old.1)
+rehashed_show octets later v alg group values token old new =
+    let s = stamp_with alg (group_lists group values) token in
+    shows_still octets later v (rehashed v alg group values token) s old new refl (is_rehashed v s old.1)
 
 -- ---- what is made
 
@@ -149,7 +150,7 @@ placed alg v earlier before = record {
 
 pub value_renewed : (v : EvidenceValue) (alg : Alg) (values : List (List ℕ)) (token : List ℕ) (front : Chains)
     (last : List StampValue) → v.chains ≡ front ++ last ∷ []
-    → value_of alg (placed alg v front last) values token ≡ renewed v alg values token
+    → value_of alg (placed alg v front last) (lists_of values) token ≡ renewed v alg values token
 value_renewed v alg values token front last e =
     let s = stamp_of alg values token in
     let algorithms = algorithms_are alg (is_named alg v.algorithms) v.algorithms in
@@ -162,15 +163,15 @@ value_renewed v alg values token front last e =
       chains = chains i;
     }
 
-pub value_rehashed : (v : EvidenceValue) (alg : Alg) (values : List (List ℕ)) (token : List ℕ)
-    → value_of alg (placed alg v v.chains []) values token ≡ rehashed v alg values token
-value_rehashed v alg values token =
+pub value_rehashed : (v : EvidenceValue) (alg : Alg) (group values : List (List ℕ)) (token : List ℕ)
+    → value_of alg (placed alg v v.chains []) (group_lists group values) token ≡ rehashed v alg group values token
+value_rehashed v alg group values token =
     let algorithms = algorithms_are alg (is_named alg v.algorithms) v.algorithms in
     λ i. record {
       algorithms = algorithms i;
       crypto_infos = v.crypto_infos;
       encryption = v.encryption;
-      chains = v.chains ++ (stamp_of alg values token ∷ []) ∷ [];
+      chains = v.chains ++ (stamp_with alg (group_lists group values) token ∷ []) ∷ [];
     }
 
 pub good_renewed : (v : EvidenceValue) (alg : Alg) (front : Chains) (last : List StampValue) → GoodEvidence v
@@ -195,18 +196,18 @@ good_rehashed v alg good = record {
 }
 
 module _ {A : Type 0} (renew : EvidenceValue → EvidenceValue) (octets : List ℕ) (octets_of : A → List ℕ)
-    (v : EvidenceValue) (old : EncodesEvidence octets v) (alg : Alg) (p : PlacedValue) (values : List (List ℕ))
-    (token inside : List ℕ) (good : GoodPlaced p) (sequence : IsSequence token)
-    (same : value_of alg p values token ≡ renew v) (e : inside ≡ record_inside (frame_of alg p) values token) where
+    (v : EvidenceValue) (old : EncodesEvidence octets v) (alg : Alg) (p : PlacedValue) (lists : Lists)
+    (token inside : List ℕ) (good : GoodPlaced p) (sequence : IsSequence token) (filled : IsFilled lists)
+    (same : value_of alg p lists token ≡ renew v) (e : inside ≡ record_inside (frame_of alg p) lists token) where
   parts : inside ≡ evidence_parts (renew v)
-  parts = e ∙ sym (parts_are alg p values token) ∙ ap (λ (w : EvidenceValue). evidence_parts w) same
+  parts = e ∙ sym (parts_are alg p lists token) ∙ ap (λ (w : EvidenceValue). evidence_parts w) same
 
   pub written : (r : Result A RenewFault) → IsWritten inside octets_of r → IsAnswer renew octets octets_of r
   written (Ok made) w = (
     v,
     old,
     subst (λ (x : EvidenceValue). EncodesEvidence (octets_of made) x) same
-        (encodes alg p values token (octets_of made) good sequence (w.0 ∙ ap (λ (b : List ℕ). el 0x30 b) e)
+        (encodes alg p lists token (octets_of made) good sequence filled (w.0 ∙ ap (λ (b : List ℕ). el 0x30 b) e)
         (subst HasLength e w.1)),
   )
   written (Err (Malformed fault)) w = absurd w
@@ -271,11 +272,11 @@ renewed_stand octets v alg values token new front last e =
       behind octets w _ new chains,
     )
 
-pub rehashed_stand : (octets : List ℕ) (v : EvidenceValue) (alg : Alg) (values : List (List ℕ)) (token : List ℕ)
-    → EncodesEvidence octets (rehashed v alg values token) → StandIn (chains_parts v.chains) octets
-rehashed_stand octets v alg values token new =
-    let w = rehashed v alg values token in
-    let s = stamp_of alg values token in (
+pub rehashed_stand : (octets : List ℕ) (v : EvidenceValue) (alg : Alg) (group values : List (List ℕ)) (token : List ℕ)
+    → EncodesEvidence octets (rehashed v alg group values token) → StandIn (chains_parts v.chains) octets
+rehashed_stand octets v alg group values token new =
+    let w = rehashed v alg group values token in
+    let s = stamp_with alg (group_lists group values) token in (
       begin 0x30 (evidence_parts w) ++ (front_of w ++ begin 0x30 (chains_parts w.chains)),
       chain_element (s ∷ []),
       behind octets w _ new (parts_more chain_element v.chains (s ∷ [])),

@@ -1,20 +1,20 @@
 -- Where the new time-stamp of a record that is renewed stands.
 use Rattle.std.proofs.Common.{◌≡◌, ℕ, ◌<◌, List, [], ◌∷◌, ◌++◌, Option, Some, refl, sym, ap, ◌∙◌, subst}
-use Rattle.std.proofs.Common.{append_assoc, append-nil}
+use Rattle.std.proofs.Common.{append_assoc, append-nil, map}
 use Rattle.digests.specs.Messages.{digest_of}
 use Rattle.evidence_types.specs.StampValue.{StampValue}
 use Rattle.check_evidence.specs.Places.{Place, IsIn, chain_of, first_of, last_of, stamps_of}
 use Rattle.check_evidence.specs.StampStates.{HasTime}
-use Rattle.check_evidence.specs.Covering.{covered_of, covered_after}
+use Rattle.check_evidence.specs.Covering.{covered_of, covered_after, covered_at}
 use Rattle.check_evidence.specs.Standing.{IsLater, Stands}
 use Rattle.judge_evidence.specs.Going.{IsLastPlace}
 use Rattle.check_evidence.proofs.Places.{SameSplit}
 use Rattle.judge_evidence.proofs.Neighbours.{last_is}
-use Rattle.evidence_making.specs.Made.{stamp_of}
+use Rattle.evidence_making.specs.Made.{group_lists, lists_of, stamp_of, stamp_with}
 use Rattle.evidence_making.specs.Renewed.{with_stamp}
 use Rattle.evidence_making.specs.RenewalLaws.{RenewedStampsStand, RehashedStampsStand}
 use Rattle.judge_evidence.proofs.Ends.{same_end}
-use Rattle.evidence_making.proofs.Made.{its_alg, last_place, new_stands}
+use Rattle.evidence_making.proofs.Made.{its_alg, last_place, lead_up, group_leads_up, new_stands}
 use Rattle.evidence_making.proofs.Renewed.{with_stamp_end}
 
 abbrev Stamps : Type 0
@@ -59,9 +59,11 @@ renewed_stamps_stand g v tree values token ds m front before last first k e are 
     let before_all : last_of (stamps_of front ++ chain) ≡ Some last =
     ap last_of (sym (append_assoc (stamps_of front) before (last ∷ []))) ∙ last_is (stamps_of front ++ before) last in
     subst (λ (q : Place). Stands g ds q) (sym (at_the_end front chain s p (sym chains ∙ there) end))
-    (new_stands g ds tree (digest_of alg last.stamp) values token m front chain are covered
+    (new_stands g ds tree (lists_of values) token m front chain
+    (lead_up tree (digest_of alg last.stamp) values are
+    (covered_at alg ds (last_place front chain s)) covered)
     (record {
-      its = its_alg alg values token;
+      its = its_alg alg (lists_of values) token;
       first = first;
       is_first = first_yet chain s first is_first;
       same = its;
@@ -69,17 +71,19 @@ renewed_stamps_stand g v tree values token ds m front before last first k e are 
     (is_later (last_of (stamps_of front ++ chain)) last k m before_all time later) t)
 
 pub rehashed_stamps_stand : RehashedStampsStand
-rehashed_stamps_stand g v tree values token data_object m last k are before_all time later t p there end =
+rehashed_stamps_stand g v tree group values token ds m last k good by are each before_all time later t p there end =
     let alg = tree.algorithm in
-    let s = stamp_of alg values token in
+    let lists = group_lists group.values values in
+    let s = stamp_with alg lists token in
     let all : last_of (stamps_of v.chains ++ []) ≡ Some last =
     ap last_of (append-nil (stamps_of v.chains)) ∙ before_all in
-    subst (λ (q : Place). Stands g (data_object ∷ []) q) (sym (at_the_end v.chains [] s p there end))
-    (new_stands g (data_object ∷ []) tree (covered_of alg v.chains data_object) values token m v.chains [] are refl
+    subst (λ (q : Place). Stands g ds q) (sym (at_the_end v.chains [] s p there end))
+    (new_stands g ds tree lists token m v.chains []
+    (group_leads_up tree group good by (map (covered_of alg v.chains) ds) each values are)
     (record {
-      its = its_alg alg values token;
+      its = its_alg alg lists token;
       first = s;
       is_first = refl;
-      same = its_alg alg values token;
+      same = its_alg alg lists token;
     })
     (is_later (last_of (stamps_of v.chains ++ [])) last k m all time later) t)

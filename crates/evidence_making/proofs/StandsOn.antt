@@ -29,19 +29,19 @@ use Rattle.judge_evidence.specs.Going.{IsLastPlace}
 use Rattle.judge_evidence.proofs.Neighbours.{last_is}
 use Rattle.evidence_trees.specs.HashTrees.{AreListsOf}
 use Rattle.evidence_making.specs.declared.fault.LeafFault.{LeafFault}
-use Rattle.evidence_making.specs.declared.fault.LeafFault.TheVariants.{Malformed, NoStamp}
+use Rattle.evidence_making.specs.declared.fault.LeafFault.TheVariants.{Malformed, NoStamp, OutOfMemory, Unnamed}
 use Rattle.evidence_making.specs.declared.leaves.LastStamp.{LastStamp}
 use Rattle.evidence_making.specs.Made.{stamp_of}
 use Rattle.evidence_making.specs.Renewed.{with_stamp}
 use Rattle.evidence_making.specs.Leaves.{IsLastOf, IsRehashOf, EndsWithoutTime, EndsWithoutAlg, OfOpen, HasNoMoment}
-use Rattle.evidence_making.specs.Leaves.{HasNoStamp, IsDueInChain, IsDueInNewChain, StandsInChain, StandsInNewChain}
-use Rattle.evidence_making.specs.Leaves.{IsLastStamp, IsRehashLeaf}
-use Rattle.evidence_making.specs.LeafSteps.{AreEndsOf, IsOpened, EndWithoutEither}
+use Rattle.evidence_making.specs.Leaves.{HasNoStamp, IsDueInChain, StandsInChain}
+use Rattle.evidence_making.specs.Leaves.{IsLastStamp}
+use Rattle.evidence_making.specs.LeafSteps.{AreEndsOf, IsNewLeafOf, IsOpened, EndWithoutEither}
 use Rattle.judge_evidence.proofs.Ends.{HasEnd}
 use Rattle.evidence_making.proofs.Ends.{end_of, all_parts}
 use Rattle.evidence_making.proofs.Made.{last_place}
 use Rattle.evidence_making.proofs.Renewed.{with_stamp_end}
-use Rattle.evidence_making.proofs.Standing.{at_the_end, renewed_stamps_stand, rehashed_stamps_stand}
+use Rattle.evidence_making.proofs.Standing.{at_the_end, renewed_stamps_stand}
 
 abbrev Stamps : Type 0
 Stamps = List StampValue
@@ -130,37 +130,34 @@ module _ (chains : Chains) (first last : StampValue) (e : AreEndsOf chains first
     time = subst (λ (s : StampValue). HasTime s m) (sym e.at) time;
   }
 
-  pub is_rehash_of : (digest leaf : Digest) (m : ℕ) (alg : Alg) (sequence : Digest) (octets : List ℕ)
-      → HasTime last m → alg ≡ alg_of digest → octets ≡ chains_parts chains
-      → octets_of sequence ≡ digest_of alg (el 0x30 octets) → alg_of leaf ≡ alg
-      → octets_of leaf ≡ digest_of alg (octets_of digest ++ octets_of sequence) → IsRehashOf chains digest leaf m
-  is_rehash_of digest leaf m alg sequence octets time by are of_chains of hashed = record {
+  pub is_rehash_of : (alg : Alg) (digest leaf : Digest) (m : ℕ) → HasTime last m → alg_of digest ≡ alg
+      → IsNewLeafOf alg (chains_parts chains) digest leaf → IsRehashOf chains digest leaf m
+  is_rehash_of alg digest leaf m time by new = record {
     place = e.place;
     there = e.there;
     is_last = e.is_last;
-    by = of ∙ by;
-    hashed = hashed ∙ ap (λ (x : List ℕ). digest_of alg (octets_of digest ++ x)) (of_chains
-        ∙ ap (λ (b : List ℕ). digest_of alg (el 0x30 b)) are)
-        ∙ ap (λ (a : Alg). digest_of a (octets_of digest ++ digest_of a (el 0x30 (chains_parts chains)))) by;
+    by = new.by ∙ sym by;
+    hashed = new.hashed
+        ∙ ap (λ (a : Alg). digest_of a (octets_of digest ++ digest_of a (el 0x30 (chains_parts chains)))) (sym by);
     time = subst (λ (s : StampValue). HasTime s m) (sym e.at) time;
   }
 
 -- ---- there is one last place
 
 -- the chains, by their last place
-by_last : (chains : Chains) (p : Place) → IsIn chains p → IsLastPlace p
+pub by_last : (chains : Chains) (p : Place) → IsIn chains p → IsLastPlace p
     → chains ≡ p.earlier ++ (p.before ++ p.stamp ∷ []) ∷ []
 by_last chains p there last =
     there ∙ (λ i. p.earlier ++ (p.before ++ p.stamp ∷ last.no_stamp i) ∷ last.no_chain i)
 
-one_last : (chains : Chains) (p q : Place) → IsIn chains p → IsLastPlace p → IsIn chains q → IsLastPlace q → p ≡ q
+pub one_last : (chains : Chains) (p q : Place) → IsIn chains p → IsLastPlace p → IsIn chains q → IsLastPlace q → p ≡ q
 one_last chains p q there is_last there' is_last' =
     let e = by_last chains p there is_last in
     at_the_end p.earlier p.before p.stamp p (sym e ∙ there) is_last
     ∙ sym (at_the_end p.earlier p.before p.stamp q (sym e ∙ there') is_last')
 
 module _ (chains : Chains) (p : Place) (there : IsIn chains p) (is_last : IsLastPlace p) where
-  has_time : (m : ℕ) → HasTime p.stamp m → EndsWithoutTime chains → ⊥
+  pub has_time : (m : ℕ) → HasTime p.stamp m → EndsWithoutTime chains → ⊥
   has_time m time h =
       let same = one_last chains p h.place there is_last h.there h.is_last in
       h.none m (subst (λ (q : Place). HasTime q.stamp m) same time)
@@ -180,7 +177,7 @@ not_open (Some x) e h = absurd cc
 module _ (octets : List ℕ) (v : EvidenceValue) (encodes : EncodesEvidence octets v) (open_data : v.encryption ≡ None)
   where
     -- what is of the chains of some value is of these
-    of_these : (Is : Chains → Type 0) → OfOpen octets Is → Is v.chains
+    pub of_these : (Is : Chains → Type 0) → OfOpen octets Is → Is v.chains
     of_these Is h = subst (λ (w : EvidenceValue). Is w.chains) (evidence_unique octets h.0 v h.1 encodes) h.3
 
     pub never_no_moment : (p : Place) (m : ℕ) → IsIn v.chains p → IsLastPlace p → HasTime p.stamp m → HasNoMoment octets
@@ -203,14 +200,14 @@ first_there : (p : Place) (first : StampValue) → IsLastPlace p → first_besid
     → first_of (p.before ++ p.stamp ∷ []) ≡ Some first
 first_there p first last e = ap (λ (l : Stamps). first_of (p.before ++ p.stamp ∷ l)) (sym last.no_stamp) ∙ e
 
-last_there : (front : Chains) (before : Stamps) (s : StampValue)
+pub last_there : (front : Chains) (before : Stamps) (s : StampValue)
     → last_of (stamps_of (front ++ (before ++ s ∷ []) ∷ [])) ≡ Some s
 last_there front before s = ap last_of (flat_map-append (λ (c : Stamps). c) front ((before ++ s ∷ []) ∷ [])
     ∙ ap (λ (l : Stamps). stamps_of front ++ l) (append-nil (before ++ s ∷ []))
     ∙ sym (append_assoc (stamps_of front) before (s ∷ [])))
     ∙ last_is (stamps_of front ++ before) s
 
-some_chain : (chains : Chains) (p : Place) → IsIn chains p → chains ≢ []
+pub some_chain : (chains : Chains) (p : Place) → IsIn chains p → chains ≢ []
 some_chain chains p there none = go p.earlier (sym none ∙ there)
   where
     go : (front : Chains) → [] ≡ front ++ chain_of p ∷ p.later → ⊥
@@ -218,7 +215,7 @@ some_chain chains p there none = go p.earlier (sym none ∙ there)
     go (c ∷ front) e = absurd cc
 
 -- what a new chain must cover, by the digest of the data object
-covered_is : (alg : Alg) (chains : Chains) (digest leaf data_object : List ℕ) → chains ≢ []
+pub covered_is : (alg : Alg) (chains : Chains) (digest leaf data_object : List ℕ) → chains ≢ []
     → leaf ≡ digest_of alg (digest ++ digest_of alg (el 0x30 (chains_parts chains)))
     → digest ≡ digest_of alg data_object → leaf ≡ covered_of alg chains data_object
 covered_is alg [] digest leaf data_object some e d = absurd (some refl)
@@ -226,7 +223,7 @@ covered_is alg (c ∷ chains) digest leaf data_object some e d = e
     ∙ ap (λ (x : List ℕ). digest_of alg (x ++ digest_of alg (el 0x30 (chains_parts (c ∷ chains))))) d
 
 module _ (octets : List ℕ) (v : EvidenceValue) (encodes : EncodesEvidence octets v) where
-  of_other : (w : EvidenceValue) (Is : Chains → Type 0) → EncodesEvidence octets w → Is v.chains → Is w.chains
+  pub of_other : (w : EvidenceValue) (Is : Chains → Type 0) → EncodesEvidence octets w → Is v.chains → Is w.chains
   of_other w Is other = subst (λ (x : EvidenceValue). Is x.chains) (evidence_unique octets v w encodes other)
 
   pub due_in_chain : (last : LastStamp) → IsLastOf v.chains last → IsDueInChain octets last
@@ -241,16 +238,6 @@ module _ (octets : List ℕ) (v : EvidenceValue) (encodes : EncodesEvidence octe
       (last_is h.place.before h.place.stamp)
       ∙ ap (λ (x : List ℕ). x ∷ []) (sym h.hashed)
 
-  pub due_in_new_chain : (digest leaf : Digest) (m : ℕ) → IsRehashOf v.chains digest leaf m
-      → IsDueInNewChain octets digest leaf
-  due_in_new_chain digest leaf m is w values token data_object p other of there end =
-      let h = of_other w (λ chains. IsRehashOf chains digest leaf m) other is in
-      let alg = alg_of digest in
-      let s = stamp_of alg values token in
-      ap (λ (q : Place). covered_at alg (data_object ∷ []) q) (at_the_end w.chains [] s p there end)
-      ∙ ap (λ (x : List ℕ). x ∷ []) (sym (covered_is alg w.chains (octets_of digest) (octets_of leaf) data_object
-      (some_chain w.chains h.place h.there) h.hashed of))
-
   -- ---- where the new one stands
 
   pub stands_in_chain : (last : LastStamp) → IsLastOf v.chains last → StandsInChain octets last
@@ -264,25 +251,12 @@ module _ (octets : List ℕ) (v : EvidenceValue) (encodes : EncodesEvidence octe
       (first_there h.place h.chain_alg.0 h.is_last h.chain_alg.1)
       (subst (λ (a : Alg). HasAlg h.chain_alg.0 a) (sym by) h.chain_alg.2) h.time later stands
 
-  pub stands_in_new_chain : (digest leaf : Digest) (m : ℕ) → IsRehashOf v.chains digest leaf m
-      → StandsInNewChain octets digest leaf m
-  stands_in_new_chain digest leaf k is g w tree values token data_object m other of by lists later stands =
-      let h = of_other w (λ chains. IsRehashOf chains digest leaf k) other is in
-      let covered : octets_of leaf ≡ covered_of tree.algorithm w.chains data_object =
-      covered_is (alg_of digest) w.chains (octets_of digest) (octets_of leaf) data_object
-      (some_chain w.chains h.place h.there) h.hashed of
-      ∙ ap (λ (a : Alg). covered_of a w.chains data_object) (sym by) in
-      rehashed_stamps_stand g w tree values token data_object m h.place.stamp k
-      (subst (λ (x : List ℕ). AreListsOf tree x values) covered lists)
-      (ap (λ (c : Chains). last_of (stamps_of c)) (by_last w.chains h.place h.there h.is_last)
-      ∙ last_there h.place.earlier h.place.before h.place.stamp) h.time later stands
-
 -- ---- what is answered
 
 abbrev good : {A : Type 0} → A → Result A LeafFault
 good a = Ok a
 
-abbrev bad : (A : Type 0) → LeafFault → Result A LeafFault
+abbrev pub bad : (A : Type 0) → LeafFault → Result A LeafFault
 bad A fault = Err fault
 
 -- of a record that is open
@@ -294,10 +268,10 @@ module _ (octets : List ℕ) (v : EvidenceValue) (is : EncodesEvidence octets v 
   pub room_for_chains : HasLength (chains_parts chains)
   room_for_chains = subst (λ (l : Chains). HasLength (chains_parts l)) (sym same) is.0.1.chains.size
 
-  to_record : (Is : Chains → Type 0) → Is chains → Is v.chains
+  pub to_record : (Is : Chains → Type 0) → Is chains → Is v.chains
   to_record Is h = subst (λ (l : Chains). Is l) same h
 
-  of_record : (Is : Chains → Type 0) → Is chains → OfOpen octets Is
+  pub of_record : (Is : Chains → Type 0) → Is chains → OfOpen octets Is
   of_record Is h = (v, is.0, is.1, to_record Is h)
 
   pub last_found : (last : LastStamp) → IsLastOf chains last → IsLastStamp octets last
@@ -320,24 +294,6 @@ module _ (octets : List ℕ) (v : EvidenceValue) (is : EncodesEvidence octets v 
   last_is_none (inl h) = (λ e. inl (inr (of_record EndsWithoutTime h)), λ none. refl)
   last_is_none (inr h) = (λ e. inr (of_record EndsWithoutAlg h), λ none. refl)
 
-  rehash_there : (digest leaf : Digest) (m : ℕ) → IsRehashOf chains digest leaf m → IsRehashOf v.chains digest leaf m
-  rehash_there digest leaf m h = to_record (λ l. IsRehashOf l digest leaf m) h
-
-  pub leaf_found : (digest leaf : Digest) (m : ℕ) → IsRehashOf chains digest leaf m → IsRehashLeaf octets digest leaf m
-  leaf_found digest leaf m h = of_record (λ l. IsRehashOf l digest leaf m) h
-
-  pub never_without : (digest leaf : Digest) (m : ℕ) → IsRehashOf chains digest leaf m → HasNoMoment octets → ⊥
-  never_without digest leaf m h none =
-      let k = rehash_there digest leaf m h in
-      never_no_moment octets v is.0 is.1 k.place m k.there k.is_last k.time none
-
-  pub leaf_due : (digest leaf : Digest) (m : ℕ) → IsRehashOf chains digest leaf m → IsDueInNewChain octets digest leaf
-  leaf_due digest leaf m h = due_in_new_chain octets v is.0 digest leaf m (rehash_there digest leaf m h)
-
-  pub leaf_stands : (digest leaf : Digest) (m : ℕ) → IsRehashOf chains digest leaf m
-      → StandsInNewChain octets digest leaf m
-  leaf_stands digest leaf m h = stands_in_new_chain octets v is.0 digest leaf m (rehash_there digest leaf m h)
-
   pub without_moment : EndsWithoutTime chains → HasNoMoment octets
   without_moment h = inr (of_record EndsWithoutTime h)
 
@@ -359,6 +315,8 @@ module _ {A : Type 0} (octets : List ℕ) where
     λ none. absurd (never_moment octets fault h none),
   )
   no_moment_opened NoStamp h = (λ e. inl h, λ none. refl)
+  no_moment_opened Unnamed h = absurd h
+  no_moment_opened OutOfMemory h = absurd h
 
   pub no_stamp_opened : (fault : LeafFault) → IsOpened octets (Err fault)
       → (bad A fault ≡ bad A NoStamp) ↔ HasNoStamp octets
@@ -370,9 +328,13 @@ module _ {A : Type 0} (octets : List ℕ) where
     ]),
   )
   no_stamp_opened NoStamp h = (λ e. inl (inl h), λ none. refl)
+  no_stamp_opened Unnamed h = absurd h
+  no_stamp_opened OutOfMemory h = absurd h
 
   pub malformed_opened : (fault : LeafFault) → IsOpened octets (Err fault) → (its : Fault)
       → bad A fault ≡ bad A (Malformed its) → Faults (file evidence_record) octets its
   malformed_opened (Malformed fault) h its e =
       let same : fault ≡ its = cc in subst (λ (f : Fault). Faults (file evidence_record) octets f) same h
   malformed_opened NoStamp h its e = absurd cc
+  malformed_opened Unnamed h its e = absurd h
+  malformed_opened OutOfMemory h its e = absurd h

@@ -1,6 +1,6 @@
 -- Whether a record has been renewed by a token already (RFC 4998, 5.2). Of many records that are renewed by one token
 -- some may be renewed, and the others not yet, when the work is cut off.
-use Rattle.std.specs.Prelude.{◌≡◌, ◌⊎◌, ℕ, ◌<◌, List, [], ◌∷◌, ◌++◌, Option, Some, None}
+use Rattle.std.specs.Prelude.{◌≡◌, ◌⊎◌, ℕ, Bool, ◌<◌, List, [], ◌∷◌, ◌++◌, Option, Some, None}
 use Rattle.digests.specs.Digests.{alg_of, octets_of}
 use Rattle.digests.specs.declared.value.Digest.{Digest}
 use Rattle.evidence_types.specs.StampValue.{StampValue}
@@ -8,7 +8,10 @@ use Rattle.check_evidence.specs.StampStates.{HasAlg}
 use Rattle.check_evidence.specs.Roots.{IsRoot, IsCovered}
 use Rattle.check_evidence.specs.Standing.{HasLengths}
 use Rattle.evidence_making.specs.declared.leaves.LastStamp.{LastStamp}
-use Rattle.evidence_making.specs.Leaves.{IsLastOf, IsLastStamp, IsRehashLeaf, IsRehashOf, OfOpen}
+use Rattle.digests.specs.declared.algorithm.Alg.{Alg}
+use Rattle.evidence_trees.specs.Groups.{GroupValue}
+use Rattle.evidence_making.specs.Groups.{IsRehashLeaf, LeadTo}
+use Rattle.evidence_making.specs.Leaves.{IsLastOf, IsLastStamp, IsRehashOf, OfOpen}
 use Rattle.evidence_making.specs.Renewed.{with_stamp}
 use Rattle.evidence_making.specs.Stamping.{StampsRoot}
 
@@ -63,8 +66,14 @@ pub record AreRehashed (chains : List (List StampValue)) (token : List ℕ) (dig
 abbrev pub IsRenewedBy : (octets token : List ℕ) → LastStamp → Type 0
 IsRenewedBy octets token last = OfOpen octets (λ chains. AreRenewed chains token last)
 
-abbrev pub IsRehashedBy : (octets token : List ℕ) → (digest leaf : Digest) → (m : ℕ) → Type 0
-IsRehashedBy octets token digest leaf m = OfOpen octets (λ chains. AreRehashed chains token digest leaf m)
+-- so for one data object
+abbrev pub IsRehashedFor : (octets token : List ℕ) → (digest leaf : Digest) → (m : ℕ) → Type 0
+IsRehashedFor octets token digest leaf m = OfOpen octets (λ chains. AreRehashed chains token digest leaf m)
+
+-- so for each of the data objects of these digests, whose leaves are this group
+abbrev pub IsRehashedBy : (octets token : List ℕ) → Alg → (digests : List Digest) → GroupValue → (m : ℕ) → Type 0
+IsRehashedBy octets token alg digests group m =
+    LeadTo (λ d leaf. IsRehashedFor octets token d leaf m) alg digests group
 
 -- ---- what a renewal stands on
 
@@ -79,12 +88,14 @@ abbrev pub StandsOn : (token : Option (List ℕ)) → (octets : List ℕ) → La
 StandsOn token octets last = IsDoneBy token octets last
     ⊎ (((other : LastStamp) → IsDoneBy token octets other → ⊥) × IsLastStamp octets last)
 
--- the same of a renewal by a hash tree, for the data object of a digest
-abbrev pub IsDoneAnewBy : (token : Option (List ℕ)) → (octets : List ℕ) → (digest leaf : Digest) → (m : ℕ) → Type 0
-IsDoneAnewBy None octets digest leaf m = ⊥
-IsDoneAnewBy (Some token) octets digest leaf m = IsRehashedBy octets token digest leaf m
+-- the same of a renewal by a hash tree, for data objects of these digests
+abbrev pub IsDoneAnewBy : (token : Option (List ℕ)) → (octets : List ℕ) → Alg → (digests : List Digest) → GroupValue
+    → (m : ℕ) → Type 0
+IsDoneAnewBy None octets alg digests group m = ⊥
+IsDoneAnewBy (Some token) octets alg digests group m = IsRehashedBy octets token alg digests group m
 
-abbrev pub StandsAnewOn : (token : Option (List ℕ)) → (octets : List ℕ) → (digest leaf : Digest) → (m : ℕ) → Type 0
-StandsAnewOn token octets digest leaf m = IsDoneAnewBy token octets digest leaf m
-    ⊎ (((other : Digest) (n : ℕ) → IsDoneAnewBy token octets digest other n → ⊥)
-    × IsRehashLeaf octets digest leaf m)
+abbrev pub StandsAnewOn : (token : Option (List ℕ)) → (octets : List ℕ) → (alone : Bool) → Alg
+    → (digests : List Digest) → GroupValue → (m : ℕ) → Type 0
+StandsAnewOn token octets alone alg digests group m = IsDoneAnewBy token octets alg digests group m
+    ⊎ (((other : GroupValue) (n : ℕ) → IsDoneAnewBy token octets alg digests other n → ⊥)
+    × IsRehashLeaf octets alone alg digests group m)

@@ -29,3 +29,5 @@ stamp_fault_text stamp.Order = codes "U9 Order"
 abbrev pub leaf_fault_text : LeafFault → List ℕ
 leaf_fault_text (leaf.Malformed f) = codes "V1 " ++ fault_text f
 leaf_fault_text leaf.NoStamp = codes "U3 NoStamp"
+leaf_fault_text leaf.Unnamed = codes "U11 Unnamed"
+leaf_fault_text leaf.OutOfMemory = codes "X4 OutOfMemory"

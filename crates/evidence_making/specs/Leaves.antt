@@ -1,5 +1,5 @@
 -- What the renewal of an evidence record stands on (RFC 4998, 5.2).
-use Rattle.std.specs.Prelude.{◌≡◌, ◌⊎◌, ℕ, ◌<◌, List, [], ◌∷◌, ◌++◌, Some, None}
+use Rattle.std.specs.Prelude.{◌≡◌, ◌⊎◌, ⊤, ℕ, ◌<◌, List, [], ◌∷◌, ◌++◌, Some, None}
 use Rattle.der_core.specs.Element.{el}
 use Rattle.digests.specs.Digests.{alg_of, octets_of}
 use Rattle.digests.specs.Messages.{digest_of}
@@ -14,9 +14,11 @@ use Rattle.check_evidence.specs.Refusing.{IsEncrypted}
 use Rattle.evidence_stamps.specs.PlaceValues.{IsChainAlg}
 use Rattle.judge_evidence.specs.Going.{IsLastPlace}
 use Rattle.evidence_trees.specs.HashTrees.{HashTree, AreListsOf}
+use Rattle.evidence_making.specs.declared.fault.LeafFault.{LeafFault}
+use Rattle.evidence_making.specs.declared.fault.LeafFault.TheVariants.{Malformed, NoStamp, OutOfMemory, Unnamed}
 use Rattle.evidence_making.specs.declared.leaves.LastStamp.{LastStamp}
 use Rattle.evidence_making.specs.Laws.{TokenStands}
-use Rattle.evidence_making.specs.Renewed.{renewed, rehashed}
+use Rattle.evidence_making.specs.Renewed.{renewed}
 use Rattle.evidence_making.specs.RenewalLaws.{LastStands}
 
 -- ---- chains
@@ -66,9 +68,6 @@ OfOpen octets Is = (v : EvidenceValue) × EncodesEvidence octets v × (v.encrypt
 abbrev pub IsLastStamp : (octets : List ℕ) → LastStamp → Type 0
 IsLastStamp octets last = OfOpen octets (λ chains. IsLastOf chains last)
 
-abbrev pub IsRehashLeaf : (octets : List ℕ) → (digest leaf : Digest) → (m : ℕ) → Type 0
-IsRehashLeaf octets digest leaf m = OfOpen octets (λ chains. IsRehashOf chains digest leaf m)
-
 -- the record is encrypted, or ends without a moment
 abbrev pub HasNoMoment : (octets : List ℕ) → Type 0
 HasNoMoment octets = IsEncrypted octets ⊎ OfOpen octets EndsWithoutTime
@@ -77,6 +76,13 @@ HasNoMoment octets = IsEncrypted octets ⊎ OfOpen octets EndsWithoutTime
 abbrev pub HasNoStamp : (octets : List ℕ) → Type 0
 HasNoStamp octets = HasNoMoment octets ⊎ OfOpen octets EndsWithoutAlg
 
+-- a fault for which a record has no last stamp: data objects aren't named there, and no memory is asked for
+abbrev pub IsOfLast : LeafFault → Type 0
+IsOfLast (Malformed fault) = ⊤
+IsOfLast NoStamp = ⊤
+IsOfLast Unnamed = ⊥
+IsOfLast OutOfMemory = ⊥
+
 -- ---- what must be covered
 
 -- Whatever the data objects, the new time-stamp of the record that is renewed so must cover the leaf, and nothing else.
@@ -84,13 +90,6 @@ abbrev pub IsDueInChain : (octets : List ℕ) → LastStamp → Type 0
 IsDueInChain octets last = (v : EvidenceValue) (values : List (List ℕ)) (token : List ℕ) (data_objects : List (List ℕ))
     (p : Place) → EncodesEvidence octets v → IsIn (renewed v last.alg values token).chains p → IsLastPlace p
     → covered_at last.alg data_objects p ≡ octets_of last.leaf ∷ []
-
--- So must that of the record with a new chain, for the data object of the digest.
-abbrev pub IsDueInNewChain : (octets : List ℕ) → (digest leaf : Digest) → Type 0
-IsDueInNewChain octets digest leaf = (v : EvidenceValue) (values : List (List ℕ)) (token data_object : List ℕ)
-    (p : Place) → EncodesEvidence octets v → octets_of digest ≡ digest_of (alg_of digest) data_object
-    → IsIn (rehashed v (alg_of digest) values token).chains p → IsLastPlace p
-    → covered_at (alg_of digest) (data_object ∷ []) p ≡ octets_of leaf ∷ []
 
 -- ---- what suffices
 
@@ -101,11 +100,3 @@ StandsInChain octets last = (g : Grounds) (v : EvidenceValue) (tree : HashTree) 
     (token : List ℕ) (data_objects : List (List ℕ)) (m : ℕ) → EncodesEvidence octets v → tree.algorithm ≡ last.alg
     → AreListsOf tree (octets_of last.leaf) values → last.moment < m → TokenStands g tree.algorithm tree.root token m
     → LastStands g data_objects (renewed v tree.algorithm values token).chains
-
--- So it does in the record with a new chain, for the data object of the digest.
-abbrev pub StandsInNewChain : (octets : List ℕ) → (digest leaf : Digest) → (last : ℕ) → Type 0
-StandsInNewChain octets digest leaf last = (g : Grounds) (v : EvidenceValue) (tree : HashTree)
-    (values : List (List ℕ)) (token data_object : List ℕ) (m : ℕ) → EncodesEvidence octets v
-    → octets_of digest ≡ digest_of (alg_of digest) data_object → tree.algorithm ≡ alg_of digest
-    → AreListsOf tree (octets_of leaf) values → last < m → TokenStands g tree.algorithm tree.root token m
-    → LastStands g (data_object ∷ []) (rehashed v tree.algorithm values token).chains

@@ -8,6 +8,7 @@ pub mod RenewalLaws
 pub mod Stamping
 pub mod StampSteps
 pub mod Leaves
+pub mod Groups
 pub mod LeafSteps
 pub mod Done
 pub mod DoneSteps

@@ -1,5 +1,5 @@
 -- What records that are renewed show (RFC 4998, 5.2 and 5.3).
-use Rattle.std.specs.Prelude.{◌≡◌, ◌↔◌, ℕ, ◌<◌, true, List, [], ◌∷◌, ◌++◌, Some, Any}
+use Rattle.std.specs.Prelude.{◌≡◌, ◌↔◌, ℕ, ◌<◌, true, List, [], ◌∷◌, ◌++◌, Some, All, Any, Contains, map}
 use Rattle.digests.specs.Messages.{digest_of}
 use Rattle.digests.specs.Algorithms.{Names}
 use Rattle.digests.specs.declared.algorithm.Alg.{Alg}
@@ -16,7 +16,8 @@ use Rattle.judge_evidence.specs.Going.{IsLastPlace}
 use Rattle.judge_evidence.specs.ShowingChains.{ShowsChains, IsRenewal}
 use Rattle.judge_evidence.specs.ShowingLaws.{held_at}
 use Rattle.evidence_trees.specs.HashTrees.{HashTree, AreListsOf}
-use Rattle.evidence_making.specs.Made.{stamp_of}
+use Rattle.evidence_trees.specs.Groups.{GroupValue, GoodGroup}
+use Rattle.evidence_making.specs.Made.{group_lists, stamp_of, stamp_with}
 use Rattle.evidence_making.specs.Laws.{TokenStands}
 use Rattle.evidence_making.specs.Renewed.{is_named, renewed, rehashed}
 
@@ -48,9 +49,10 @@ RenewedRecordsShow = (octets later : List ℕ) (v : EvidenceValue) (alg : Alg) (
     → ShowsStill octets (stamp_of alg values token) (renewed v alg values token).chains later
 
 abbrev pub RehashedRecordsShow : Type 0
-RehashedRecordsShow = (octets later : List ℕ) (v : EvidenceValue) (alg : Alg) (values : List (List ℕ)) (token : List ℕ)
-    → EncodesEvidence octets v → EncodesEvidence later (rehashed v alg values token)
-    → ShowsStill octets (stamp_of alg values token) (rehashed v alg values token).chains later
+RehashedRecordsShow = (octets later : List ℕ) (v : EvidenceValue) (alg : Alg) (group values : List (List ℕ))
+    (token : List ℕ) → EncodesEvidence octets v → EncodesEvidence later (rehashed v alg group values token)
+    → ShowsStill octets (stamp_with alg (group_lists group values) token) (rehashed v alg group values token).chains
+    later
 
 -- ---- where the new time-stamp stands
 
@@ -66,13 +68,14 @@ RenewedStampsStand = (g : Grounds) (v : EvidenceValue) (tree : HashTree) (values
     → TokenStands g tree.algorithm tree.root token m
     → LastStands g data_objects (renewed v tree.algorithm values token).chains
 
--- Of a record that is renewed by a hash tree the new one stands, for a data object: where the lists are those of a leaf
--- of a tree, which is what a new chain must cover of the data object; where the last time-stamp is earlier; and where
--- the token stands on the root of the tree.
+-- Of a record that is renewed by a hash tree the new one stands, for data objects: where the lists are those of a leaf
+-- of a tree, which is the node of a group by its algorithm that has what a new chain must cover of each data object;
+-- where the last time-stamp is earlier; and where the token stands on the root of the tree.
 abbrev pub RehashedStampsStand : Type 0
-RehashedStampsStand = (g : Grounds) (v : EvidenceValue) (tree : HashTree) (values : List (List ℕ)) (token : List ℕ)
-    (data_object : List ℕ) (m : ℕ) (last : StampValue) (k : ℕ)
-    → AreListsOf tree (covered_of tree.algorithm v.chains data_object) values
+RehashedStampsStand = (g : Grounds) (v : EvidenceValue) (tree : HashTree) (group : GroupValue)
+    (values : List (List ℕ)) (token : List ℕ) (data_objects : List (List ℕ)) (m : ℕ) (last : StampValue) (k : ℕ)
+    → GoodGroup group → group.algorithm ≡ tree.algorithm → AreListsOf tree group.node values
+    → All (Contains group.values) (map (covered_of tree.algorithm v.chains) data_objects)
     → last_of (stamps_of v.chains) ≡ Some last → HasTime last k → k < m
     → TokenStands g tree.algorithm tree.root token m
-    → LastStands g (data_object ∷ []) (rehashed v tree.algorithm values token).chains
+    → LastStands g data_objects (rehashed v tree.algorithm group.values values token).chains

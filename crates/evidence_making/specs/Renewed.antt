@@ -6,7 +6,7 @@ use Rattle.digests.specs.Named.{alg_named, is_alg}
 use Rattle.digests.specs.declared.algorithm.Alg.{Alg}
 use Rattle.evidence_types.specs.StampValue.{StampValue}
 use Rattle.evidence_types.specs.EvidenceValue.{EvidenceValue}
-use Rattle.evidence_making.specs.Made.{plain, stamp_of}
+use Rattle.evidence_making.specs.Made.{group_lists, plain, stamp_of, stamp_with}
 
 -- whether the algorithm that was found is this one
 abbrev pub is_this : Alg → Option Alg → Bool
@@ -34,9 +34,11 @@ renewed v alg values token = record v {
   chains = with_stamp (stamp_of alg values token) v.chains;
 }
 
--- Hash-Tree Renewal (5.2): a new chain of one archive time-stamp. All else is unchanged, in its order.
-abbrev pub rehashed : EvidenceValue → Alg → (values : List (List ℕ)) → (token : List ℕ) → EvidenceValue
-rehashed v alg values token = record v {
+-- Hash-Tree Renewal (5.2): a new chain of one archive time-stamp, whose first list has the values of the data objects,
+-- a group (step 5). All else is unchanged, in its order.
+abbrev pub rehashed : EvidenceValue → Alg → (group : List (List ℕ)) → (values : List (List ℕ)) → (token : List ℕ)
+    → EvidenceValue
+rehashed v alg group values token = record v {
   algorithms = with_algorithm alg v.algorithms;
-  chains = v.chains ++ (stamp_of alg values token ∷ []) ∷ [];
+  chains = v.chains ++ (stamp_with alg (group_lists group values) token ∷ []) ∷ [];
 }

@@ -67,7 +67,13 @@ pub record RenewedRows : Type 0 where
   pub new_chain : EncodesEvidence
       (hex "3049 0201 01 301c 300d 0609 608648016503040201 0500 300b 0609 608648016503040203"
       ++ hex "3026 3004 3002 3000 3004 3002 3000 3018 3016 a00b 0609 608648016503040203 a205 3003 0401 aa 3000")
-      (rehashed two_chains Sha512 (hex "aa" ∷ []) (hex "3000"))
+      (rehashed two_chains Sha512 (hex "aa" ∷ []) (hex "aa" ∷ []) (hex "3000"))
+  -- of two data objects, whose node is cc, with a neighbour
+  pub group_of_two : EncodesEvidence
+      (hex "3051 0201 01 301c 300d 0609 608648016503040201 0500 300b 0609 608648016503040203"
+      ++ hex "302e 3004 3002 3000 3004 3002 3000 3020 301e a00b 0609 608648016503040203"
+      ++ hex "a20d 3006 0401 aa 0401 bb 3003 0401 dd 3000")
+      (rehashed two_chains Sha512 (hex "aa" ∷ hex "bb" ∷ []) (hex "cc" ∷ hex "dd" ∷ []) (hex "3000"))
   -- the other fields stay
   pub others_stay : EncodesEvidence
       (hex "3040 0201 01 300d 300b 0609 608648016503040201 a00c 300a 0603 883702 3103 0201 05 a105 0603 883703"

@@ -1,6 +1,9 @@
 //! Whether an evidence record has been renewed by a token already (RFC 4998 5.2).
-ghost use Rattle.std.specs.Prelude.{◌≡◌, ◌≢◌, ◌<◌, ◌↔◌, ◌∷◌, ℕ, List, [], All, IfOk, IsOk, IsErr, IsTrue};
-ghost use Rattle.std.specs.Prelude.{MatchOption, unwrap_or};
+ghost use Rattle.std.specs.Prelude.{◌≡◌, ◌≢◌, ◌⊎◌, ◌<◌, ◌↔◌, ◌∷◌, ℕ, List, [], All, IfOk, IsOk, IsErr, IsTrue};
+ghost use Rattle.std.specs.List.{AllZip};
+ghost use Rattle.digests.specs.Digests.{alg_of};
+ghost use Rattle.evidence_trees.specs.Groups.{GroupValue};
+ghost use Rattle.std.specs.Prelude.{MatchOption, length, unwrap_or};
 ghost use Rattle.digests.specs.declared.value.Digest.{Digest};
 ghost use Rattle.der_core.specs.Values.{HasLength};
 ghost use Rattle.digests.specs.Named.{is_alg};
@@ -11,11 +14,11 @@ ghost use Rattle.evidence_types.specs.StampValue.{StampValue};
 ghost use Rattle.evidence_types.specs.EvidenceValue.{chains_parts};
 ghost use Rattle.evidence_making.specs.declared.leaves.LastStamp.{LastStamp};
 ghost use Rattle.evidence_making.specs.Done.{AreRehashed, AreRenewed, FitsOver, IsRootOver, StampsAfter};
-ghost use Rattle.evidence_making.specs.Done.{IsRehashedBy, IsRenewedBy};
-ghost use Rattle.evidence_making.specs.DoneSteps.{AreLastTwo, AreTwo, EndsAlone};
+ghost use Rattle.evidence_making.specs.Done.{IsRehashedBy, IsRehashedFor, IsRenewedBy};
+ghost use Rattle.evidence_making.specs.DoneSteps.{AreLastTwo, AreTwo, EndsAlone, IsForIt, IsNotForAll};
 
 use crate::kept;
-use crate::leaves::{LastStamp, alg_in, first_in, last_chain, last_in, moment_in, opened};
+use crate::leaves::{LastStamp, NewLeaf, alg_in, first_in, last_chain, last_in, moment_in, opened};
 use crate::stamping::stamp_of_root;
 use check_evidence::{
     Covered, are_covered, covered_after, covered_later, digest_of_chains, have_lengths, root_of,
@@ -23,6 +26,7 @@ use check_evidence::{
 };
 use der_time::Moment;
 use digests::{Alg, Digest};
+use evidence_trees::Group;
 use evidence_types::{ArchiveTimeStamp, Chain, Chains};
 use std::alloc::{AllocError, Global};
 
@@ -261,27 +265,85 @@ fn rehashed_in(
     }
 }
 
-/// What the renewal of a record by a hash tree and this token stood on, for the data object of this digest (RFC 4998
-/// 5.2), if the record is renewed so: its last chain has one `timeStamp`, the token, and covers the digest of this
-/// digest and of that of the chains before, by the root of its lists; and the last `timeStamp` of these is earlier. Who
-/// signed the token is not asked. Memory is asked for only to bring hash values into ascending order.
-///
-/// Errors: memory is refused. Octets that don't encode a record, or an encrypted one, are not renewed.
-pub fn rehashed_by(
+// What the renewal of a record by a hash tree and this token stood on, for the data object of this digest, if it is
+// renewed so.
+fn rehashed_for(
     alloc: Global,
     octets: &[u8],
     digest: &Digest,
     token: &[u8],
 ) -> Result<Option<(Digest, Moment)>, AllocError>
-    // Returns it exactly if the record is renewed so.
     ensures rehashed { IfOk result (λ o. MatchOption o
-        ((leaf : Digest) (m : ℕ) → IsRehashedBy octets.now token.now digest.now leaf m → ⊥)
-        (λ r. IsRehashedBy octets.now token.now digest.now r.0 r.1)) }
-    // Memory is refused only where a list of the record is out of order.
+        ((leaf : Digest) (m : ℕ) → IsRehashedFor octets.now token.now digest.now leaf m → ⊥)
+        (λ r. IsRehashedFor octets.now token.now digest.now r.0 r.1)) }
     ensures memory { IsErr result → IsRecordOutOfOrder octets.now }
 {
     match opened(octets) {
         Ok(record) => rehashed_in(alloc, record.chains(), digest, token),
         Err(_) => Ok(None),
     }
+}
+
+// The leaves of the data objects of these digests, behind that of the first, if the record is renewed so for each.
+fn leaves_of(
+    alloc: Global,
+    octets: &[u8],
+    first: Digest,
+    others: &[Digest],
+    token: &[u8],
+) -> Result<Option<Vec<Digest>>, AllocError>
+    ensures { IfOk result (λ o. MatchOption o (IsNotForAll octets.now token.now others.now)
+        (λ leaves. (rest : List Digest) × (leaves.items ≡ first ∷ rest)
+        × AllZip (IsForIt octets.now token.now) others.now rest)) }
+{
+    let mut leaves = Vec::with_capacity(alloc, others.len() + 1)?;
+    leaves.push(first)?;
+    let mut left = others;
+    while let Some((digest, behind)) = left.split_first() {
+        let Some((leaf, _)) = rehashed_for(alloc, octets, digest, token)? else {
+            return Ok(None);
+        };
+        leaves.push(leaf)?;
+        left = behind;
+    }
+    Ok(Some(leaves))
+}
+
+/// What the renewal of a record by a hash tree and this token stood on, for the data objects of these digests (RFC 4998
+/// 5.2), if the record is renewed so for each: its last chain has one `timeStamp`, the token, and covers the digest of
+/// this digest and of that of the chains before, by the root of its lists; and the last `timeStamp` of these is
+/// earlier.
+/// Who signed the token is not asked. It takes the time of so many readings as there are digests.
+///
+/// Errors: memory is refused. Octets that don't encode a record, or an encrypted one, are not renewed.
+pub fn rehashed_by(
+    alloc: Global,
+    octets: &[u8],
+    alg: Alg,
+    digests: &[Digest],
+    token: &[u8],
+) -> Result<Option<NewLeaf>, AllocError>
+    // There is a digest.
+    requires some { 0 < length digests.now }
+    // All are by this algorithm.
+    requires algorithm { All (λ d. alg_of d ≡ alg) digests.now }
+    // Returns it exactly if the record is renewed so.
+    ensures rehashed { IfOk result (λ o. MatchOption o
+        ((group : GroupValue) (m : ℕ) → IsRehashedBy octets.now token.now alg digests.now group m → ⊥)
+        (λ r. IsRehashedBy octets.now token.now alg digests.now r.group r.after)) }
+    // Memory is refused only where a list of the record is out of order, or the record is renewed for one of them.
+    ensures memory { IsErr result → IsRecordOutOfOrder octets.now
+        ⊎ ((digest : Digest) × (leaf : Digest) × (m : ℕ) × IsRehashedFor octets.now token.now digest leaf m) }
+{
+    let Some((digest, others)) = digests.split_first() else {
+        unreachable!()
+    };
+    let Some((first, after)) = rehashed_for(alloc, octets, digest, token)? else {
+        return Ok(None);
+    };
+    let Some(leaves) = leaves_of(alloc, octets, first, others, token)? else {
+        return Ok(None);
+    };
+    let group = Group::of(alloc, alg, leaves.as_slice())?;
+    Ok(Some(NewLeaf { group, after }))
 }

@@ -112,6 +112,11 @@ pub enum LeafFault {
     /// U3: the record is encrypted, its last `timeStamp` is no token, or its last chain has no algorithm that is known
     /// (RFC 4998 5.2).
     NoStamp,
+    /// U11: the record's first list has another number of hash values than digests are named, and nobody says that the
+    /// others are of neighbours in the tree (RFC 4998 4.2).
+    Unnamed,
+    /// X4: memory was refused.
+    OutOfMemory,
 }
 
 impl fmt::Display for LeafFault {
@@ -124,6 +129,20 @@ impl fmt::Display for LeafFault {
         match self {
             LeafFault::Malformed(fault) => write!(f, "V1 {fault}"),
             LeafFault::NoStamp => f.write_str("U3 NoStamp"),
+            LeafFault::Unnamed => f.write_str("U11 Unnamed"),
+            LeafFault::OutOfMemory => f.write_str("X4 OutOfMemory"),
         }
+    }
+}
+
+impl From<AllocError> for LeafFault {
+    ghost use Rattle.std.specs.Prelude.{◌≡◌};
+    ghost use Rattle.evidence_making.specs.declared.fault.LeafFault.TheVariants.{OutOfMemory};
+
+    // A lack of memory becomes `OutOfMemory`.
+    ghost from_gives = { λ _ e. e ≡ OutOfMemory };
+
+    fn from(_fault: AllocError) -> LeafFault {
+        LeafFault::OutOfMemory
     }
 }

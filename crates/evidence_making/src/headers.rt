@@ -1,5 +1,5 @@
 ghost use Rattle.std.specs.Prelude.{◌≡◌, ◌^◌, ◌≤◌, ◌↔◌, length, IfOk, IsErr};
-ghost use Rattle.evidence_making.specs.Frames.{added, frame_value, record_inside, AreHeaders};
+ghost use Rattle.evidence_making.specs.Frames.{added, frame_value, its_lists, record_inside, AreHeaders};
 
 use crate::algorithm::algorithm_length;
 use crate::frame::Frame;
@@ -39,10 +39,11 @@ pub(crate) fn headers_of(
     values: &LeafLists,
     token: &[u8],
 ) -> Result<Headers, TooLong>
-    ensures headers { IfOk result (AreHeaders (frame_value frame.now) values.now token.now) }
-    ensures too_long { IsErr result ↔ 2 ^ 32 ≤ length (record_inside (frame_value frame.now) values.now token.now) }
+    ensures headers { IfOk result (AreHeaders (frame_value frame.now) (its_lists frame.now values.now) token.now) }
+    ensures too_long { IsErr result
+        ↔ 2 ^ 32 ≤ length (record_inside (frame_value frame.now) (its_lists frame.now values.now) token.now) }
 {
-    let lists = open_lists(values)?;
+    let lists = open_lists(frame.group, values)?;
     let stamp_front = algorithm_length(frame.alg) + lists.size;
     let stamp = open(SEQUENCE, stamp_front + token.len() as u64)?;
     let chain = open(SEQUENCE, frame.stamps.len() as u64 + stamp.size)?;

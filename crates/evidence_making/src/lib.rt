@@ -24,7 +24,7 @@ pub use laws::{
     made_records_show, making_rows_hold, new_stamps_stand, renewal_rows_hold, renewed_records_show,
     stamps_are_of_roots,
 };
-pub use leaves::{LastStamp, last_stamp, rehash_leaf};
+pub use leaves::{LastStamp, NewLeaf, last_stamp, rehash_leaf};
 pub use making::{is_sequence, make_record};
 pub use renewing::{rehash_record, renew_record};
 pub use stamping::stamp_of_root;

@@ -52,6 +52,7 @@ pub fn make_record(
 {
     let frame = Frame {
         alg,
+        group: None,
         algorithms: &[],
         adds: true,
         others: &[],

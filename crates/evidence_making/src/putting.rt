@@ -1,7 +1,8 @@
 ghost use Rattle.std.specs.Prelude.{◌≡◌, ◌^◌, ◌<◌, ◌≤◌, ◌↔◌, ◌++◌, length, IfOk, OnOk, Err};
 ghost use Rattle.der_core.specs.Element.{el};
 ghost use Rattle.der_core.specs.Values.{HasLength};
-ghost use Rattle.evidence_making.specs.Frames.{added, frame_value, stamp_inside, record_inside, lists_inside};
+ghost use Rattle.evidence_making.specs.Frames.{added, frame_value, its_lists, stamp_inside, record_inside};
+ghost use Rattle.evidence_making.specs.Frames.{lists_inside};
 ghost use Rattle.evidence_making.specs.Frames.{BeginLists, head_octets, chains_octets};
 
 use crate::algorithm::put_algorithm;
@@ -62,12 +63,15 @@ fn put_stamp(
     values: &LeafLists,
     token: &[u8],
 ) -> Result<(), MakeFault>
-    requires { BeginLists headers.now.lists values.now }
-    ensures put { OnOk result (out.new.items ≡ out.old.items ++ stamp_inside frame.now.alg values.now token.now) }
-    ensures too_long { result ≡ Err MakeFault.TooLong → 2 ^ 32 ≤ length (lists_inside values.now) }
+    requires { BeginLists headers.now.lists (its_lists frame.now values.now) }
+    ensures put { OnOk result
+        (out.new.items ≡ out.old.items ++ stamp_inside frame.now.alg (its_lists frame.now values.now)
+        token.now) }
+    ensures too_long { result ≡ Err MakeFault.TooLong
+        → 2 ^ 32 ≤ length (lists_inside (its_lists frame.now values.now)) }
 {
     put_algorithm(out, ALGORITHM, frame.alg)?;
-    put_lists(out, &headers.lists, values)?;
+    put_lists(out, &headers.lists, frame.group, values)?;
     out.extend_from_slice(token)?;
     Ok(())
 }
@@ -79,10 +83,12 @@ pub(crate) fn record_of(
     values: &LeafLists,
     token: &[u8],
 ) -> Result<Vec<u8>, MakeFault>
-    ensures octets { IfOk result (λ v. v.items ≡ el 0x30 (record_inside (frame_value frame.now) values.now token.now)) }
-    ensures fits { IfOk result (λ v. HasLength (record_inside (frame_value frame.now) values.now token.now)) }
+    ensures octets { IfOk result (λ v. v.items
+        ≡ el 0x30 (record_inside (frame_value frame.now) (its_lists frame.now values.now) token.now)) }
+    ensures fits { IfOk result (λ v.
+        HasLength (record_inside (frame_value frame.now) (its_lists frame.now values.now) token.now)) }
     ensures too_long { (result ≡ Err MakeFault.TooLong)
-        ↔ (2 ^ 32 ≤ length (record_inside (frame_value frame.now) values.now token.now)) }
+        ↔ (2 ^ 32 ≤ length (record_inside (frame_value frame.now) (its_lists frame.now values.now) token.now)) }
 {
     let headers = headers_of(frame, values, token)?;
     let mut out = Vec::with_capacity(alloc, headers.size as usize)?;

@@ -1,11 +1,11 @@
-ghost use Rattle.std.specs.Prelude.{◌≡◌, ◌^◌, ◌≤◌, IfOk, IfErr, vec_items};
+ghost use Rattle.std.specs.Prelude.{IfOk, IfErr, vec_items};
 ghost use Rattle.der_core.specs.Faults.{Faults};
 ghost use Rattle.der_core.specs.Grammar.{file};
 ghost use Rattle.evidence_types.specs.EvidenceTable.{evidence_record};
 ghost use Rattle.evidence_types.specs.StampValue.{IsSequence};
 ghost use Rattle.evidence_types.specs.EvidenceValue.{EvidenceValue, EncodesEvidence, chains_parts};
-ghost use Rattle.evidence_making.specs.Made.{stamp_of};
-ghost use Rattle.evidence_making.specs.Frames.{frame_value, record_inside};
+ghost use Rattle.evidence_making.specs.Made.{group_lists, stamp_of, stamp_with};
+ghost use Rattle.evidence_making.specs.Frames.{frame_value, its_lists, record_inside};
 ghost use Rattle.evidence_making.specs.Renewed.{renewed, rehashed};
 ghost use Rattle.evidence_making.specs.Renewing.{IsAnswer, IsWritten, StandIn, ChainsStandIn};
 ghost use Rattle.evidence_making.specs.RenewalLaws.{ShowsStill};
@@ -17,7 +17,7 @@ use crate::naming::is_named;
 use crate::putting::record_of;
 use der_core::{Fault, ReadFault};
 use digests::Alg;
-use evidence_trees::LeafLists;
+use evidence_trees::{Group, LeafLists};
 use evidence_types::EvidenceRecord;
 use std::alloc::Global;
 
@@ -40,7 +40,8 @@ fn renewed_in(
     values: &LeafLists,
     token: &[u8],
 ) -> Result<Vec<u8>, RenewFault>
-    ensures { IsWritten (record_inside (frame_value frame.now) values.now token.now) vec_items result }
+    ensures { IsWritten (record_inside (frame_value frame.now) (its_lists frame.now values.now) token.now) vec_items
+        result }
 {
     match record_of(alloc, frame, values, token) {
         Ok(octets) => Ok(octets),
@@ -84,6 +85,7 @@ pub fn renew_record(
     let adds = !is_named(old.algorithms(), alg);
     let frame = Frame {
         alg,
+        group: None,
         algorithms: kept.algorithms,
         adds,
         others: kept.others,
@@ -94,9 +96,10 @@ pub fn renew_record(
 }
 
 /// The octets of an evidence record that is renewed by a hash tree (Hash-Tree Renewal, RFC 4998 5.2): a new chain of
-/// one archive time-stamp, by this algorithm, with the token, and the lists, each of one value, of the digest of the
-/// data object's digest and that of the chains so far. `digestAlgorithms` gains the algorithm where none of them names
-/// it. All else is as it was, octet for octet, but for the lengths around it. Nothing is tested of the token nor of the
+/// one archive time-stamp, by this algorithm, with the token. The first of its lists has the values of the group: for
+/// each data object the digest of its digest and of that of the chains so far; then come these values but the first,
+/// which is that of the group's node, each alone. `digestAlgorithms` gains the algorithm where none of them names it.
+/// All else is as it was, octet for octet, but for the lengths around it. Nothing is tested of the token nor of the
 /// lists.
 ///
 /// Errors: those of `renew_record`.
@@ -104,21 +107,24 @@ pub fn rehash_record(
     alloc: Global,
     octets: &[u8],
     alg: Alg,
+    group: &Group,
     values: &LeafLists,
     token: &[u8],
 ) -> Result<Vec<u8>, RenewFault>
     // The token is one SEQUENCE.
     requires { IsSequence token.now }
     // What is made encodes exactly the record with the new chain; or the reason holds why nothing was made.
-    ensures answer { IsAnswer (λ v. rehashed v alg values.now token.now) octets.now vec_items result }
+    ensures answer { IsAnswer (λ v. rehashed v alg group.now.values values.now token.now) octets.now vec_items result }
     // The octets of the old chains stand in it.
     ensures kept { IfOk result (λ w. (v : EvidenceValue) → EncodesEvidence octets.now v
         → StandIn (chains_parts v.chains) w.items) }
     // What the old record shows at the moment of the new time-stamp the new one shows, if that stands.
     ensures shows { IfOk result (λ w. (v : EvidenceValue) → EncodesEvidence octets.now v
-        → ShowsStill octets.now (stamp_of alg values.now token.now)
-        (rehashed v alg values.now token.now).chains w.items) }
+        → ShowsStill octets.now (stamp_with alg (group_lists group.now.values values.now) token.now)
+        (rehashed v alg group.now.values values.now token.now).chains w.items) }
 {
+    // So the group has a value.
+    let _values = group.values();
     let old = match record_in(octets) {
         Ok(old) => old,
         Err(fault) => return Err(RenewFault::Malformed(fault)),
@@ -128,6 +134,7 @@ pub fn rehash_record(
     let adds = !is_named(old.algorithms(), alg);
     let frame = Frame {
         alg,
+        group: Some(group),
         algorithms: kept.algorithms,
         adds,
         others: kept.others,

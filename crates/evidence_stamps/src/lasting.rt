@@ -69,7 +69,7 @@ fn lasts_under<V: Verifier>(
     Ok(vouched)
 }
 
-// Whether the token of a signer lasts under a trusted entry. The first is the last that is asked about.
+// Whether the token of a signer lasts under a trusted entry.
 fn lasts_by<V: Verifier>(
     signer: &Signer,
     moment: Moment,
@@ -99,7 +99,7 @@ fn lasts_by<V: Verifier>(
 
 /// Whether a token lasts that states this: the verifier vouches for its one signer under a trusted entry of an
 /// authority that holds at the moment of the token and also at the end of its use. An entry is passed over that fails
-/// what needs no question, and no other is asked about once one is found.
+/// what needs no question.
 ///
 /// Errors: `AskFault` if the verifier fails.
 pub fn lasts<V: Verifier>(

@@ -2,6 +2,9 @@ pub mod Cuts
 pub mod Named
 pub mod Escapes
 pub mod Places
+pub mod Tested
+pub mod LineParts
+pub mod Recorded
 pub mod Rows
 pub mod GoodLines
 pub mod PassedNames

@@ -1,5 +1,5 @@
 -- The names that were passed, and the set of them as they stand in the lines.
-use Rattle.std.proofs.Common.{◌≡◌, ℕ, ◌+◌, Bool, true, false, not, List, ◌∷◌, Bor, map, Some, refl, sym}
+use Rattle.std.proofs.Common.{◌≡◌, ℕ, ◌+◌, Bool, true, false, not, List, ◌∷◌, Bor, Some, refl, sym}
 use Rattle.std.proofs.Common.{ap, ◌∙◌, arith}
 use Rattle.std.specs.Prelude.{◌||◌, cond}
 use Rattle.std.specs.declared.cmp.Ordering.{Ordering}
@@ -15,10 +15,12 @@ use Rattle.der_core.proofs.Encoded.{same}
 use Rattle.digests.specs.declared.algorithm.Alg.{Alg}
 use Rattle.evidence_sums.specs.Marks.{mark_of}
 use Rattle.evidence_sums.specs.Names.{is_escaped, unescaped}
-use Rattle.evidence_sums.specs.SumLines.{escaped_in, is_sum_line, name_in}
-use Rattle.evidence_sums.specs.Sums.{is_among, first_again}
+use Rattle.evidence_sums.specs.LineTests.{is_continued, is_line, named_again}
+use Rattle.evidence_sums.specs.SumLines.{escaped_in, name_in}
+use Rattle.evidence_sums.specs.Sums.{is_among}
 use Rattle.evidence_sums.proofs.Escapes.{and_first, and_second, same_names}
 use Rattle.evidence_sums.proofs.GoodLines.{good}
+use Rattle.evidence_sums.proofs.LineParts.{head_line}
 
 -- a mark and a name as it stands, and their order
 abbrev pub Marked : Type 0
@@ -85,47 +87,57 @@ pub not_kept : (kept added : Bool) → added ≡ not kept → added ≡ true →
 not_kept true added is new = absurd (let no : false ≡ true = sym is ∙ new in cc)
 not_kept false added is new = refl
 
-pub passed_more : (alg : Alg) (passed lines others : List (List ℕ)) (number : ℕ) (line stands : List ℕ)
-    → lines ≡ line ∷ others → stands ≡ escaped_in alg line → is_among passed (unescaped stands) ≡ false
-    → first_again passed number (map (name_in alg) lines)
-    ≡ first_again (unescaped stands ∷ passed) (number + 1) (map (name_in alg) others)
-passed_more alg passed lines others number line stands is there new =
-    let apart : is_among passed (name_in alg line) ≡ false =
-    sym (ap (λ (w : List ℕ). is_among passed (unescaped w)) there) ∙ new in
-    let same : name_in alg line ≡ unescaped stands = sym (ap unescaped there) in
-    ap (λ (ls : List (List ℕ)). first_again passed number (map (name_in alg) ls)) is
-    ∙ rw apart (ap (λ (w : List ℕ). first_again (w ∷ passed) (number + 1) (map (name_in alg) others)) same)
+module _ (may_continue : Bool) (alg : Alg) (passed lines others : List (List ℕ)) (number : ℕ) (line : List ℕ)
+    (is : lines ≡ line ∷ others) where
+  -- a line that continues another has no name
+  pub passed_over : is_continued may_continue line ≡ true
+      → named_again may_continue alg passed number lines ≡ named_again may_continue alg passed (number + 1) others
+  passed_over more = ap (λ (ls : List (List ℕ)). named_again may_continue alg passed number ls) is ∙ rw more refl
 
--- ---- a name that is there again
+  module _ (stands : List ℕ) (head : is_continued may_continue line ≡ false) (there : stands ≡ escaped_in alg line)
+    where
+      pub passed_more : is_among passed (unescaped stands) ≡ false
+          → named_again may_continue alg passed number lines
+          ≡ named_again may_continue alg (unescaped stands ∷ passed) (number + 1) others
+      passed_more new =
+          let apart : is_among passed (name_in alg line) ≡ false =
+          sym (ap (λ (w : List ℕ). is_among passed (unescaped w)) there) ∙ new in
+          let same : name_in alg line ≡ unescaped stands = sym (ap unescaped there) in
+          ap (λ (ls : List (List ℕ)). named_again may_continue alg passed number ls) is
+          ∙ rw (head, apart)
+          (ap (λ (w : List ℕ). named_again may_continue alg (w ∷ passed) (number + 1) others) same)
+
+      -- a name that is there again
+      pub passed_found : is_among passed (unescaped stands) ≡ true
+          → named_again may_continue alg passed number lines ≡ Some number
+      passed_found old =
+          let again : is_among passed (name_in alg line) ≡ true =
+          sym (ap (λ (w : List ℕ). is_among passed (unescaped w)) there) ∙ old in
+          ap (λ (ls : List (List ℕ)). named_again may_continue alg passed number ls) is ∙ rw (head, again) refl
 
 pub is_kept : (kept added : Bool) → added ≡ not kept → added ≡ false → kept ≡ true
 is_kept true added is old = refl
 is_kept false added is old = absurd (let no : true ≡ false = sym is ∙ old in cc)
 
-pub passed_found : (alg : Alg) (passed lines others : List (List ℕ)) (number : ℕ) (line stands : List ℕ)
-    → lines ≡ line ∷ others → stands ≡ escaped_in alg line → is_among passed (unescaped stands) ≡ true
-    → first_again passed number (map (name_in alg) lines) ≡ Some number
-passed_found alg passed lines others number line stands is there old =
-    let again : is_among passed (name_in alg line) ≡ true =
-    sym (ap (λ (w : List ℕ). is_among passed (unescaped w)) there) ∙ old in
-    ap (λ (ls : List (List ℕ)). first_again passed number (map (name_in alg) ls)) is ∙ rw again refl
-
 -- ---- a name, as it stands in the first line of those that are left
 
-module _ (alg : Alg) (lines others : List (List ℕ)) (line : List ℕ) (name : Bor (List ℕ)) (cut : lines ≡ line ∷ others)
-    (sums : list_all (is_sum_line alg) lines ≡ true) (is : name.now ≡ escaped_in alg line) where
-  all : list_all (is_sum_line alg) (line ∷ others) ≡ true
-  all = sym (ap (list_all (is_sum_line alg)) cut) ∙ sums
+module _ (may_continue : Bool) (alg : Alg) (lines others : List (List ℕ)) (line : List ℕ) (cut : lines ≡ line ∷ others)
+    (formed : list_all (is_line may_continue alg) lines ≡ true) where
+  all : list_all (is_line may_continue alg) (line ∷ others) ≡ true
+  all = sym (ap (list_all (is_line may_continue alg)) cut) ∙ formed
 
-  pub sums_behind : list_all (is_sum_line alg) others ≡ true
-  sums_behind = and_second (is_sum_line alg line) (list_all (is_sum_line alg) others) all
+  pub formed_behind : list_all (is_line may_continue alg) others ≡ true
+  formed_behind = and_second (is_line may_continue alg line) (list_all (is_line may_continue alg) others) all
 
-  pub name_stands : is_escaped name.now ≡ true
-  name_stands = ap is_escaped is
-      ∙ (good alg line (and_first (is_sum_line alg line) (list_all (is_sum_line alg) others) all)).stands
+  module _ (name : Bor (List ℕ)) (head : is_continued may_continue line ≡ false) (is : name.now ≡ escaped_in alg line)
+    where
+      pub name_stands : is_escaped name.now ≡ true
+      name_stands = ap is_escaped is
+          ∙ (good alg line (head_line may_continue alg line
+          (and_first (is_line may_continue alg line) (list_all (is_line may_continue alg) others) all) head)).stands
 
-  -- the set says whether it was passed
-  pub name_among : (passed : List (List ℕ)) (kept : BTreeSet Marked) (mark : ℕ) → Keeps passed kept
-      → mark ≡ mark_of name.now → is_among passed (unescaped name.now) ≡ contains marked_cmp kept (mark, name)
-  name_among passed kept mark keeps its =
-      sym (keeps name name_stands) ∙ ap (λ (m : ℕ). contains marked_cmp kept (m, name)) (sym its)
+      -- the set says whether it was passed
+      pub name_among : (passed : List (List ℕ)) (kept : BTreeSet Marked) (mark : ℕ) → Keeps passed kept
+          → mark ≡ mark_of name.now → is_among passed (unescaped name.now) ≡ contains marked_cmp kept (mark, name)
+      name_among passed kept mark keeps its =
+          sym (keeps name name_stands) ∙ ap (λ (m : ℕ). contains marked_cmp kept (m, name)) (sym its)

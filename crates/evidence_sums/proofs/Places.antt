@@ -1,5 +1,5 @@
 -- Numbers of elements that pass.
-use Rattle.std.proofs.Common.{◌≡◌, ℕ, ◌+◌, Bool, true, false, not, List, [], ◌∷◌, Some, None, length, refl}
+use Rattle.std.proofs.Common.{◌≡◌, ℕ, ◌+◌, Bool, true, false, not, List, [], ◌∷◌, Some, None, length, refl, arith}
 use Rattle.std.specs.Prelude.{◌==◌}
 use Rattle.std.specs.List.{slice_split, list_all}
 use Rattle.digests.specs.declared.algorithm.Alg.{Alg}
@@ -8,6 +8,7 @@ use Rattle.evidence_sums.specs.Names.{is_name}
 use Rattle.evidence_sums.specs.SumLines.{is_sum_line, name_in}
 use Rattle.evidence_sums.specs.Sums.{Answer, no_line, unless_badly_formed}
 use Rattle.evidence_sums.proofs.Cuts.{some_part}
+use Rattle.evidence_sums.proofs.Escapes.{is_then}
 
 -- where nothing fails a test, all pass it
 pub all_pass : {X : Type 0} (passes : X → Bool) (number : ℕ) (xs : List X)
@@ -23,7 +24,15 @@ all_pass {X = X} passes number (x ∷ xs) none = by_case (passes x) refl none (a
         let rest : first_number (λ x. not (passes x)) (number + 1) xs ≡ None = rw e at none in rw e (others rest)
     by_case false e none others = absurd (let no : Some number ≡ None = rw e at none in cc)
 
--- a text that has octets has a line
+-- a text without octets has none
+pub no_octets : (text : List ℕ) → length text == 0 ≡ true → lines_of text ≡ []
+no_octets text none = go text (is_then (length text) 0 none)
+  where
+    go : (text : List ℕ) → length text ≡ 0 → lines_of text ≡ []
+    go [] none = refl
+    go (octet ∷ text) none = absurd (omega arith)
+
+-- one that has some has a line
 pub some_line : (text : List ℕ) → length text == 0 ≡ false → no_line (lines_of text) ≡ None
 some_line [] some = absurd (let no : true ≡ false = some in cc)
 some_line (octet ∷ text) some = by_case (octet == 10) refl (some_part (λ b. b == 10) text)

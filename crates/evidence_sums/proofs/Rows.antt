@@ -1,7 +1,7 @@
 -- The worked rows, by computation.
 use Rattle.std.proofs.Common.{refl}
 use Rattle.hex.specs.Hex.{decode_pairs}
-use Rattle.evidence_sums.specs.Rows.{SumsRows}
+use Rattle.evidence_sums.specs.Rows.{RecordsRows, SumsRows}
 
 pub sums_rows : SumsRows
 unfolding decode_pairs
@@ -45,4 +45,23 @@ sums_rows = record {
   twice = refl;
   form_first = refl;
   name_first = refl;
+}
+
+pub records_rows : RecordsRows
+unfolding decode_pairs
+records_rows = record {
+  group = refl;
+  no_sums = refl;
+  among = refl;
+  escaped = refl;
+  first = refl;
+  alone = refl;
+  spaces = refl;
+  space = refl;
+  another = refl;
+  empty = refl;
+  anywhere = refl;
+  shared = refl;
+  twice = refl;
+  above = refl;
 }

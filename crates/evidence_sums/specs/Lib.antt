@@ -2,6 +2,9 @@ pub mod Lines
 pub mod Names
 pub mod SumLines
 pub mod Sums
+pub mod Records
+pub mod LineTests
+pub mod Walks
 pub mod Marks
 pub mod FaultTexts
 pub mod Written

@@ -4,10 +4,13 @@ use Rattle.std.specs.Prelude.{◌≡◌, ℕ, List, [], ◌∷◌, ◌++◌, cod
 use Rattle.std.specs.List.{join_with_byte}
 use Rattle.der_core.specs.Hex.{hex}
 use Rattle.digests.specs.declared.algorithm.Alg.TheVariants.{Sha1, Sha256, Sha512}
+use Rattle.digests.specs.declared.value.Digest.{Digest}
 use Rattle.digests.specs.declared.value.Digest.TheVariants as digests
+use Rattle.evidence_sums.specs.declared.sums_fault.SumsRule.{SumsRule}
 use Rattle.evidence_sums.specs.declared.sums_fault.SumsRule.TheVariants as rule
 use Rattle.evidence_sums.specs.SumLines.{SumValue}
 use Rattle.evidence_sums.specs.Sums.{Answer, sums_of}
+use Rattle.evidence_sums.specs.Records.{RecordValue, RecordsAnswer, records_of}
 
 -- lines with LF between
 abbrev pub text_of : List (List ℕ) → List ℕ
@@ -107,3 +110,64 @@ pub record SumsRows : Type 0 where
       ≡ fails_at 3
   pub name_first : sums_of Sha256 (text_of ((digits ++ codes "  a") ∷ (digits ++ codes "  a")
       ∷ (digits ++ codes "  /") ∷ [])) ≡ misnamed_at 3
+
+-- ---- lines that continue a record
+
+-- the digits for an empty file, as sha256sum writes them
+abbrev pub digits_of_none : List ℕ
+digits_of_none = codes "e3b0c44298fc1c149afbf4c8996fb92427ae41e4649b934ca495991b7852b855"
+
+abbrev pub both : List Digest
+both = digests.Sha256 abc
+    ∷ (digests.Sha256 (hex "e3b0c44298fc1c149afbf4c8996fb92427ae41e4649b934ca495991b7852b855") ∷ [])
+
+abbrev pub first_line : (name : List ℕ) → List ℕ
+first_line name = digits ++ (codes "  " ++ name)
+
+abbrev pub next_line : (name : List ℕ) → List ℕ
+next_line name = codes " " ++ (digits_of_none ++ (codes "  " ++ name))
+
+abbrev pub one_of : (name : List ℕ) → RecordValue
+one_of name = record { alg = Sha256; name = name; digests = digests.Sha256 abc ∷ [] }
+
+abbrev pub both_of : (name : List ℕ) → RecordValue
+both_of name = record { alg = Sha256; name = name; digests = both }
+
+abbrev pub fails_by : SumsRule → (line : ℕ) → RecordsAnswer
+fails_by r line = Err (record { rule = r; line = line })
+
+pub record RecordsRows : Type 0 where
+  -- two lines of one record, and the same where none of them is a text of sums
+  pub group : records_of Sha256 (text_of (first_line (codes "a") ∷ next_line (codes "b") ∷ [] ∷ []))
+      ≡ Ok (both_of (codes "a") ∷ [])
+  pub no_sums : sums_of Sha256 (text_of (first_line (codes "a") ∷ next_line (codes "b") ∷ [] ∷ [])) ≡ fails_at 2
+  -- records of one line, before and behind it
+  pub among : records_of Sha256 (text_of (first_line (codes "a") ∷ first_line (codes "b") ∷ next_line (codes "c")
+      ∷ first_line (codes "d") ∷ []))
+      ≡ Ok (one_of (codes "a") ∷ (both_of (codes "b") ∷ (one_of (codes "d") ∷ [])))
+  -- a name that is escaped, and the other mode, behind a space
+  pub escaped : records_of Sha256 (text_of (first_line (codes "a")
+      ∷ (codes " \\" ++ (digits_of_none ++ codes " *x\\\\y")) ∷ []))
+      ≡ Ok (both_of (codes "a") ∷ [])
+  -- the first line continues none, also if it is the only one
+  pub first : records_of Sha256 (text_of (next_line (codes "a") ∷ first_line (codes "b") ∷ [])) ≡ fails_by rule.Line 1
+  pub alone : records_of Sha256 (next_line (codes "a")) ≡ fails_by rule.Line 1
+  -- two spaces; a space alone; another algorithm behind a space
+  pub spaces : records_of Sha256 (text_of (first_line (codes "a") ∷ (codes " " ++ next_line (codes "b")) ∷ []))
+      ≡ fails_by rule.Line 2
+  pub space : records_of Sha256 (text_of (first_line (codes "a") ∷ codes " " ∷ [])) ≡ fails_by rule.Line 2
+  pub another : records_of Sha256 (text_of (first_line (codes "a")
+      ∷ codes " a9993e364706816aba3e25717850c26c9cd0d89d  b" ∷ [])) ≡ fails_by rule.Line 2
+  -- no line
+  pub empty : records_of Sha256 [] ≡ fails_by rule.Empty 0
+  -- a name behind a space leads nowhere, and may be there twice, or in the line that begins another record
+  pub anywhere : records_of Sha256 (text_of (first_line (codes "a") ∷ next_line (codes "/b") ∷ []))
+      ≡ Ok (both_of (codes "a") ∷ [])
+  pub shared : records_of Sha256 (text_of (first_line (codes "a") ∷ next_line (codes "b") ∷ first_line (codes "b")
+      ∷ next_line (codes "b") ∷ []))
+      ≡ Ok (both_of (codes "a") ∷ (both_of (codes "b") ∷ []))
+  -- of lines that begin a record a name is refused as in a text of sums, by the line's number
+  pub twice : records_of Sha256 (text_of (first_line (codes "a") ∷ next_line (codes "b") ∷ first_line (codes "a") ∷ []))
+      ≡ fails_by rule.NameTwice 3
+  pub above : records_of Sha256 (text_of (first_line (codes "a") ∷ next_line (codes "b")
+      ∷ first_line (codes "../a") ∷ [])) ≡ fails_by rule.Name 3

@@ -26,7 +26,7 @@ abbrev pub Answer : Type 0
 Answer = Result (List SumValue) SumsFault
 
 -- the rule is failed at this line, if there is one, and otherwise it is as the next rules say
-abbrev pub unless : SumsRule → (line : Option ℕ) → Answer → Answer
+abbrev pub unless : {X : Type 0} → SumsRule → (line : Option ℕ) → Result X SumsFault → Result X SumsFault
 unless rule (Some line) answer = Err (record { rule = rule; line = line })
 unless rule None answer = answer
 

@@ -1,11 +1,12 @@
 //! What holds of the definitions: there is no code to run.
 
-ghost use Rattle.evidence_sums.specs.Rows.{SumsRows};
+ghost use Rattle.evidence_sums.specs.Rows.{RecordsRows, SumsRows};
 ghost use Rattle.evidence_sums.specs.Written.{ReadingFitsWriting};
 
 /// The worked rows: texts of sums, with what they state, and texts that are none, with their first fault.
 pub fn rows_hold()
-    ensures { SumsRows }
+    ensures sums { SumsRows }
+    ensures records { RecordsRows }
 {}
 
 /// A line of sums is the one that is written for the digest and the name that it states, and for no others.

@@ -5,11 +5,14 @@
 mod laws;
 mod lines;
 mod names;
+mod records;
 mod repeats;
 mod sum_lines;
 mod sums;
 mod sums_fault;
+mod testing;
 
 pub use laws::{reading_fits_writing, rows_hold};
+pub use records::{RecordSum, RecordSums};
 pub use sums::{Sum, Sums};
 pub use sums_fault::{SumsFault, SumsRule};

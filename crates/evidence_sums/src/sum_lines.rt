@@ -2,6 +2,8 @@
 ghost use Rattle.std.specs.Prelude.{◌≡◌};
 ghost use Rattle.evidence_sums.specs.SumLines.{digits_of, is_marked, body_of, digits_in, mode_in, escaped_in};
 ghost use Rattle.evidence_sums.specs.SumLines.{is_mode, is_just, is_sum_line};
+ghost use Rattle.evidence_sums.specs.LineTests.{is_continued, is_line, part_of};
+ghost use Rattle.evidence_sums.specs.Records.{continues};
 
 use crate::lines::{behind, front};
 use crate::names::{has_pair, is_escaped};
@@ -73,4 +75,36 @@ pub(crate) fn is_sum_line(alg: Alg, line: &[u8]) -> bool
         && is_mode(mode_in(alg, line))
         && is_escaped(name)
         && is_just(is_marked(line), has_pair(name))
+}
+
+/// Whether a line begins with a space.
+pub(crate) fn continues(line: &[u8]) -> bool
+    ensures { result ≡ continues line.now }
+{
+    !line.is_empty() && line[0] == b' '
+}
+
+/// Whether a line continues the one before it, if a line may.
+pub(crate) fn is_continued(may_continue: bool, line: &[u8]) -> bool
+    ensures { result ≡ is_continued may_continue line.now }
+{
+    may_continue && continues(line)
+}
+
+/// A line without the space by which it continues the one before it.
+pub(crate) fn part_of(may_continue: bool, line: &[u8]) -> &[u8]
+    ensures { result.now ≡ part_of may_continue line.now }
+{
+    if is_continued(may_continue, line) {
+        behind(line, 1)
+    } else {
+        line
+    }
+}
+
+/// Whether a line is one of sums, or one that continues the line before it.
+pub(crate) fn is_line(alg: Alg, may_continue: bool, line: &[u8]) -> bool
+    ensures { result ≡ is_line may_continue alg line.now }
+{
+    is_sum_line(alg, part_of(may_continue, line))
 }

@@ -1,18 +1,14 @@
-ghost use Rattle.std.specs.Prelude.{◌≡◌, ◌⊎◌, ◌∷◌, [], Ok, Err, true, not, IfOk, IfErr, IfSome, IsOk, MatchOption};
-ghost use Rattle.std.specs.Prelude.{is_some};
-ghost use Rattle.std.specs.List.{list_all};
-ghost use Rattle.digests.specs.Digests.{octets_of};
-ghost use Rattle.evidence_sums.specs.Lines.{lines_of, first_number};
-ghost use Rattle.evidence_sums.specs.Names.{is_name, unescaped};
-ghost use Rattle.evidence_sums.specs.SumLines.{is_sum_line, name_in};
+ghost use Rattle.std.specs.Prelude.{◌≡◌, ◌⊎◌, ◌∷◌, [], Ok, Err, not, IfOk, IfErr, IfSome, IsOk, MatchOption, is_some};
+ghost use Rattle.evidence_sums.specs.Names.{unescaped};
 ghost use Rattle.evidence_sums.specs.Sums.{sums_of, well_formed};
 ghost use Rattle.evidence_sums.specs.Written.{needs_escape};
 
 use crate::lines::first_line;
-use crate::names::{is_name, unescaped};
+use crate::names::unescaped;
 use crate::repeats::name_again;
-use crate::sum_lines::{digits_in, escaped_in, is_marked, is_sum_line};
+use crate::sum_lines::{digits_in, escaped_in, is_marked};
 use crate::sums_fault::{SumsFault, SumsRule};
+use crate::testing::test;
 use digests::{Alg, Digest};
 use list_answers::decode;
 use std::alloc::{AllocError, Global};
@@ -23,8 +19,8 @@ use std::marker::Model;
 /// Contracts see a `SumValue` (`specs/SumLines.antt`).
 #[derive(Debug, Drop)]
 pub struct Sum<'a> {
-    alg: Alg,
-    line: &'a [u8],
+    pub(crate) alg: Alg,
+    pub(crate) line: &'a [u8],
 }
 
 impl<'a> Model for Sum<'a> {
@@ -60,79 +56,6 @@ impl<'a> Model for Sums<'a> {
     ghost invariant = { λ s. list_all (is_sum_line s.alg) (lines_of s.left.now) ≡ true };
 }
 
-// The number of the first line that isn't one of sums.
-fn other_line(alg: Alg, text: &[u8]) -> Option<usize>
-    ensures { result ≡ first_number (λ l. not (is_sum_line alg l)) 1 (lines_of text.now) }
-{
-    let mut number = 1;
-    let mut left = text;
-    while !left.is_empty() {
-        let (line, others) = first_line(left);
-        if !is_sum_line(alg, line) {
-            return Some(number);
-        }
-        number += 1;
-        left = others;
-    }
-    None
-}
-
-// Whether a line of sums has the name of a file below a folder. No name is unescaped: this adds and takes away no
-// slash, no point and no octet 0.
-#[tactic(auto, using(crate::proofs::GoodLines::name_there))]
-fn has_name(alg: Alg, line: &[u8]) -> bool
-    requires { is_sum_line alg line.now ≡ true }
-    ensures { result ≡ is_name (name_in alg line.now) }
-{
-    is_name(escaped_in(alg, line))
-}
-
-// The number of the first line whose name isn't that of a file below a folder.
-fn other_name(alg: Alg, text: &[u8]) -> Option<usize>
-    requires { list_all (is_sum_line alg) (lines_of text.now) ≡ true }
-    ensures { result ≡ first_number (λ l. not (is_name (name_in alg l))) 1 (lines_of text.now) }
-{
-    let mut number = 1;
-    let mut left = text;
-    while !left.is_empty() {
-        let (line, others) = first_line(left);
-        if !has_name(alg, line) {
-            return Some(number);
-        }
-        number += 1;
-        left = others;
-    }
-    None
-}
-
-// Tests the forms of the lines, and then the names. It takes no memory.
-#[tactic(auto, using(crate::proofs::Places::all_pass))]
-fn test(alg: Alg, text: &[u8]) -> Result<(), SumsFault>
-    ensures tested { IfOk result (λ _. IsOk (well_formed alg text.now)) }
-    ensures sums { IfOk result (λ _. list_all (is_sum_line alg) (lines_of text.now) ≡ true) }
-    ensures refused { IfErr result (λ f. well_formed alg text.now ≡ Err f) }
-{
-    if let Some(line) = other_line(alg, text) {
-        return Err(SumsFault {
-            rule: SumsRule::Line,
-            line,
-        });
-    }
-    if text.is_empty() {
-        return Err(SumsFault {
-            rule: SumsRule::Empty,
-            line: 0,
-        });
-    }
-    match other_name(alg, text) {
-        Some(line) => Err(SumsFault {
-            rule: SumsRule::Name,
-            line,
-        }),
-        None => Ok(()),
-    }
-}
-
 impl<'a> Sums<'a> {
     /// What a text of sums by this algorithm states: lines as `sha256sum` and its kin write them, each with a digest in
     /// hexadecimal digits of either case, two spaces, or a space and `*`, and a name. If the name has a backslash, LF
@@ -150,8 +73,8 @@ impl<'a> Sums<'a> {
         // A lack of memory is reported only if nothing but a name that is there twice can be wrong.
         ensures memory { IfErr result (λ f. f.rule ≡ SumsRule.OutOfMemory → IsOk (well_formed alg text.now)) }
     {
-        test(alg, text)?;
-        match name_again(alloc, alg, text)? {
+        test(alg, false, text)?;
+        match name_again(alloc, alg, false, text)? {
             Some(line) => Err(SumsFault {
                 rule: SumsRule::NameTwice,
                 line,

@@ -2,6 +2,7 @@ mod Pieces
 mod Orders
 mod Rising
 mod Once
+pub mod Groups
 mod Levels
 mod Climbs
 pub mod Ways

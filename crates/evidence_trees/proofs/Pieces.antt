@@ -2,7 +2,9 @@
 use Rattle.std.proofs.Common.{◌≡◌, ℕ, ◌+◌, ◌*◌, ◌<◌, ◌≤◌, ◌-◌, zero, suc, List, [], ◌∷◌, ◌++◌, length, take, drop}
 use Rattle.std.proofs.Common.{get_or}
 use Rattle.std.proofs.Common.{refl, sym, ap, ◌∙◌, arith, length-drop, All}
-use Rattle.std.proofs.lemmas.List.{take-append-le, drop-append-le, drop-drop, length-take-le, take_all}
+use Rattle.std.proofs.lemmas.List.{take-append-le, drop-append-le, take-append-drop, drop-drop, length-take-le}
+use Rattle.std.proofs.lemmas.List.{take_all}
+use Rattle.std.specs.List.{concat}
 use Rattle.std.proofs.Math.Nat.{mul-le-mul_right}
 use Rattle.evidence_trees.specs.Pieces.{pieces}
 
@@ -53,3 +55,13 @@ pieces-sized count size octets whole = λ k d lt.
     let left : length (drop (k * size) octets) ≡ length octets - k * size = length-drop (k * size) octets in
     let long : size ≤ length (drop (k * size) octets) = omega arith in
     ap length (pieces-at count size octets k d below) ∙ length-take-le size (drop (k * size) octets) long
+
+-- one after another they are the octets
+pub concat_pieces : (count size : ℕ) (octets : List ℕ) → length octets ≡ count * size
+    → concat (pieces count size octets) ≡ octets
+concat_pieces zero size [] whole = refl
+concat_pieces zero size (x ∷ octets) whole = absurd (omega (arith, whole))
+concat_pieces (suc count) size octets whole =
+    let rest : length (drop size octets) ≡ count * size = omega (arith, whole, length-drop size octets) in
+    ap (λ (o : List ℕ). take size octets ++ o) (concat_pieces count size (drop size octets) rest)
+    ∙ take-append-drop size octets

@@ -3,6 +3,7 @@
 #![tactic(auto)]
 
 mod finding;
+mod group;
 mod laws;
 mod leaf_lists;
 mod leaves;
@@ -10,6 +11,7 @@ mod nodes;
 mod tree;
 mod values;
 
+pub use group::{Group, GroupValues};
 pub use laws::{leaves_have_one_way, tree_rows_hold, trees_are_unique};
 pub use leaf_lists::LeafLists;
 pub use tree::Tree;

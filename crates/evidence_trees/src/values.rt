@@ -1,3 +1,4 @@
+ghost use Rattle.std.specs.List.{concat};
 ghost use Rattle.std.specs.Prelude.{◌≡◌, ◌<◌, ◌∷◌, ◌++◌, [], length, slice_index_or, IfOk, OnOk};
 
 use std::alloc::{AllocError, Global};
@@ -47,6 +48,14 @@ impl HashValues {
         ensures { result ≡ length self.now.values }
     {
         self.count
+    }
+
+    /// All values, one after another.
+    #[tactic(auto, using(crate::proofs::Pieces::concat_pieces))]
+    pub fn bytes(&self) -> &[u8]
+        ensures { result.now ≡ concat self.now.values }
+    {
+        self.octets.as_slice()
     }
 
     /// The value at this place.

@@ -86,6 +86,8 @@ making_numbers make.OutOfMemory = nothing
 abbrev pub leaf_numbers : LeafFault → Answer
 leaf_numbers (leaf.Malformed fault) = with_fault (ruled 3 86 1) fault
 leaf_numbers leaf.NoStamp = ruled 2 85 3
+leaf_numbers leaf.Unnamed = ruled 2 85 11
+leaf_numbers leaf.OutOfMemory = nothing
 
 abbrev pub failure_numbers : Failure → Answer
 failure_numbers (failure.Malformed fault) = fault_numbers fault

@@ -144,6 +144,8 @@ fn leaf_answer(fault: LeafFault) -> Answer
     match fault {
         LeafFault::Malformed(fault) => Answer::ruled(IS_MALFORMED, b'V', 1).with_fault(fault),
         LeafFault::NoStamp => Answer::ruled(REFUSES, b'U', 3),
+        LeafFault::Unnamed => Answer::ruled(REFUSES, b'U', 11),
+        LeafFault::OutOfMemory => Answer::nothing(),
     }
 }
 

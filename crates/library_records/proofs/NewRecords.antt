@@ -11,6 +11,7 @@ use Rattle.evidence_making.specs.declared.fault.LeafFault.TheVariants as leaf_fa
 use Rattle.evidence_making.specs.declared.fault.MakeFault.TheVariants as make
 use Rattle.evidence_making.specs.declared.fault.RenewFault.{RenewFault}
 use Rattle.evidence_making.specs.declared.fault.RenewFault.TheVariants as renew_fault
+use Rattle.evidence_making.specs.Leaves.{HasNoStamp, IsOfLast}
 use Rattle.evidence_making.specs.Renewing.{IsAnswer}
 use Rattle.library_records.specs.TreeRenewals.{IsTooLongNew, LeadUp, Way}
 use Rattle.library_records.proofs.TreeRenewals.{is_too_long}
@@ -18,16 +19,18 @@ use Rattle.cli_failures.specs.declared.failure.Failure.{Failure}
 use Rattle.cli_failures.specs.declared.failure.Failure.TheVariants as failure
 use Rattle.cli_failures.specs.Causes.{IsMalformed}
 use Rattle.cli_failures.specs.Failures.{failure_of_leaf}
-use Rattle.library_records.specs.Renewals.{IsUnrenewable, failure_of_renewal}
+use Rattle.library_records.specs.Renewals.{HasNoLast, failure_of_renewal}
 
--- why what a renewal stands on isn't found
-pub unrenewable : {T : Type 0} (HasNone : List ℕ → Type 0) (octets : List ℕ) (r : Result T LeafFault)
-    (fault : LeafFault) → r ≡ Err fault → (r ≡ Err leaf_fault.NoStamp) ↔ HasNone octets
+-- why what a renewal by a time-stamp stands on isn't found
+pub unrenewable : {T : Type 0} (octets : List ℕ) (r : Result T LeafFault) (fault : LeafFault) → r ≡ Err fault
+    → (r ≡ Err leaf_fault.NoStamp) ↔ HasNoStamp octets
     → ((its : Fault) → r ≡ Err (leaf_fault.Malformed its) → Faults (file evidence_record) octets its)
-    → IsUnrenewable HasNone octets (failure_of_leaf fault)
-unrenewable HasNone octets r (leaf_fault.Malformed its) is none malformed =
+    → IsOfLast fault → HasNoLast octets (failure_of_leaf fault)
+unrenewable octets r (leaf_fault.Malformed its) is none malformed other =
     inl (record { fault = its; malformed = refl; found = malformed its is })
-unrenewable HasNone octets r leaf_fault.NoStamp is none malformed = inr (refl, none.0 is)
+unrenewable octets r leaf_fault.NoStamp is none malformed other = inr (refl, none.0 is)
+unrenewable octets r leaf_fault.Unnamed is none malformed other = absurd other
+unrenewable octets r leaf_fault.OutOfMemory is none malformed other = absurd other
 
 -- the failures of a record that stands on something and isn't renewed
 abbrev pub IsNoNewRecord : Way → HashTree → (leaf token octets : List ℕ) → Failure → Type 0

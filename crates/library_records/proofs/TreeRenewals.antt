@@ -1,5 +1,5 @@
 -- What becomes of a record that is renewed by a token over the root of a tree, in either way.
-use Rattle.std.proofs.Common.{◌≡◌, ◌<◌, ◌≤◌, ◌^◌, ℕ, List, length, sym, subst}
+use Rattle.std.proofs.Common.{◌≡◌, ◌<◌, ◌≤◌, ◌^◌, ℕ, List, length, Option, sym, subst}
 use Rattle.digests.specs.Digests.{octets_of}
 use Rattle.digests.specs.declared.algorithm.Alg.{Alg}
 use Rattle.evidence_types.specs.EvidenceValue.{EvidenceValue, EncodesEvidence, evidence_parts}
@@ -9,7 +9,7 @@ use Rattle.check_evidence.specs.Showing.{Shows}
 use Rattle.judge_evidence.specs.ShowingLaws.{held_at}
 use Rattle.evidence_trees.specs.HashTrees.{HashTree}
 use Rattle.evidence_making.specs.Laws.{TokenStands}
-use Rattle.evidence_making.specs.Made.{stamp_of}
+use Rattle.evidence_making.specs.Made.{stamp_with}
 use Rattle.evidence_making.specs.RenewalLaws.{LastStands, ShowsStill}
 use Rattle.library_records.specs.TreeRenewals.{IsNewRecord, IsTooLongNew, LeadUp, StampsTree, Way}
 use Rattle.evidence_making.proofs.Made.{time_of}
@@ -49,17 +49,18 @@ module _ (renew : Way) (tree : HashTree) (leaf token octets : List ℕ) (alg : A
         stay = stay;
       }
 
-      -- What the old record shows the new one shows, where the new time-stamp stands if the token does at a later
-      -- moment.
-      pub shown_after : ShowsStill octets (stamp_of alg values token) (renew v alg values token).chains new
+      -- What the old record shows the new one shows, where the new time-stamp, with these lists, stands if the token
+      -- does at a later moment.
+      pub shown_after : (lists : Option (List (List (List ℕ))))
+          → ShowsStill octets (stamp_with alg lists token) (renew v alg values token).chains new
           → (last m : ℕ) → StampsTree tree token m → last < m → (g : Grounds) (data_objects : List (List ℕ))
           → ((n : ℕ) → last < n → TokenStands g tree.algorithm tree.root token n
           → LastStands g data_objects (renew v tree.algorithm values token).chains)
           → (k n : ℕ) → TokenStands g tree.algorithm tree.root token n → Shows (held_at n g) octets data_objects k
           → Shows g new data_objects k
-      shown_after still last m stamped later g data_objects stand k n stands =
-          (subst (λ (a : Alg). ShowsStill octets (stamp_of a values token) (renew v a values token).chains new)
+      shown_after lists still last m stamped later g data_objects stand k n stands =
+          (subst (λ (a : Alg). ShowsStill octets (stamp_with a lists token) (renew v a values token).chains new)
           of_tree still) g data_objects k n
-          (time_of (terms_of g) (stamp_of tree.algorithm values token) (of_root tree.algorithm tree.root) n
+          (time_of (terms_of g) (stamp_with tree.algorithm lists token) (of_root tree.algorithm tree.root) n
           stands.passes)
           (stand n (subst (λ (x : ℕ). last < x) (its_moment tree token m n g stamped stands) later) stands)

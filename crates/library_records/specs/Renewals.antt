@@ -57,9 +57,9 @@ IsUnrenewable HasNone octets f = IsMalformed (file evidence_record) octets f
 abbrev pub HasNoLast : (octets : List ℕ) → Failure → Type 0
 HasNoLast octets f = IsUnrenewable HasNoStamp octets f
 
--- or memory was refused
-abbrev pub StandsOnNothing : (octets : List ℕ) → Failure → Type 0
-StandsOnNothing octets f = (f ≡ failure.Memory) ⊎ HasNoLast octets f
+-- or memory was refused, which is asked for only where a token is handed in
+abbrev pub StandsOnNothing : (octets token : List ℕ) → Failure → Type 0
+StandsOnNothing octets token f = ((f ≡ failure.Memory) × (token ≢ [])) ⊎ HasNoLast octets f
 
 -- this is the leaf that the new time-stamp of the record must cover, by the algorithm of this name
 pub record IsLeafOf (name octets token leaf : List ℕ) : Type 0 where
@@ -79,7 +79,7 @@ pub record IsMixed (alg : Alg) (octets token : List ℕ) (f : Failure) : Type 0 
 -- another algorithm.
 abbrev pub HasNoLeaf : (name octets token : List ℕ) → Failure → Type 0
 HasNoLeaf name octets token f = RefusesAlg name f
-    ⊎ ((alg : Alg) × (name ≡ name_of alg) × (StandsOnNothing octets f ⊎ IsMixed alg octets token f))
+    ⊎ ((alg : Alg) × (name ≡ name_of alg) × (StandsOnNothing octets token f ⊎ IsMixed alg octets token f))
 
 -- this is the name of the algorithm that the tree must have
 abbrev pub IsAlgorithmOf : (octets name : List ℕ) → Type 0
@@ -162,7 +162,7 @@ pub record IsTooLong (tree : HashTree) (token octets : List ℕ) (f : Failure) :
 -- Memory was refused; or the first of these: the record has no last time-stamp; that is no leaf of the tree, or the
 -- token doesn't stamp the root after it; and the new record would be too long.
 abbrev pub RenewsNot : HashTree → (token octets : List ℕ) → Failure → Type 0
-RenewsNot tree token octets f = StandsOnNothing octets f
+RenewsNot tree token octets f = (f ≡ failure.Memory) ⊎ (HasNoLast octets f
     ⊎ (((last : LastStamp) × StandsOn (token_in token) octets last
     × IsNotStamped tree last.leaf last.moment token f)
-    ⊎ IsTooLong tree token octets f)
+    ⊎ IsTooLong tree token octets f))

@@ -1,6 +1,6 @@
 //! An evidence record that is renewed by a time-stamp (Time-Stamp Renewal, RFC 4998 5.2), and the leaf of a tree on
 //! which that stands.
-ghost use Rattle.std.specs.Prelude.{◌≡◌, IfErr, IfOk, MatchOption, option_map};
+ghost use Rattle.std.specs.Prelude.{◌≡◌, ◌≢◌, [], IfErr, IfOk, MatchOption, option_map};
 ghost use Rattle.digests.specs.Digests.{octets_of};
 ghost use Rattle.evidence_types.specs.StampValue.{IsSequence};
 ghost use Rattle.evidence_making.specs.Done.{IsDoneBy};
@@ -35,8 +35,10 @@ struct Standing {
 
 /// What the renewal of a record by this token stood on, if there is a token and the record is renewed by it already.
 fn done_by(alloc: Global, octets: &[u8], token: &[u8]) -> Result<Option<LastStamp>, AllocError>
-    ensures { IfOk result (λ o. MatchOption o (IsNotDone token.now octets.now)
+    ensures done { IfOk result (λ o. MatchOption o (IsNotDone token.now octets.now)
         (IsDoneBy (token_in token.now) octets.now)) }
+    // Memory is asked for only where a token is handed in.
+    ensures memory { IfErr result (λ _. token.now ≢ []) }
 {
     if token.is_empty() {
         return Ok(None);
@@ -58,7 +60,7 @@ fn last_of(octets: &[u8]) -> Result<LastStamp, Failure<'static>>
 /// What the renewal of a record stands on, with this token if there is one already.
 fn standing_of(alloc: Global, octets: &[u8], token: &[u8]) -> Result<Standing, Failure<'static>>
     ensures found { IfOk result (λ s. IsFound token.now octets.now s.done s.last) }
-    ensures refused { IfErr result (StandsOnNothing octets.now) }
+    ensures refused { IfErr result (StandsOnNothing octets.now token.now) }
 {
     match done_by(alloc, octets, token) {
         Ok(Some(last)) => Ok(Standing { last, done: true }),

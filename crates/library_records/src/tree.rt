@@ -18,7 +18,11 @@ use library_calls::alg_of;
 use std::alloc::{AllocError, Global};
 
 /// The digests by this algorithm that the octets are, one after the other; `None` if they are none.
-fn digests_in(alloc: Global, alg: Alg, octets: &[u8]) -> Result<Option<Vec<Digest>>, AllocError>
+pub(crate) fn digests_in(
+    alloc: Global,
+    alg: Alg,
+    octets: &[u8],
+) -> Result<Option<Vec<Digest>>, AllocError>
     ensures { IfOk result (λ found. MatchOption found
         ((digests : List (List ℕ)) → AreDigests alg octets.now digests → ⊥)
         (λ v. AreDigests alg octets.now (map octets_of v.items) × All (λ d. alg_of d ≡ alg) v.items)) }

@@ -13,6 +13,8 @@ mod double;
 #[cfg(test)]
 mod ends;
 #[cfg(test)]
+mod groups;
+#[cfg(test)]
 mod making;
 #[cfg(test)]
 mod memory;

@@ -14,10 +14,10 @@ use crate::tokens::{FIRST_TOKEN, GEN_TIME, ROOT, octets_of, put, record_of};
 use der_time::{Moment, generalized_text};
 use digests::{Alg, Digest, digest};
 use evidence_making::{
-    LeafFault, StampFault, is_sequence, last_stamp, make_record, rehash_leaf, rehash_record,
-    renew_record, stamp_of_root,
+    LeafFault, NewLeaf, StampFault, is_sequence, last_stamp, make_record, rehash_leaf,
+    rehash_record, renew_record, stamp_of_root,
 };
-use evidence_trees::{LeafLists, Tree};
+use evidence_trees::{Group, LeafLists, Tree};
 use std::alloc::{AllocError, Global};
 
 /// The digests and one more.
@@ -52,7 +52,7 @@ fn record_with(alloc: Global, pieces: &[(&str, &[u8])]) -> Option<Vec<u8>> {
 }
 
 /// Whether both were made, and are the same.
-fn are_same(made: &Option<Vec<u8>>, expected: &Option<Vec<u8>>) -> bool {
+pub(crate) fn are_same(made: &Option<Vec<u8>>, expected: &Option<Vec<u8>>) -> bool {
     match (made, expected) {
         (Some(made), Some(expected)) => made.as_slice() == expected.as_slice(),
         _ => false,
@@ -61,13 +61,13 @@ fn are_same(made: &Option<Vec<u8>>, expected: &Option<Vec<u8>>) -> bool {
 
 /// Which record is made.
 #[derive(Clone, Copy)]
-enum Way<'o> {
+pub(crate) enum Way<'o> {
     /// The first one of a leaf.
     Made,
     /// This one, renewed by a time-stamp.
     Renewed(&'o [u8]),
-    /// This one, renewed by a hash tree.
-    Rehashed(&'o [u8]),
+    /// This one, renewed by a hash tree of which the node of the group is a leaf.
+    Rehashed(&'o [u8], &'o Group),
 }
 
 /// The record with these lists of a leaf.
@@ -83,7 +83,7 @@ fn record_of_leaf(
     match way {
         Way::Made => make_record(alloc, alg, lists, token).ok(),
         Way::Renewed(old) => renew_record(alloc, old, alg, lists, token).ok(),
-        Way::Rehashed(old) => rehash_record(alloc, old, alg, lists, token).ok(),
+        Way::Rehashed(old, group) => rehash_record(alloc, old, alg, group, lists, token).ok(),
     }
 }
 
@@ -132,7 +132,7 @@ fn first_record(
 }
 
 /// The record of a leaf, in a tree over that and over the documents from this number to the one before that.
-fn record_beside(
+pub(crate) fn record_beside(
     alloc: Global,
     way: Way,
     alg: Alg,
@@ -181,7 +181,7 @@ fn records_are_those_of_another_program(rt: HostRuntime) {
 }
 
 /// The digest with these octets in hexadecimal digits.
-fn digest_of(alloc: Global, alg: Alg, digits: &str) -> Option<Digest>
+pub(crate) fn digest_of(alloc: Global, alg: Alg, digits: &str) -> Option<Digest>
     ensures { IfSome result (λ d. alg_of d ≡ alg) }
 {
     match hex::decode(alloc, digits) {
@@ -195,8 +195,9 @@ fn with_new_chain(alloc: Global, old_token: &[u8], new_token: &[u8]) -> Option<V
     requires { IsSequence new_token.now }
 {
     let leaf = digest_of(alloc, Alg::Sha512, REHASHED_LEAF)?;
+    let group = Group::of(alloc, Alg::Sha512, &[leaf]).ok()?;
     let old = record_with(alloc, &[(SINGLE, old_token)])?;
-    let way = Way::Rehashed(&old);
+    let way = Way::Rehashed(&old, &group);
     record_beside(alloc, way, Alg::Sha512, (1, 3), leaf, new_token)
 }
 
@@ -304,37 +305,38 @@ fn last_of(record: &[u8]) -> Result<(Alg, Digest, Moment), LeafFault> {
     }
 }
 
-/// What a renewal of a record by a hash tree stands on, for this document.
-fn leaf_of(record: &[u8], document: &Digest) -> Result<(Digest, Moment), LeafFault> {
-    rehash_leaf(record, document)
+/// What a renewal of a record by a hash tree stands on, for the second document.
+fn leaf_of(alloc: Global, record: &[u8]) -> Result<NewLeaf, LeafFault> {
+    let document = digest(Alg::Sha512, b"document 1\n");
+    rehash_leaf(alloc, record, Alg::Sha512, &[document], false)
 }
 
 /// Whether the leaves of the record are these.
-fn are_leaves(record: &[u8], document: &Digest, stamp_leaf: &Digest, leaf: &Digest) -> bool {
-    match (last_of(record), leaf_of(record, document)) {
+fn are_leaves(alloc: Global, record: &[u8], stamp_leaf: &Digest, leaf: &Digest) -> bool {
+    match (last_of(record), leaf_of(alloc, record)) {
         (Ok(last), Ok(found)) => {
             last.0 == Alg::Sha256
                 && last.1 == *stamp_leaf
                 && is_moment(last.2)
-                && found.0 == *leaf
-                && found.1 == last.2
+                && found.group.node() == *leaf
+                && found.after == last.2
         }
         _ => false,
     }
 }
 
 /// Whether the record has no stamp to stand on.
-fn has_no_stamp(record: &[u8], document: &Digest) -> bool {
+fn has_no_stamp(alloc: Global, record: &[u8]) -> bool {
     matches!(last_of(record), Err(LeafFault::NoStamp))
-        && matches!(leaf_of(record, document), Err(LeafFault::NoStamp))
+        && matches!(leaf_of(alloc, record), Err(LeafFault::NoStamp))
 }
 
 /// Whether the leaves of the record are those of the other program.
-fn has_leaves(alloc: Global, record: &[u8], document: &Digest) -> bool {
+fn has_leaves(alloc: Global, record: &[u8]) -> bool {
     let stamp_leaf = digest_of(alloc, Alg::Sha256, STAMP_LEAF);
     let leaf = digest_of(alloc, Alg::Sha512, REHASH_LEAF);
     match (stamp_leaf, leaf) {
-        (Some(stamp_leaf), Some(leaf)) => are_leaves(record, document, &stamp_leaf, &leaf),
+        (Some(stamp_leaf), Some(leaf)) => are_leaves(alloc, record, &stamp_leaf, &leaf),
         _ => false,
     }
 }
@@ -349,15 +351,14 @@ fn unstamped(alloc: Global) -> Option<Vec<u8>> {
 
 #[test]
 fn leaves_are_those_of_another_program(rt: HostRuntime) {
-    let document = digest(Alg::Sha512, b"document 1\n");
     let records = (
         record_of(rt.alloc(), &[(FIRST, &FIRST_TOKEN)]),
         unstamped(rt.alloc()),
     );
     let are_those = match &records {
         (Some(record), Some(unstamped)) => {
-            has_leaves(rt.alloc(), record, &document)
-                && has_no_stamp(unstamped, &document)
+            has_leaves(rt.alloc(), record)
+                && has_no_stamp(rt.alloc(), unstamped)
                 && matches!(
                     last_of(record.get(1..).unwrap_or(record)),
                     Err(LeafFault::Malformed(_))

@@ -5,10 +5,16 @@ use crate::memory::{Memory, PATHS};
 use crate::renewals::{BY_STAMP, BY_TREE, FIRST, Renewal, SECOND};
 use crate::tokens::{FIRST_TOKEN, SECOND_TOKEN, Token, octets_of, record_of};
 use cli_failures::Failure;
-use cli_rehashing::{rehash_all, rehash_request};
+use cli_rehashing::{RecordFolder, rehash_all, rehash_request};
 use cli_renewing::{renew_all, renewal_request};
 use digests::Alg;
 use std::alloc::Global;
+
+/// Where the records are, each of its one file.
+const FOLDER: RecordFolder = RecordFolder {
+    path: "folder",
+    alone: false,
+};
 
 /// Both records as they were, of which so many can be put.
 fn records(alloc: Global, left: u32) -> Option<Memory> {
@@ -48,7 +54,7 @@ fn renewed(alloc: Global, by: &Renewal) -> Option<Memory> {
 fn renew<'a>(keeps: &mut Memory, sums: Option<&str>, token: &[u8]) -> Result<(), Failure<'a>> {
     let alloc = keeps.alloc;
     match sums {
-        Some(sums) => rehash_all(alloc, keeps, "folder", Alg::Sha512, sums.as_bytes(), token),
+        Some(sums) => rehash_all(alloc, keeps, &FOLDER, Alg::Sha512, sums.as_bytes(), token),
         None => renew_all(alloc, keeps, &PATHS, token),
     }
 }
@@ -70,7 +76,7 @@ fn ended_by(keeps: &mut Memory, sums: Option<&str>, token: &Token) -> End {
 /// The request for a renewal.
 fn request(keeps: &Memory, sums: Option<&str>) -> Option<Vec<u8>> {
     let request = match sums {
-        Some(sums) => rehash_request(keeps.alloc, keeps, "folder", Alg::Sha512, sums.as_bytes()),
+        Some(sums) => rehash_request(keeps.alloc, keeps, &FOLDER, Alg::Sha512, sums.as_bytes()),
         None => renewal_request(keeps.alloc, keeps, &PATHS),
     };
     request.ok()

@@ -98,6 +98,20 @@ pub(crate) const CHAIN_TOKEN: Token = Token {
     signer: SIGNER,
 };
 
+/// The node of a record of a group of two documents, for a new chain with SHA-512.
+pub(crate) const NODE: &str =
+    "89936ee565d9c1e2ff21d705f6ffa5e4bb09d178d3aa419ef27cff82549943b648426fe1e1b3d5453662b2bbd33d\
+     a7eb15a1474a1f55675a8de59e8c02ccbbe4";
+
+/// One over that node, the root of a tree without other leaves.
+pub(crate) const GROUP_TOKEN: Token = Token {
+    lengths: "3082036006092a864886f70d010702a08203513082034d",
+    content: BY_SHA512,
+    imprint: NODE,
+    moment: "02030aae64180f3230313730353031313230303030",
+    signer: SIGNER,
+};
+
 /// Puts the octets of hexadecimal digits behind others; whether there was memory.
 pub(crate) fn put(alloc: Global, octets: &mut Vec<u8>, digits: &str) -> bool {
     match hex::decode(alloc, digits) {

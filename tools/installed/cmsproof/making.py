@@ -12,6 +12,8 @@ from cmsproof.verdicts import Unexpected, code_of
 # how many octets a digest by each algorithm has
 LENGTHS = {"sha1": 20, "sha224": 28, "sha256": 32, "sha384": 48, "sha512": 64, "sha512-224": 28, "sha512-256": 32}
 NONE = of_bytes(b"")
+# the digest of the data of a record, or the digests of several data objects
+OfData = Union[bytes, list[bytes], tuple[bytes, ...]]
 
 
 class Unmade(ValueError):
@@ -168,48 +170,62 @@ def renew(records: Union[Given, Sequence[Given]], token: Given) -> list[bytes]:
         ]
 
 
+def groups_in(algorithm: str, groups: Sequence[OfData]) -> list[bytes]:
+    """The digests of the data of each record, one behind another. Raises ValueError as `digests_in`."""
+    return [b"".join(digests_in(algorithm, group if isinstance(group, (list, tuple)) else [group])) for group in groups]
+
+
 def rehashed_by(
-    maker: Maker, records: Sequence[Octets], digests: Sequence[bytes], algorithm: str, token: Octets
+    maker: Maker, records: Sequence[Octets], digests: Sequence[bytes], algorithm: str, alone: bool, token: Octets
 ) -> list[bytes]:
-    """The leaf of each record that gets a new chain for the data of a digest."""
+    """The leaf of each record that gets a new chain for the data of these digests."""
     if len(records) != len(digests):
-        raise ValueError(f"{len(records)} records are for {len(digests)} digests")
+        raise ValueError(f"{len(records)} records are for the digests of {len(digests)}")
     name, leaves = algorithm.encode(), []
-    for place, (record, digest) in enumerate(zip(records, digests)):
-        words = (*record, *of_bytes(name), *of_bytes(digest), *token)
+    for place, (record, of_data) in enumerate(zip(records, digests)):
+        words = (*record, *of_bytes(name), *of_bytes(of_data), alone, *token)
         leaves.append(maker.made("cmsproof_evidence_rehash_leaf", *words, place=place))
     return leaves
 
 
 def rehash_root(
     records: Union[Given, Sequence[Given]],
-    digests: Sequence[bytes],
+    digests: Sequence[OfData],
     *,
     algorithm: str = "sha256",
+    alone: bool = False,
     token: Optional[Given] = None,
 ) -> bytes:
     """What a new time-stamp must be of, so that `rehash` can give these evidence records new chains by it.
 
-    Records and `token` are handed in as to `renewal_root`; of each record there is the digest of its data by the new algorithm.
+    Records and `token` are handed in as to `renewal_root`; of each record there is the digest of its data by the new algorithm, or a list
+    or a tuple of digests, where it is over several data objects. Raises `Unmade` also where a record's first list has another number of
+    values (U11), unless all records are `alone`: what else stands in their lists is of other records in the tree.
     """
     maker = Maker()
-    leaves = rehashed_by(maker, records_in(records), digests_in(algorithm, digests), algorithm, token_in(token))
+    leaves = rehashed_by(maker, records_in(records), groups_in(algorithm, digests), algorithm, alone, token_in(token))
     with tree_of(algorithm, leaves) as tree:
         return maker.root(tree)
 
 
 def rehash(
-    records: Union[Given, Sequence[Given]], digests: Sequence[bytes], token: Given, *, algorithm: str = "sha256"
+    records: Union[Given, Sequence[Given]],
+    digests: Sequence[OfData],
+    token: Given,
+    *,
+    algorithm: str = "sha256",
+    alone: bool = False,
 ) -> list[bytes]:
     """These evidence records with new chains by a token over their root (Hash-Tree Renewal, RFC 4998 5.2), in their order: what `cmsproof
-    evidence rehash` writes. One that has its new chain already stays as it is. No signature is verified.
+    evidence rehash` writes. One that has its new chain already stays as it is. A new chain covers the data of the digests, and no other. No
+    signature is verified.
 
     What is handed in is as for `rehash_root`. Raises `Unmade`: then none is renewed.
     """
-    maker, octets, found, stamp = Maker(), records_in(records), digests_in(algorithm, digests), copy_of(token)
-    leaves = rehashed_by(maker, octets, found, algorithm, stamp)
+    maker, octets, found, stamp = Maker(), records_in(records), groups_in(algorithm, digests), copy_of(token)
+    leaves = rehashed_by(maker, octets, found, algorithm, alone, stamp)
     with tree_of(algorithm, leaves) as tree:
         return [
-            maker.made("cmsproof_evidence_rehash", tree, *record, *of_bytes(digest), *stamp, place=place)
-            for place, (record, digest) in enumerate(zip(octets, found))
+            maker.made("cmsproof_evidence_rehash", tree, *record, *of_bytes(of_data), alone, *stamp, place=place)
+            for place, (record, of_data) in enumerate(zip(octets, found))
         ]

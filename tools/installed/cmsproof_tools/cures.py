@@ -641,6 +641,14 @@ ROWS = (
         "ask for a new stamp; if that time is still to come, leave this RECORD out until then",
     ),
     Row("13", "U10 TooLong", "a length would pass 4,294,967,295", "none: this form has no such record"),
+    Row(
+        "13",
+        "U11 Unnamed",
+        "its first list has more or fewer hash values than there are lines for it: mostly it is of a group (RFC 4998 4.2), and a new chain "
+        "over one file of it would show no other",
+        "give each further file of the record a line behind a space, below the first (`cmsproof evidence rehash --help`); if other values "
+        "are of neighbours in its tree, as in the example of RFC 4998 4.2, say `--alone`",
+    ),
 )
 
 

@@ -10,6 +10,7 @@
 static cmsproof_tree tree = CMSPROOF_EMPTY;
 static const char *name;
 static struct octets digest, old, token;
+static bool alone;
 static uint8_t text[ROOM], other[ROOM];
 
 /* The calls, by what they write. */
@@ -36,12 +37,13 @@ static cmsproof_status renewed(uint8_t *at, size_t room, size_t *length, cmsproo
 }
 
 static cmsproof_status new_leaf(uint8_t *at, size_t room, size_t *length, cmsproof_answer *said) {
-    return cmsproof_evidence_rehash_leaf(old.at, old.length, name, strlen(name), digest.at, digest.length, token.at, token.length, at, room,
-                                         length, said);
+    return cmsproof_evidence_rehash_leaf(old.at, old.length, name, strlen(name), digest.at, digest.length, alone, token.at, token.length, at,
+                                         room, length, said);
 }
 
 static cmsproof_status rehashed(uint8_t *at, size_t room, size_t *length, cmsproof_answer *said) {
-    return cmsproof_evidence_rehash(&tree, old.at, old.length, digest.at, digest.length, token.at, token.length, at, room, length, said);
+    return cmsproof_evidence_rehash(&tree, old.at, old.length, digest.at, digest.length, alone, token.at, token.length, at, room, length,
+                                    said);
 }
 
 static int alike(const cmsproof_answer *one, const cmsproof_answer *another) { return memcmp(one, another, sizeof *one) == 0; }
@@ -239,6 +241,24 @@ static void renew(const char *folder) {
     done(folder, "renew", length);
 }
 
+/* For a further data object the record's one value is too few, unless it is of these alone; a digest that is cut is none. */
+static void rehash_two(const uint8_t *its) {
+    struct octets one = digest;
+    uint8_t two[128];
+    memcpy(two, one.at, 64), memset(two + 64, 'd', 64);
+    digest.at = two, digest.length = sizeof two;
+    told(new_leaf, CMSPROOF_REFUSED, 11);
+    told(rehashed, CMSPROOF_REFUSED, 11);
+    alone = true;
+    HOLDS(told(new_leaf, CMSPROOF_DONE, 0) == 64 && memcmp(text, its, 64) != 0);
+    HOLDS(told(rehashed, CMSPROOF_USAGE, 0) == 13 && memcmp(text, "usage record\n", 13) == 0);
+    alone = false;
+    digest.length--;
+    HOLDS(told(new_leaf, CMSPROOF_USAGE, 0) == 13 && memcmp(text, "usage digest\n", 13) == 0);
+    told(rehashed, CMSPROOF_USAGE, 0);
+    digest = one;
+}
+
 static void rehash(const char *folder) {
     uint8_t its[64];
     know(folder, "rehash", "sha512");
@@ -250,6 +270,7 @@ static void rehash(const char *folder) {
     HOLDS(told(new_leaf, CMSPROOF_USAGE, 0) == 13 && memcmp(text, "usage digest\n", 13) == 0);
     told(rehashed, CMSPROOF_USAGE, 0);
     digest.length++;
+    rehash_two(its);
     old.length--;
     told(new_leaf, CMSPROOF_MALFORMED, 0);
     told(rehashed, CMSPROOF_MALFORMED, 0);

@@ -1,17 +1,20 @@
-use Rattle.std.proofs.Common.{◌≡◌, ◌⊎◌, ◌∙◌, List, ℕ, Some, None, inl, inr, ap, subst, rules}
+use Rattle.std.proofs.Common.{◌≡◌, ◌⊎◌, ◌∙◌, Bool, List, ℕ, Some, None, inl, inr, ap, rules}
 use Rattle.std.proofs.lemmas.Result.{err_from_is_err_and}
+use Rattle.digests.specs.declared.algorithm.Alg.{Alg}
 use Rattle.digests.specs.declared.value.Digest.{Digest}
 use Rattle.evidence_trees.specs.HashTrees.{HashTree}
-use Rattle.evidence_sums.specs.SumLines.{SumValue}
+use Rattle.evidence_sums.specs.Records.{RecordValue}
 use Rattle.cli_failures.specs.Files.{path_below}
 use Rattle.cli_making.proofs.Adding.{adds_none}
 use Rattle.cli_renewing.proofs.Puts.{changed_at, put_if, stays}
+use Rattle.cli_rehashing.proofs.Lines.{at_record}
 use Rattle.cli_rehashing.specs.Rehashing.{BecomesAnew, IsOutsideAnew, IsTooLongAnew, rehashing}
 use Rattle.cli_rehashing.proofs.step.put_line.Goals as goal
 
 -- of a record that isn't what was tested
-abbrev Other : HashTree → (token : List ℕ) → (m : ℕ) → SumValue → (octets : List ℕ) → Type 0
-Other tree token m s octets = IsOutsideAnew tree token m s.digest octets ⊎ IsTooLongAnew tree token s.digest octets
+abbrev Other : HashTree → (token : List ℕ) → (m : ℕ) → (alone : Bool) → RecordValue → (octets : List ℕ) → Type 0
+Other tree token m alone s octets =
+    IsOutsideAnew tree token m alone s.alg s.digests octets ⊎ IsTooLongAnew tree token alone s.alg s.digests octets
 
 pub returns-in_err-octets-clause-none : goal.returns-in_err-octets-clause-none
 returns-in_err-octets-clause-none g c =
@@ -24,13 +27,16 @@ returns-in-Ok-Some-clause-put g c =
     let same : c.as_slice-in-Ok-Some.result.now ≡ c.in-Ok-Some.rehashed.items = search rules in
     put_if g.K.KeepsBelow.ways (rehashing c.args.folder.now c.args.by.now.tree.now c.args.by.now.token.now
     c.args.by.now.moment) c.args.sum.now _
-    c.as_slice-2.result.now c.in_ok-octets.octets.items
-    (ap (λ (n : List ℕ). path_below c.args.folder.now n)
-    (c.text_of-name.ensures ∙ c.as_slice.ensures.value ∙ c.in_ok-name.ensures)) c.as_slice-2.ensures.value
+    c.as_slice-octets.result.now c.in_ok-octets.octets.items
+    (ap (λ (n : List ℕ). path_below c.args.folder.now.path.now n)
+    (c.text_of-name.ensures ∙ c.as_slice.ensures.value ∙ c.in_ok-name.ensures)) c.as_slice-octets.ensures.value
     c.in_ok-octets.ensures.read c.put_file.result _ _ c.in-Ok-Some.rehashed.items
     c.as_slice-in-Ok-Some.result.now same
-    (subst (λ (d : Digest). BecomesAnew c.args.by.now.tree.now c.args.by.now.token.now c.args.by.now.moment d
-    c.as_slice-2.result.now (Some c.in-Ok-Some.rehashed.items)) c.in_ok-digest.ensures
+    (at_record (λ (a : Alg) (ds : List Digest). BecomesAnew c.args.by.now.tree.now c.args.by.now.token.now
+    c.args.by.now.moment c.args.folder.now.alone a ds
+    c.as_slice-octets.result.now (Some c.in-Ok-Some.rehashed.items)) c.alg.result c.args.sum.now.alg
+    c.as_slice-digests.result.now c.in_ok-digests.digests.items
+    c.args.sum.now.digests c.alg.ensures c.as_slice-digests.ensures.value c.in_ok-digests.ensures.found
     (rw some at c.in-Ok-Some.ensures)) c.put_file.ensures.did c.put_file.ensures.adds
 
 pub returns-in-Ok-None-clause-put : goal.returns-in-Ok-None-clause-put
@@ -38,24 +44,31 @@ returns-in-Ok-None-clause-put g c =
     let none : c.in-Ok-None.field-0 ≡ None = search rules in
     stays g.K.KeepsBelow.ways (rehashing c.args.folder.now c.args.by.now.tree.now c.args.by.now.token.now
     c.args.by.now.moment) c.args.sum.now _
-    c.as_slice-2.result.now c.in_ok-octets.octets.items
-    (ap (λ (n : List ℕ). path_below c.args.folder.now n)
-    (c.text_of-name.ensures ∙ c.as_slice.ensures.value ∙ c.in_ok-name.ensures)) c.as_slice-2.ensures.value
+    c.as_slice-octets.result.now c.in_ok-octets.octets.items
+    (ap (λ (n : List ℕ). path_below c.args.folder.now.path.now n)
+    (c.text_of-name.ensures ∙ c.as_slice.ensures.value ∙ c.in_ok-name.ensures)) c.as_slice-octets.ensures.value
     c.in_ok-octets.ensures.read _
-    (subst (λ (d : Digest). BecomesAnew c.args.by.now.tree.now c.args.by.now.token.now c.args.by.now.moment d
-    c.as_slice-2.result.now None) c.in_ok-digest.ensures (rw none at c.in-Ok-None.ensures))
+    (at_record (λ (a : Alg) (ds : List Digest). BecomesAnew c.args.by.now.tree.now c.args.by.now.token.now
+    c.args.by.now.moment c.args.folder.now.alone a ds
+    c.as_slice-octets.result.now None) c.alg.result c.args.sum.now.alg c.as_slice-digests.result.now
+    c.in_ok-digests.digests.items
+    c.args.sum.now.digests c.alg.ensures c.as_slice-digests.ensures.value c.in_ok-digests.ensures.found
+    (rw none at c.in-Ok-None.ensures))
 
 pub returns-in-Err-Changed-clause-fails : goal.returns-in-Err-Changed-clause-fails
 returns-in-Err-Changed-clause-fails g c =
     changed_at g.K.KeepsBelow.ways
     (rehashing c.args.folder.now c.args.by.now.tree.now c.args.by.now.token.now c.args.by.now.moment)
-    c.args.sum.now _ c.as_slice-2.result.now c.in_ok-octets.octets.items
-    (ap (λ (n : List ℕ). path_below c.args.folder.now n)
+    c.args.sum.now _ c.as_slice-octets.result.now c.in_ok-octets.octets.items
+    (ap (λ (n : List ℕ). path_below c.args.folder.now.path.now n)
     (c.text_of-name.ensures ∙ c.as_slice.ensures.value ∙ c.in_ok-name.ensures))
-    c.as_slice-2.ensures.value c.in_ok-octets.ensures.read
-    (Other c.args.by.now.tree.now c.args.by.now.token.now c.args.by.now.moment)
-    (inl (subst (λ (d : Digest). IsOutsideAnew c.args.by.now.tree.now c.args.by.now.token.now c.args.by.now.moment d
-    c.as_slice-2.result.now) c.in_ok-digest.ensures
+    c.as_slice-octets.ensures.value c.in_ok-octets.ensures.read
+    (Other c.args.by.now.tree.now c.args.by.now.token.now c.args.by.now.moment c.args.folder.now.alone)
+    (inl (at_record (λ (a : Alg) (ds : List Digest). IsOutsideAnew c.args.by.now.tree.now c.args.by.now.token.now
+    c.args.by.now.moment c.args.folder.now.alone a ds
+    c.as_slice-octets.result.now) c.alg.result c.args.sum.now.alg c.as_slice-digests.result.now
+    c.in_ok-digests.digests.items
+    c.args.sum.now.digests c.alg.ensures c.as_slice-digests.ensures.value c.in_ok-digests.ensures.found
     (rw c.in-Err-Changed.field-0-is at c.in-Err-Changed.ensures))) c.changed.result c.changed.ensures
 
 pub returns-in-Err-Changed-clause-none : goal.returns-in-Err-Changed-clause-none
@@ -65,13 +78,16 @@ pub returns-in-Err-TooLong-clause-fails : goal.returns-in-Err-TooLong-clause-fai
 returns-in-Err-TooLong-clause-fails g c =
     changed_at g.K.KeepsBelow.ways
     (rehashing c.args.folder.now c.args.by.now.tree.now c.args.by.now.token.now c.args.by.now.moment)
-    c.args.sum.now _ c.as_slice-2.result.now c.in_ok-octets.octets.items
-    (ap (λ (n : List ℕ). path_below c.args.folder.now n)
+    c.args.sum.now _ c.as_slice-octets.result.now c.in_ok-octets.octets.items
+    (ap (λ (n : List ℕ). path_below c.args.folder.now.path.now n)
     (c.text_of-name.ensures ∙ c.as_slice.ensures.value ∙ c.in_ok-name.ensures))
-    c.as_slice-2.ensures.value c.in_ok-octets.ensures.read
-    (Other c.args.by.now.tree.now c.args.by.now.token.now c.args.by.now.moment)
-    (inr (subst (λ (d : Digest). IsTooLongAnew c.args.by.now.tree.now c.args.by.now.token.now d c.as_slice-2.result.now)
-    c.in_ok-digest.ensures (rw c.in-Err-TooLong.field-0-is at c.in-Err-TooLong.ensures)))
+    c.as_slice-octets.ensures.value c.in_ok-octets.ensures.read
+    (Other c.args.by.now.tree.now c.args.by.now.token.now c.args.by.now.moment c.args.folder.now.alone)
+    (inr (at_record (λ (a : Alg) (ds : List Digest). IsTooLongAnew c.args.by.now.tree.now c.args.by.now.token.now
+    c.args.folder.now.alone a ds c.as_slice-octets.result.now)
+    c.alg.result c.args.sum.now.alg c.as_slice-digests.result.now c.in_ok-digests.digests.items
+    c.args.sum.now.digests c.alg.ensures c.as_slice-digests.ensures.value c.in_ok-digests.ensures.found
+    (rw c.in-Err-TooLong.field-0-is at c.in-Err-TooLong.ensures)))
     c.changed-in-Err-TooLong.result c.changed-in-Err-TooLong.ensures
 
 pub returns-in-Err-TooLong-clause-none : goal.returns-in-Err-TooLong-clause-none

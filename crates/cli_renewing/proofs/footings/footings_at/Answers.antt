@@ -11,8 +11,8 @@ pub returns-in_err-footing-clause-refused : goal.returns-in_err-footing-clause-r
 returns-in_err-footing-clause-refused g c =
     let p = err_from_is_err_and c.from_residual.result c.from_residual.ensures.1 in
     rw (p.1, p.2)
-    (inr (refused_at g.K.Keeps.ways (option_copied c.args.token) c.args.paths.now c.loop-path.footings.items
-    c.loop-path.path-index _ c.loop-path-test.true c.loop-path.invariant.are _ c.in_err-footing.ensures.refused))
+    (refused_at g.K.Keeps.ways (option_copied c.args.token) c.args.paths.now c.loop-path.footings.items
+    c.loop-path.path-index _ c.loop-path-test.true c.loop-path.invariant.are _ c.in_err-footing.ensures.refused)
 
 pub returns-then-not-is_of_first-clause-refused : goal.returns-then-not-is_of_first-clause-refused
 returns-then-not-is_of_first-clause-refused g c =

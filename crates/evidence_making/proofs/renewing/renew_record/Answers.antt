@@ -3,11 +3,11 @@ use Rattle.std.specs.Vec.{vec_items}
 use Rattle.evidence_types.specs.StampValue.{StampValue}
 use Rattle.evidence_types.specs.EvidenceValue.{EvidenceValue, chains_parts}
 use Rattle.der_core.specs.Values.{AlgorithmValue}
-use Rattle.evidence_making.specs.Made.{stamp_of}
+use Rattle.evidence_making.specs.Made.{lists_of, stamp_of}
 use Rattle.evidence_making.specs.Frames.{FrameValue, record_inside}
 use Rattle.evidence_making.specs.Renewed.{is_named, renewed}
 use Rattle.evidence_making.specs.Renewing.{ChainsStandIn}
-use Rattle.evidence_making.proofs.Placed.{frame_of}
+use Rattle.evidence_making.proofs.Placed.{alone_filled, frame_of}
 use Rattle.evidence_making.proofs.Renewed.{placed, value_renewed, good_renewed, last_of_good, written, of_answer}
 use Rattle.evidence_making.proofs.Renewed.{renewed_stand, renewed_show, Octets, answer_shows}
 use Rattle.evidence_making.proofs.renewing.renew_record.Goals as goal
@@ -36,9 +36,10 @@ returns-clause-answer c =
       stamps = last.1 i;
     } in
     written (λ w. renewed w alg values token) octets (λ (w : Octets). vec_items w) v found alg
-    (placed alg v h.front h.end) values token _ (good_renewed v alg h.front h.end found.1 h.is) c.requires
+    (placed alg v h.front h.end) (lists_of values) token _ (good_renewed v alg h.front h.end found.1 h.is) c.requires
+    (alone_filled values)
     (value_renewed v alg values token h.front h.end h.is)
-    (ap (λ (f : FrameValue). record_inside f values token) frame) c.renewed_in.result c.renewed_in.ensures
+    (ap (λ (f : FrameValue). record_inside f (lists_of values) token) frame) c.renewed_in.result c.renewed_in.ensures
 
 pub returns-clause-kept : goal.returns-clause-kept
 returns-clause-kept c =

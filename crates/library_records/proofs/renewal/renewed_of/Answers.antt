@@ -1,17 +1,23 @@
 use Rattle.std.proofs.Common.{ℕ, Vec, Global, inl, inr}
 use Rattle.std.proofs.lemmas.Result.{err_from_is_err_and}
-use Rattle.library_records.proofs.Renewals.{found_last, is_renewal, not_renewed, stands_on}
+use Rattle.library_records.proofs.Renewals.{found_last, is_renewal, not_renewed, renews_nothing, stands_on}
 use Rattle.library_records.proofs.renewal.renewed_of.Goals as goal
+
+pub returns-in_err-standing-clause-refused : goal.returns-in_err-standing-clause-refused
+returns-in_err-standing-clause-refused c =
+    let p = err_from_is_err_and c.from_residual.result c.from_residual.ensures.1 in
+    rw (p.1, p.2)
+    (renews_nothing c.args.tree.now c.args.token.now c.args.octets.now _ c.in_err-standing.ensures.refused)
 
 pub returns-in_err-values-clause-refused : goal.returns-in_err-values-clause-refused
 returns-in_err-values-clause-refused c =
     let p = err_from_is_err_and c.from_residual-in_err-values.result c.from_residual-in_err-values.ensures.1 in
-    rw (p.1, p.2) (inr (inl (
+    rw (p.1, p.2) (inr (inr (inl (
       c.in_ok-standing.standing.last,
       stands_on c.args.token.now c.args.octets.now c.in_ok-standing.standing.done c.in_ok-standing.standing.last
           c.in_ok-standing.ensures.found,
       c.in_err-values.ensures.refused,
-    )))
+    ))))
 
 pub returns-in-Ok-clause-renewed : goal.returns-in-Ok-clause-renewed
 returns-in-Ok-clause-renewed c =

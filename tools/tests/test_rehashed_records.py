@@ -66,7 +66,8 @@ class Folder(unittest.TestCase):
     def put_authority(self):
         """An authority, and a folder for records."""
         make_certificate(self.folder, "tsa", STAMPING)
-        configure(self.folder, "tsa.cnf", "tsa", digests="sha256, sha512", more="ess_cert_id_alg = sha256\n")
+        more = {"signer_digest": "sha512", "more": "ess_cert_id_alg = sha512\n"}
+        configure(self.folder, "tsa.cnf", "tsa", digests="sha256, sha512", **more)
         (self.folder / "records").mkdir()
 
     def leaf(self, name, chains):
@@ -131,8 +132,9 @@ class Folder(unittest.TestCase):
         asked = run(self.folder, "evidence", "questions", "--trust", "trust", "records/letter.ers")[1]
         (self.folder / "answers").write_bytes(asked.replace(b"questions", b"answers", 1))
         last, at = (time.strftime("%Y%m%d%H%M%SZ", time.gmtime(time.time() + days * 86400)) for days in (1, 2))
-        lists = ["--trust", "trust", "--answers", "answers", "--end", f"sha256={last}", "--at", at]
-        return run(self.folder, "evidence", "check", *lists, "records/letter.ers", *words)[1].decode()
+        until = ["--end", f"sha256={last}", "--end", "sha512=99991231235959Z", "--at", at]
+        lists = ["--trust", "trust", "--answers", "answers"]
+        return run(self.folder, "evidence", "check", *lists, *until, "records/letter.ers", *words)[1].decode()
 
     def test_group(self):
         """The record of a group gets a chain over each file that has a line; if one has none, only where the user says that it is of another

@@ -5,7 +5,9 @@ ghost use Rattle.evidence_sums.specs.Written.{ReadingFitsWriting};
 
 /// The worked rows: texts of sums, with what they state, and texts that are none, with their first fault.
 pub fn rows_hold()
+    // Of texts with a line for each file.
     ensures sums { SumsRows }
+    // Of texts with several lines for a record.
     ensures records { RecordsRows }
 {}
 

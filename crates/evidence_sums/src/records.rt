@@ -134,7 +134,9 @@ impl<'a> RecordSums<'a> {
 impl<'a> RecordSum<'a> {
     /// What the line states that begins the record.
     pub fn first(&self) -> Sum<'a>
+        // It states the name of the record.
         ensures name { result.name ≡ self.now.name }
+        // It states the first of its digests.
         ensures digest { (others : List Digest) × (self.now.digests ≡ result.digest ∷ others) }
     {
         Sum {
@@ -163,6 +165,7 @@ impl<'a> RecordSum<'a> {
     ///
     /// Errors: memory is refused.
     pub fn digests(&self, alloc: Global) -> Result<Vec<Digest>, AllocError>
+        // All are returned.
         ensures found { IfOk result (λ digests. digests.items ≡ self.now.digests) }
         // They are by the algorithm.
         ensures by { IfOk result (λ digests. All (λ d. alg_of d ≡ self.now.alg) digests.items) }

@@ -82,6 +82,7 @@ impl Group {
 
     /// The values, one after another.
     pub fn values(&self) -> GroupValues<'_>
+        // They are those of the group.
         ensures values { result ≡ self.now.values }
         // There is one.
         ensures some { 0 < length self.now.values }

@@ -1,0 +1,4 @@
+pub mod Numbers
+pub mod Montgomery
+pub mod RowParts
+pub mod NumberRows

@@ -10,7 +10,7 @@ use Rattle.big_numbers.specs.Montgomery.{IsPrepared, form}
 use Rattle.big_numbers.proofs.Values.{value-append}
 use Rattle.big_numbers.proofs.OctetSteps.{os2ip_below}
 use Rattle.big_numbers.proofs.WriteSteps.{base_in_octets}
-use Rattle.big_numbers.proofs.OctetLaws.{bits_are, first_octet, i2osp-os2ip, length-i2osp, os2ip-i2osp}
+use Rattle.big_numbers.proofs.OctetLaws.{bits_are, bits_fill, first_octet, i2osp-os2ip, length-i2osp, os2ip-i2osp}
 
 none_above : (p v x y : ℕ) → x ≡ v + p * y → x < p → v ≡ x
 none_above p v x zero e h = omega arith
@@ -87,6 +87,11 @@ bits_kept octets v size bits fits is modulus e =
     subst (λ o. IsBits (os2ip o) bits) is
     (subst (λ b. IsBits (os2ip (i2osp v size)) b) (sym e)
     (bits_are (i2osp v size) (λ k. i2osp_fits size v k fits) modulus.first))
+
+pub octets_filled : (octets : List ℕ) (v size bits : ℕ) → v < 256 ^ size → i2osp v size ≡ octets
+    → IsModulus (i2osp v size) → bits ≡ bits_of (i2osp v size) → (bits + 7) / 8 ≡ length octets
+octets_filled octets v size bits fits is modulus e =
+    ap (λ b. (b + 7) / 8) e ∙ bits_fill (i2osp v size) (λ k. i2osp_fits size v k fits) modulus.first ∙ ap length is
 
 pub octets_kept : (words octets : List ℕ) (count : ℕ) → ((k : ℕ) → get_or octets k 0 < 256) → count ≤ length words
     → length octets ≤ 8 * count → value words ≡ os2ip octets → i2osp (value (take count words)) (length octets) ≡ octets

@@ -87,3 +87,8 @@ bits_are (x ∷ xs) fits h =
       subst (λ i. 2 ^ i ≤ os2ip (x ∷ xs)) (sym e) (let q : 2 ^ (k + j) ≤ x * p + os2ip xs = omega arith in q),
       let q : x * p + os2ip xs < 2 ^ (k + suc j) = omega arith in q,
     )
+
+-- they fill as many octets
+pub bits_fill : (m : List ℕ) → ((k : ℕ) → get_or m k 0 < 256) → 0 < get_or m 0 0 → (bits_of m + 7) / 8 ≡ length m
+bits_fill [] fits h = absurd (omega arith)
+bits_fill (x ∷ xs) fits h = let t = leading_top 8 x h (fits 0) in omega (arith, t.1)

@@ -1,5 +1,5 @@
 //! A modulus, with what depends on it alone.
-ghost use Rattle.std.specs.Prelude.{◌≡◌, ◌-◌, ◌*◌, ◌%◌, ◌^◌, ◌<◌, ◌≤◌, ◌↔◌, IsTrue, IfSome, Some, length};
+ghost use Rattle.std.specs.Prelude.{◌≡◌, ◌+◌, ◌*◌, ◌/◌, ◌%◌, ◌^◌, ◌<◌, ◌≤◌, ◌↔◌, IsTrue, IfSome, Some, length};
 ghost use Rattle.big_numbers.specs.Numbers.{IsBits, IsModulus, bits_of, i2osp, os2ip, value};
 ghost use Rattle.big_numbers.specs.Montgomery.{IsReady};
 
@@ -142,6 +142,8 @@ impl Modulus {
     pub fn bits(&self) -> usize
         // It is what the function `bits_of` gives.
         ensures count { result ≡ bits_of self.now }
+        // The octets are as many as these bits fill.
+        ensures octets { (result + 7) / 8 ≡ length self.now }
         // The modulus is below the power of 2 with this exponent, and not below the one before.
         ensures bits { IsBits (os2ip self.now) result }
     {

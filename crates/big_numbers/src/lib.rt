@@ -13,3 +13,4 @@ mod rows;
 
 pub use laws::{octets_stand_for_numbers, rows_hold};
 pub use moduli::Modulus;
+pub use octets::word_of;

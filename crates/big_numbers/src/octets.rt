@@ -2,8 +2,8 @@
 ghost use Rattle.std.specs.Prelude.{◌≡◌, ◌*◌, ◌%◌, ◌^◌, ◌≤◌, length};
 ghost use Rattle.big_numbers.specs.Numbers.{os2ip, value};
 
-/// The number that eight octets at most stand for.
-fn word_of(octets: &[u8]) -> u64
+/// The number that eight octets at most stand for, the highest first (OS2IP, RFC 8017 4.2).
+pub fn word_of(octets: &[u8]) -> u64
     requires { length octets.now ≤ 8 }
     ensures { result ≡ os2ip octets.now }
 {

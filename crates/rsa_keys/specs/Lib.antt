@@ -1,0 +1,4 @@
+pub mod KeyValue
+pub mod KeyReading
+pub mod KeyFields
+pub mod KeyRows

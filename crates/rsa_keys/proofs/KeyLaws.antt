@@ -24,17 +24,10 @@ use Rattle.rsa_keys.specs.KeyReading.{both, both_unsigned, info_at, is_judged, k
 use Rattle.rsa_keys.specs.KeyReading.{numbers_at}
 use Rattle.rsa_keys.specs.KeyReading.{scheme_of, unsigned, with_null, without_parameters}
 use Rattle.rsa_keys.proofs.KeyReaders.{Info, info_again, info_parts, info_read, numbers_again, numbers_read}
+use Rattle.rsa_keys.proofs.Bytes.{bytes_behind, bytes_inside}
 use Rattle.rsa_keys.proofs.Judging.{judged_says}
 use Rattle.rsa_keys.proofs.Signs.{integer_of, positive_size, unsigned_is, unsigned_says}
 use Rattle.rsa_keys.proofs.Sizes.{key_size, numbers_size, whole_size}
-
--- ---- octets of parts
-
-bytes_behind : (a b : List ℕ) → IsBytes (a ++ b) → IsBytes b
-bytes_behind a b h = subst IsBytes (drop_at a b (length a) refl) (IsBytes-drop (length a) (a ++ b) h)
-
-bytes_inside : (t : ℕ) (b : List ℕ) → IsBytes (el t b) → IsBytes b
-bytes_inside t b h = bytes_behind (t ∷ len (length b)) b h
 
 -- ---- the numbers
 

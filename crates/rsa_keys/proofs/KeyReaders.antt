@@ -12,7 +12,7 @@ use Rattle.der_core.proofs.AlgorithmReader.{algorithm_reader}
 use Rattle.rsa_keys.specs.KeyValue.{public_key}
 use Rattle.rsa_keys.specs.KeyReading.{numbers_in, numbers_at, info_in, info_at}
 
-integer_reader : IsReader (within 0x02 integer_in) (λ b. el 0x02 b) IsInteger (one 0x02 integer) Always Anything
+pub integer_reader : IsReader (within 0x02 integer_in) (λ b. el 0x02 b) IsInteger (one 0x02 integer) Always Anything
 integer_reader = within_reader 0x02 refl integer_in (λ b. b) (λ b. is_integer b ≡ true) integer integer_body
 
 abbrev pub numbers_parts : List ℕ → List ℕ → List ℕ

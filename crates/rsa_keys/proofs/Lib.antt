@@ -1,4 +1,7 @@
+pub mod Bytes
 pub mod KeyReaders
+pub mod ParameterReaders
+pub mod ParameterLaws
 pub mod Signs
 pub mod Sizes
 pub mod Judging

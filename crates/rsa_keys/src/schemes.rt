@@ -1,20 +1,13 @@
 //! The algorithm of a key (RFC 3279 2.3.1, RFC 4055 1.2).
-ghost use Rattle.std.specs.Prelude.{◌≡◌, ◌∷◌, [], option_map};
-ghost use Rattle.der_core.specs.Lists.{is_same};
+ghost use Rattle.std.specs.Prelude.{◌≡◌, option_map};
 ghost use Rattle.rsa_keys.specs.KeyReading.{scheme_of, with_null, without_parameters};
 
 use crate::key::Scheme;
+use crate::octets::is_same;
 use der_core::AlgorithmIdentifier;
 
 /// NULL, as a whole element.
 const NULL: [u8; 2] = [0x05, 0x00];
-
-/// Whether octets are NULL.
-fn is_null(octets: &[u8]) -> bool
-    ensures { result ≡ is_same octets.now (0x05 ∷ 0x00 ∷ []) }
-{
-    octets == NULL.as_slice()
-}
 
 /// rsaEncryption, if its parameters are NULL.
 fn with_null(parameters: Option<&[u8]>) -> Option<Scheme>
@@ -23,7 +16,7 @@ fn with_null(parameters: Option<&[u8]>) -> Option<Scheme>
     match parameters {
         None => None,
         Some(octets) => {
-            if is_null(octets) {
+            if is_same(octets, &NULL) {
                 Some(Scheme::Any)
             } else {
                 None
@@ -48,9 +41,9 @@ pub(crate) fn scheme_of(algorithm: &AlgorithmIdentifier<'_>) -> Option<Scheme>
     ensures { result ≡ scheme_of algorithm.now }
 {
     let oid = algorithm.oid().bytes();
-    if oid == b"\x2a\x86\x48\x86\xf7\x0d\x01\x01\x01".as_slice() {
+    if is_same(oid, b"\x2a\x86\x48\x86\xf7\x0d\x01\x01\x01") {
         with_null(algorithm.parameters())
-    } else if oid == b"\x2a\x86\x48\x86\xf7\x0d\x01\x01\x0a".as_slice() {
+    } else if is_same(oid, b"\x2a\x86\x48\x86\xf7\x0d\x01\x01\x0a") {
         without_parameters(algorithm.parameters())
     } else {
         None

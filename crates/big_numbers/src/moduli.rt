@@ -128,11 +128,11 @@ impl Modulus {
 
     /// How many octets it has: k of RFC 8017, at most 1,024.
     pub fn size(&self) -> usize
-        // It has so many octets.
+        // The modulus has so many octets.
         ensures count { result ≡ length self.now }
-        // They are those of a modulus.
+        // Its octets are those of a modulus: odd, above 1, the first not 0.
         ensures modulus { IsModulus self.now }
-        // Its number is below the power of 256.
+        // The modulus is below the power of 256 with this exponent.
         ensures fits { os2ip self.now < 256 ^ result }
     {
         self.size
@@ -155,10 +155,11 @@ impl Modulus {
     /// Returns false, and may leave any octets, if one of them has not as many octets as the modulus, or the number is
     /// not below it (RFC 8017, 5.2.2).
     pub fn power(&self, power: &mut [u8], base: &[u8], exponent: u64) -> bool
-        // It is true exactly if both have as many octets as the modulus, and the number is below it.
+        // It is true exactly if `base` and `power` have as many octets as the modulus, and the number of `base` is
+        // below it.
         ensures below { IsTrue result ↔ ((length base.now ≡ length self.now)
             × (length power.old ≡ length self.now) × (os2ip base.now < os2ip self.now)) }
-        // Then the octets are those of the power.
+        // If it is true, `power` has the octets of that number's power modulo this one.
         ensures power { IsTrue result
             → power.new ≡ i2osp (os2ip base.now ^ exponent % os2ip self.now) (length self.now) }
     {

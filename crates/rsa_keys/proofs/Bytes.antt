@@ -1,5 +1,5 @@
 -- The octets of parts are octets.
-use Rattle.std.proofs.Common.{◌≡◌, ℕ, List, [], ◌∷◌, ◌++◌, length, refl, subst}
+use Rattle.std.proofs.Common.{ℕ, List, ◌∷◌, ◌++◌, length, refl, subst}
 use Rattle.std.proofs.lemmas.List.{drop_at, take_at}
 use Rattle.der_core.specs.Element.{el, len, IsBytes}
 use Rattle.der_core.proofs.ReadLengths.{IsBytes-drop, IsBytes-take}

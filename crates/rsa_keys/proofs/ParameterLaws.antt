@@ -1,5 +1,5 @@
 -- What is read of parameters of RSASSA-PSS, and that all are read.
-use Rattle.std.proofs.Common.{◌≡◌, ◌↔◌, ℕ, ◌<◌, ◌≤◌, Bool, true, false, ◌&&◌, cond, List, [], ◌∷◌, ◌++◌, length, get_or, Option}
+use Rattle.std.proofs.Common.{◌≡◌, ◌↔◌, ℕ, Bool, true, false, ◌&&◌, cond, List, [], ◌∷◌, ◌++◌, length, get_or, Option}
 use Rattle.std.proofs.Common.{Some, None, Result, Ok, Err, refl, ap, sym, subst, ◌∙◌}
 use Rattle.std.specs.Prelude.{IfSome, nat_lt, nat_le}
 use Rattle.std.proofs.lemmas.Bool.{and_parts, and_from, cond-true, ltb-true, lt-ltb, leb-true, le-leb}
@@ -13,13 +13,14 @@ use Rattle.der_core.proofs.SameOctets.{is_then_same}
 use Rattle.digests.specs.declared.algorithm.Alg.{Alg}
 use Rattle.digests.specs.declared.algorithm.Alg.TheVariants.{Sha1}
 use Rattle.digests.specs.Algorithms.{Names}
-use Rattle.digests.specs.Named.{alg_named}
 use Rattle.digests.proofs.Named.{named_is, named_says}
 use Rattle.big_numbers.specs.Numbers.{os2ip}
 use Rattle.rsa_keys.specs.declared.parameters.PssParameters.{PssParameters}
-use Rattle.rsa_keys.specs.ParameterValue.{IsHash, IsMask, IsPss, IsSalt, IsTrailer, PssParts, explicit_algorithm, explicit_integer}
+use Rattle.rsa_keys.specs.ParameterValue.{IsHash, IsMask, IsPss, IsSalt, IsTrailer, PssParts, explicit_algorithm}
+use Rattle.rsa_keys.specs.ParameterValue.{explicit_integer}
 use Rattle.rsa_keys.specs.ParameterValue.{pss_parts}
-use Rattle.rsa_keys.specs.ParameterReading.{algorithm_at, all_of, hash_of, is_trailer, mask_by, mask_of, named_by, parts_at, pss_in}
+use Rattle.rsa_keys.specs.ParameterReading.{algorithm_at, all_of, hash_of, is_trailer, mask_by, mask_of, named_by}
+use Rattle.rsa_keys.specs.ParameterReading.{parts_at, pss_in}
 use Rattle.rsa_keys.specs.ParameterReading.{pss_of, salt_of}
 use Rattle.rsa_keys.proofs.Bytes.{bytes_before, bytes_behind, bytes_inside}
 use Rattle.rsa_keys.proofs.ParameterReaders.{algorithm_again, algorithm_read, parts_again, parts_read}
@@ -46,7 +47,8 @@ abbrev mgf1 : List ℕ
 mgf1 = hex "2a864886f70d010108"
 
 abbrev IsMaskBy : Option (List ℕ) → Alg → Type 0
-IsMaskBy p alg = (b : AlgorithmValue) × (p ≡ Some (algorithm_element b)) × GoodAlgorithm b × Names b.oid b.parameters alg
+IsMaskBy p alg =
+    (b : AlgorithmValue) × (p ≡ Some (algorithm_element b)) × GoodAlgorithm b × Names b.oid b.parameters alg
 
 abbrev some_list : List ℕ → Option (List ℕ)
 some_list x = Some x
@@ -108,7 +110,8 @@ salt_is : (o : Option (List ℕ)) (n : ℕ) → IsSalt o n → salt_of o ≡ som
 salt_is None n h = ap some_number (sym h)
 salt_is (Some c) n h =
     cond-true (nat_lt (get_or c 0 0) 128 && nat_le (length c) 8) (some_number (os2ip c)) None
-    (and_from (nat_lt (get_or c 0 0) 128) (nat_le (length c) 8) (lt-ltb (get_or c 0 0) 128 h.0) (le-leb (length c) 8 h.1))
+    (and_from (nat_lt (get_or c 0 0) 128) (nat_le (length c) 8) (lt-ltb (get_or c 0 0) 128 h.0)
+    (le-leb (length c) 8 h.1))
     ∙ ap some_number (sym h.2)
 
 trailer_says : (o : Option (List ℕ)) → is_trailer o ≡ true → IsTrailer o

@@ -1,5 +1,5 @@
 -- Parameters of RSASSA-PSS are read exactly when there are some.
-use Rattle.std.proofs.Common.{◌≡◌, ℕ, true, false, eqb, List, [], ◌∷◌, ◌++◌, Option, Some, None, Ok, refl, ap, append_assoc}
+use Rattle.std.proofs.Common.{◌≡◌, ℕ, true, List, [], ◌∷◌, ◌++◌, Option, Some, None, Ok, refl, append_assoc}
 use Rattle.std.specs.Prelude.{IfSome}
 use Rattle.der_core.specs.Element.{is_tag, el, IsBytes}
 use Rattle.der_core.specs.Form.{Form, full}
@@ -7,13 +7,16 @@ use Rattle.der_core.specs.Grammar.{one, opt, integer, algorithm}
 use Rattle.der_core.specs.Reading.{spot, within, maybe, last, ◌then◌, whole_of}
 use Rattle.der_core.specs.Values.{AlgorithmValue, GoodAlgorithm, IsInteger, HasLength, algorithm_element}
 use Rattle.der_core.proofs.Fronts.{Apart, Others, front_apart, at_end_apart}
-use Rattle.der_core.proofs.Readers.{Anything, Nothing, IsReader, IsBody, enc_option, GoodOption, maybe_reader, last_reader}
+use Rattle.der_core.proofs.Readers.{Anything, Nothing, IsReader, IsBody, enc_option, GoodOption, maybe_reader}
+use Rattle.der_core.proofs.Readers.{last_reader}
 use Rattle.der_core.proofs.Readers.{then_reader, whole_body, within_reader, made_body}
 use Rattle.der_core.proofs.PartReaders.{Last, Not, alike_reader}
 use Rattle.der_core.proofs.AlgorithmReader.{algorithm_reader}
-use Rattle.rsa_keys.specs.ParameterValue.{GoodExplicitAlgorithm, GoodExplicitInteger, GoodPss, PssParts, explicit_algorithm}
+use Rattle.rsa_keys.specs.ParameterValue.{GoodExplicitAlgorithm, GoodExplicitInteger, GoodPss, PssParts}
+use Rattle.rsa_keys.specs.ParameterValue.{explicit_algorithm}
 use Rattle.rsa_keys.specs.ParameterValue.{explicit_integer, pss_parts}
-use Rattle.rsa_keys.specs.ParameterReading.{algorithm_at, explicit_algorithm_in, explicit_integer_in, parts_at, parts_from}
+use Rattle.rsa_keys.specs.ParameterReading.{algorithm_at, explicit_algorithm_in, explicit_integer_in, parts_at}
+use Rattle.rsa_keys.specs.ParameterReading.{parts_from}
 use Rattle.rsa_keys.specs.ParameterReading.{parts_in}
 use Rattle.rsa_keys.proofs.KeyReaders.{integer_reader}
 
@@ -43,7 +46,8 @@ module _ (tag : ℕ) (id : is_tag tag ≡ true) where
   algorithm_enc = enc_option tag id explicit_algorithm_in algorithm_element GoodAlgorithm algorithm_form algorithm_body
 
   abbrev AlgorithmIsGood : Option AlgorithmValue → Type 0
-  AlgorithmIsGood = GoodOption tag id explicit_algorithm_in algorithm_element GoodAlgorithm algorithm_form algorithm_body
+  AlgorithmIsGood =
+      GoodOption tag id explicit_algorithm_in algorithm_element GoodAlgorithm algorithm_form algorithm_body
 
   same_algorithm : (o : Option AlgorithmValue) → algorithm_enc o ≡ explicit_algorithm tag o
   same_algorithm None = refl
@@ -150,12 +154,14 @@ ArePssParts v = GoodParts (v.hash, (v.mask, (v.salt, v.trailer)))
 
 parts_body : IsBody parts_in pss_parts ArePssParts parts_form
 unfolding parts_in
-parts_body = made_body parts_from (λ v. (v.hash, (v.mask, (v.salt, v.trailer)))) (λ v. refl) _ spelled GoodParts parts_form
+parts_body =
+    made_body parts_from (λ v. (v.hash, (v.mask, (v.salt, v.trailer)))) (λ v. refl) _ spelled GoodParts parts_form
     (whole_body _ _ _ _ _ _ parts_reader refl refl) (λ p h. refl)
 
 parts_whole : IsBody (whole_of (within 0x30 parts_in)) (λ v. el 0x30 (pss_parts v))
     (λ v. ArePssParts v × HasLength (pss_parts v)) (one 0x30 parts_form full)
-parts_whole = whole_body _ _ _ _ _ _ (within_reader 0x30 refl parts_in pss_parts ArePssParts parts_form parts_body) tt tt
+parts_whole =
+    whole_body _ _ _ _ _ _ (within_reader 0x30 refl parts_in pss_parts ArePssParts parts_form parts_body) tt tt
 
 pub parts_read : (octets : List ℕ) (v : PssParts) → IsBytes octets → parts_at octets ≡ Ok v
     → GoodPss v × (octets ≡ el 0x30 (pss_parts v))

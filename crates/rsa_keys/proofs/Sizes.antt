@@ -3,10 +3,7 @@ use Rattle.std.proofs.Common.{ℕ, ◌+◌, ◌≤◌, ◌^◌, cond, List, [], 
 use Rattle.std.specs.Prelude.{nat_lt}
 use Rattle.std.proofs.lemmas.Bool.{cond_both}
 use Rattle.der_core.specs.Element.{el, len, octets}
-use Rattle.der_core.specs.Values.{algorithm_element}
-use Rattle.rsa_keys.specs.declared.key.Scheme.{Scheme}
-use Rattle.rsa_keys.specs.declared.key.Scheme.TheVariants.{Any, Pss}
-use Rattle.rsa_keys.specs.KeyValue.{algorithm_of, positive, public_key}
+use Rattle.rsa_keys.specs.KeyValue.{positive, public_key}
 use Rattle.rsa_keys.proofs.Signs.{positive_size}
 
 abbrev Few : List ℕ → Type 0
@@ -46,19 +43,3 @@ pub key_size : (n e : List ℕ) → length n ≤ 1024 → length e ≤ 8
     → length (0x00 ∷ public_key (positive n) (positive e)) ≤ 1053
 key_size n e h f =
     omega (arith, numbers_size n e h f, el_most 0x30 (el 0x02 (positive n) ++ el 0x02 (positive e)))
-
-algorithm_size : (s : Scheme) → length (algorithm_element (algorithm_of s)) ≤ 15
-unfolding len
-algorithm_size Any = lit≤ tt
-algorithm_size Pss = lit≤ tt
-
-pub whole_size : (s : Scheme) (n e : List ℕ) → length n ≤ 1024 → length e ≤ 8
-    → length (algorithm_element (algorithm_of s) ++ el 0x03 (0x00 ∷ public_key (positive n) (positive e))) ≤ 1074
-whole_size s n e h f =
-    omega (
-      arith,
-      length-append (algorithm_element (algorithm_of s)) (el 0x03 (0x00 ∷ public_key (positive n) (positive e))),
-      algorithm_size s,
-      el_most 0x03 (0x00 ∷ public_key (positive n) (positive e)),
-      key_size n e h f,
-    )

@@ -10,7 +10,9 @@ use Rattle.der_core.specs.Reading.{Spot, spot, within, ◌then◌, whole_of, int
 use Rattle.der_core.specs.Values.{AlgorithmValue}
 use Rattle.big_numbers.specs.Numbers.{bits_of, os2ip}
 use Rattle.rsa_keys.specs.declared.key.Scheme.{Scheme}
-use Rattle.rsa_keys.specs.declared.key.Scheme.TheVariants.{Any, Pss}
+use Rattle.rsa_keys.specs.declared.key.Scheme.TheVariants.{Any, Pss, PssWith}
+use Rattle.rsa_keys.specs.declared.parameters.PssParameters.{PssParameters}
+use Rattle.rsa_keys.specs.ParameterReading.{pss_in}
 use Rattle.rsa_keys.specs.KeyValue.{KeyValue}
 
 unfoldable pub numbers_in : Spot → Result (List ℕ × List ℕ) Fault
@@ -52,14 +54,18 @@ abbrev pub with_null : Option (List ℕ) → Option Scheme
 with_null None = None
 with_null (Some p) = if is_same p (0x05 ∷ 0x00 ∷ []) then Some Any else None
 
-abbrev pub without_parameters : Option (List ℕ) → Option Scheme
-without_parameters None = Some Pss
-without_parameters (Some p) = None
+abbrev pub scheme_with : Option PssParameters → Option Scheme
+scheme_with None = None
+scheme_with (Some v) = Some (PssWith v)
+
+abbrev pub pss_scheme : Option (List ℕ) → Option Scheme
+pss_scheme None = Some Pss
+pss_scheme (Some p) = scheme_with (pss_in p)
 
 -- the schemes that the algorithm of a key is for
 unfoldable pub scheme_of : AlgorithmValue → Option Scheme
 scheme_of a = if is_same a.oid (hex "2a864886f70d010101") then with_null a.parameters
-    else if is_same a.oid (hex "2a864886f70d01010a") then without_parameters a.parameters
+    else if is_same a.oid (hex "2a864886f70d01010a") then pss_scheme a.parameters
     else None
 
 unfoldable pub is_judged : List ℕ → List ℕ → Bool

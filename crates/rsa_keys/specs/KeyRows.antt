@@ -1,9 +1,12 @@
--- Worked rows of keys: the SubjectPublicKeyInfo of a key of 512 bits, and of others that differ in one place. The first
--- was made with this modulus by Python, and `openssl pkey` reads it.
-use Rattle.std.specs.Prelude.{◌≡◌, ℕ, List, ◌++◌, Option, Some, None}
+-- Worked rows of keys and parameters: the SubjectPublicKeyInfo of a key of 512 bits, and of others that differ in one
+-- place. The first was made with this modulus by Python, and `openssl pkey` reads it.
+use Rattle.std.specs.Prelude.{◌≡◌, ℕ, true, false, List, ◌++◌, Option, Some, None}
 use Rattle.der_core.specs.Hex.{hex}
-use Rattle.rsa_keys.specs.declared.key.Scheme.TheVariants.{Any, Pss}
-use Rattle.rsa_keys.specs.KeyValue.{KeyValue}
+use Rattle.rsa_keys.specs.declared.key.Scheme.TheVariants.{Any, Pss, PssWith}
+use Rattle.rsa_keys.specs.declared.parameters.PssParameters.{PssParameters}
+use Rattle.digests.specs.declared.algorithm.Alg.TheVariants.{Sha1, Sha256}
+use Rattle.rsa_keys.specs.KeyValue.{KeyValue, is_pss_allowed}
+use Rattle.rsa_keys.specs.ParameterReading.{pss_in}
 use Rattle.rsa_keys.specs.KeyReading.{key_in, unsigned}
 
 abbrev pub modulus : List ℕ
@@ -30,6 +33,42 @@ key_around before behind = key_in (before ++ (modulus ++ behind))
 abbrev pub front : List ℕ
 front = hex "305a300d06092a864886f70d01010105000349003046024100"
 
+-- parameters: SHA-256, MGF1 with it, a salt of 32 octets
+abbrev pub sha256_32 : List ℕ
+sha256_32 =
+    hex "3034a00f300d06096086480165030402010500a11c301a06092a864886f70d010108300d06096086480165030402010500a203020120"
+
+abbrev pub by_sha256 : PssParameters
+by_sha256 = record { hash = Sha256; mask = Sha256; salt = 32 }
+
+abbrev pub by_sha1 : PssParameters
+by_sha1 = record { hash = Sha1; mask = Sha1; salt = 20 }
+
+pub record ParameterRows : Type 0 where
+  pub defaults : pss_in (hex "3000") ≡ Some by_sha1
+  -- defaults that are there
+  pub spelled : pss_in (hex "300aa203020114a303020101") ≡ Some by_sha1
+  pub three : pss_in sha256_32 ≡ Some by_sha256
+  -- another trailer
+  pub trailer : pss_in (hex "3005a303020102") ≡ None
+  -- a salt of -1 octets
+  pub negative : pss_in (hex "3005a2030201ff") ≡ None
+  -- the salt before the hash function
+  pub order : pss_in (hex "3016a203020114a00f300d06096086480165030402010500") ≡ None
+  -- MGF1 without a hash function, and another mask generation function
+  pub no_hash : pss_in (hex "300fa10d300b06092a864886f70d010108") ≡ None
+  pub another : pss_in (hex "301ea11c301a06092a864886f70d010109300d06096086480165030402010500") ≡ None
+  -- an octet behind
+  pub behind : pss_in (hex "300000") ≡ None
+
+pub record SchemeRows : Type 0 where
+  pub any : is_pss_allowed Any by_sha1 ≡ true
+  pub same : is_pss_allowed (PssWith by_sha256) by_sha256 ≡ true
+  -- a longer salt, and a shorter one
+  pub longer : is_pss_allowed (PssWith by_sha256) (record by_sha256 { salt = 33 }) ≡ true
+  pub shorter : is_pss_allowed (PssWith by_sha256) (record by_sha256 { salt = 31 }) ≡ false
+  pub another_mask : is_pss_allowed (PssWith by_sha256) (record by_sha256 { mask = Sha1 }) ≡ false
+
 pub record KeyRows : Type 0 where
   pub exponent_3 : key_around front (hex "020103") ≡ Some (record { scheme = Any; modulus = modulus; exponent = 3 })
   -- an exponent of 64 bits
@@ -37,6 +76,10 @@ pub record KeyRows : Type 0 where
       ≡ Some (record { scheme = Any; modulus = modulus; exponent = 18446744073709551615 })
   pub for_pss : key_around (hex "3058300b06092a864886f70d01010a0349003046024100") (hex "020103")
       ≡ Some (record { scheme = Pss; modulus = modulus; exponent = 3 })
+  -- with parameters, which `openssl pkey` reads too
+  pub with_parameters :
+      key_around (hex "30818e304106092a864886f70d01010a" ++ (sha256_32 ++ hex "0349003046024100")) (hex "020103")
+      ≡ Some (record { scheme = PssWith by_sha256; modulus = modulus; exponent = 3 })
   -- rsaEncryption without NULL
   pub no_null : key_around (hex "3058300b06092a864886f70d0101010349003046024100") (hex "020103") ≡ None
   -- another algorithm: id-RSAES-OAEP

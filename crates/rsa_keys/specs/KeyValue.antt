@@ -1,13 +1,17 @@
 -- Public keys of RSA in a SubjectPublicKeyInfo (RFC 5280 4.1.2.7; RFC 3279 2.3.1; RFC 4055 1.2), their encoding, and
 -- the limits of those that are judged.
-use Rattle.std.specs.Prelude.{◌≡◌, ℕ, ◌%◌, ◌<◌, ◌≤◌, List, [], ◌∷◌, ◌++◌, Some, None, length, nat_lt, slice_index}
+use Rattle.std.specs.Prelude.{◌≡◌, ℕ, ◌%◌, ◌<◌, ◌≤◌, Bool, true, ◌&&◌, nat_le, List, [], ◌∷◌, ◌++◌, Some, None, length}
+use Rattle.std.specs.Prelude.{nat_lt, slice_index}
 use Rattle.std.specs.Prelude.{if◌then◌else◌}
 use Rattle.der_core.specs.Hex.{hex}
 use Rattle.der_core.specs.Element.{el}
-use Rattle.der_core.specs.Values.{AlgorithmValue, algorithm_element}
+use Rattle.der_core.specs.Values.{AlgorithmValue, GoodAlgorithm, HasLength, algorithm_element}
 use Rattle.big_numbers.specs.Numbers.{bits_of, os2ip}
 use Rattle.rsa_keys.specs.declared.key.Scheme.{Scheme}
-use Rattle.rsa_keys.specs.declared.key.Scheme.TheVariants.{Any, Pss}
+use Rattle.rsa_keys.specs.declared.key.Scheme.TheVariants.{Any, Pss, PssWith}
+use Rattle.rsa_keys.specs.declared.parameters.PssParameters.{PssParameters}
+use Rattle.rsa_keys.specs.ParameterValue.{IsPss}
+use Rattle.digests.specs.Named.{is_alg}
 
 -- the contents of the INTEGER with these octets, of which the first is not 0 (X.690 8.3): behind an octet 0, if their
 -- first bit is 1
@@ -20,10 +24,18 @@ abbrev pub public_key : List ℕ → List ℕ → List ℕ
 public_key n e = el 0x30 (el 0x02 n ++ el 0x02 e)
 
 -- the algorithm of a key: rsaEncryption, 1.2.840.113549.1.1.1, with parameters NULL; id-RSASSA-PSS,
--- 1.2.840.113549.1.1.10, without parameters
-abbrev pub algorithm_of : Scheme → AlgorithmValue
-algorithm_of Any = record { oid = hex "2a864886f70d010101"; parameters = Some (0x05 ∷ 0x00 ∷ []) }
-algorithm_of Pss = record { oid = hex "2a864886f70d01010a"; parameters = None }
+-- 1.2.840.113549.1.1.10, without parameters, or with those of RSASSA-PSS
+abbrev pub IsAlgorithm : Scheme → AlgorithmValue → Type 0
+IsAlgorithm Any a = (a.oid ≡ hex "2a864886f70d010101") × (a.parameters ≡ Some (0x05 ∷ 0x00 ∷ []))
+IsAlgorithm Pss a = (a.oid ≡ hex "2a864886f70d01010a") × (a.parameters ≡ None)
+IsAlgorithm (PssWith v) a = (p : List ℕ) × (a.oid ≡ hex "2a864886f70d01010a") × (a.parameters ≡ Some p) × IsPss p v
+
+-- the signatures by RSASSA-PSS that a key is for: with parameters of its own those by the same hash functions and with
+-- a salt that is at least as long (RFC 4055 3.3)
+abbrev pub is_pss_allowed : Scheme → PssParameters → Bool
+is_pss_allowed Any v = true
+is_pss_allowed Pss v = true
+is_pss_allowed (PssWith k) v = is_alg k.hash v.hash && is_alg k.mask v.mask && nat_le k.salt v.salt
 
 -- SubjectPublicKeyInfo ::= SEQUENCE { algorithm AlgorithmIdentifier, subjectPublicKey BIT STRING }, whose contents
 -- begin with the number of unused bits
@@ -50,7 +62,13 @@ pub record KeyValue : Type 0 where
 
 -- octets are the SubjectPublicKeyInfo of the key, which is judged
 pub record IsRsaKey (octets : List ℕ) (key : KeyValue) : Type 0 where
+  pub algorithm : AlgorithmValue
   pub exponent : List ℕ
+  pub is : IsAlgorithm key.scheme algorithm
   pub number : key.exponent ≡ os2ip exponent
   pub judged : IsJudged key.modulus exponent
-  pub whole : octets ≡ key_info (algorithm_of key.scheme) (public_key (positive key.modulus) (positive exponent))
+  -- (four length octets state how many octets an element has)
+  pub good : GoodAlgorithm algorithm
+  pub size :
+      HasLength (algorithm_element algorithm ++ el 0x03 (0x00 ∷ public_key (positive key.modulus) (positive exponent)))
+  pub whole : octets ≡ key_info algorithm (public_key (positive key.modulus) (positive exponent))

@@ -6,7 +6,7 @@ ghost use Rattle.rsa_keys.specs.KeyReading.{key_in};
 ghost use Rattle.rsa_keys.specs.ParameterValue.{IsPss};
 ghost use Rattle.rsa_keys.specs.ParameterReading.{pss_in};
 ghost use Rattle.rsa_keys.specs.declared.parameters.PssParameters.{PssParameters};
-ghost use Rattle.rsa_keys.specs.KeyRows.{KeyRows};
+ghost use Rattle.rsa_keys.specs.KeyRows.{KeyRows, ParameterRows, SchemeRows};
 
 /// `key_in` gives a key exactly if octets are its SubjectPublicKeyInfo, and so no octets are that of two keys.
 pub fn keys_are_read()
@@ -18,7 +18,12 @@ pub fn parameters_are_read()
     ensures { (octets : List ℕ) (p : PssParameters) → IsBytes octets → (pss_in octets ≡ Some p) ↔ IsPss octets p }
 {}
 
-/// The worked rows of keys.
+/// The worked rows of keys, of parameters, and of what keys are for.
 pub fn rows_hold()
-    ensures { KeyRows }
+    // Keys.
+    ensures keys { KeyRows }
+    // Parameters of RSASSA-PSS.
+    ensures parameters { ParameterRows }
+    // What keys are for.
+    ensures schemes { SchemeRows }
 {}

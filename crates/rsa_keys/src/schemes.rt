@@ -1,9 +1,10 @@
 //! The algorithm of a key (RFC 3279 2.3.1, RFC 4055 1.2).
 ghost use Rattle.std.specs.Prelude.{◌≡◌, option_map};
-ghost use Rattle.rsa_keys.specs.KeyReading.{scheme_of, with_null, without_parameters};
+ghost use Rattle.rsa_keys.specs.KeyReading.{pss_scheme, scheme_of, with_null};
 
 use crate::key::Scheme;
 use crate::octets::is_same;
+use crate::parameters::PssParameters;
 use der_core::AlgorithmIdentifier;
 
 /// NULL, as a whole element.
@@ -25,13 +26,16 @@ fn with_null(parameters: Option<&[u8]>) -> Option<Scheme>
     }
 }
 
-/// id-RSASSA-PSS, if it has no parameters.
-fn without_parameters(parameters: Option<&[u8]>) -> Option<Scheme>
-    ensures { result ≡ without_parameters (option_map (λ p. p.now) parameters.entry) }
+/// id-RSASSA-PSS, with its parameters, if it has some.
+fn pss_scheme(parameters: Option<&[u8]>) -> Option<Scheme>
+    ensures { result ≡ pss_scheme (option_map (λ p. p.now) parameters.entry) }
 {
     match parameters {
         None => Some(Scheme::Pss),
-        Some(_) => None,
+        Some(octets) => match PssParameters::read(octets) {
+            Some(read) => Some(Scheme::PssWith(read)),
+            None => None,
+        },
     }
 }
 
@@ -44,7 +48,7 @@ pub(crate) fn scheme_of(algorithm: &AlgorithmIdentifier<'_>) -> Option<Scheme>
     if is_same(oid, b"\x2a\x86\x48\x86\xf7\x0d\x01\x01\x01") {
         with_null(algorithm.parameters())
     } else if is_same(oid, b"\x2a\x86\x48\x86\xf7\x0d\x01\x01\x0a") {
-        without_parameters(algorithm.parameters())
+        pss_scheme(algorithm.parameters())
     } else {
         None
     }

@@ -58,3 +58,11 @@ out_of_form n p x one z a cancels h e o f =
     sym (mod-eq_of_lt h) ∙ cancels z a (
     e ∙ ap (λ v. (x * v) % n) o ∙ ap (λ v. v % n) (let q : x * 1 ≡ x = omega arith in q) ∙ ap (λ v. v % n) f
     ∙ mod-mod (a * p) n)
+
+-- the product of a form and a number
+pub half_product : (n p x y z a : ℕ) → Cancels p n → z < n → (z * p) % n ≡ (x * y) % n → x ≡ (a * p) % n
+    → z ≡ (a * y) % n
+half_product n p x y z a cancels h e f =
+    sym (mod-eq_of_lt h) ∙ cancels z (a * y) (
+    e ∙ ap (λ v. (v * y) % n) f ∙ same_mul n ((a * p) % n) (a * p) y (mod-mod (a * p) n)
+    ∙ ap (λ v. v % n) (let q : a * p * y ≡ a * y * p = omega arith in q))

@@ -63,3 +63,16 @@ next_bit e i h =
     ∙ ap (λ z. 2 * (f / 2) + from_bool (nat_eq z 1)) low
     ∙ ap (λ z. 2 * (f / 2) + z) (bit_of (f % 2) (mod-lt f (lit< tt)))
     ∙ (let q : 2 * (f / 2) + f % 2 ≡ f = omega arith in q)
+
+-- an exponent with so many bits of an octet more, the highest first
+pub bit_more : (k octet i : ℕ) → i < 8
+    → 2 * (k * 2 ^ i + octet / 2 ^ (8 - i)) + from_bool (nat_eq (bit_and (octet / 2 ^ (7 - i)) 1) 1)
+    ≡ k * 2 ^ (i + 1) + octet / 2 ^ (8 - (i + 1))
+bit_more k octet i h =
+    let p = power_more 2 i in
+    let at : 8 - i - 1 ≡ 7 - i = omega arith in
+    let next : 8 - (i + 1) ≡ 7 - i = omega arith in
+    let b : 2 * (octet / 2 ^ (8 - i)) + from_bool (nat_eq (bit_and (octet / 2 ^ (7 - i)) 1) 1) ≡ octet / 2 ^ (7 - i) =
+    ap (λ j. 2 * (octet / 2 ^ (8 - i)) + from_bool (nat_eq (bit_and (octet / 2 ^ j) 1) 1)) (sym at)
+    ∙ next_bit octet (8 - i) (omega arith) ∙ ap (λ j. octet / 2 ^ j) at in
+    rw (p, next) (omega (arith, b))

@@ -1,6 +1,6 @@
 //! Numbers in octets.
-ghost use Rattle.std.specs.Prelude.{◌≡◌, ◌*◌, ◌%◌, ◌^◌, ◌≤◌, length};
-ghost use Rattle.big_numbers.specs.Numbers.{os2ip, value};
+ghost use Rattle.std.specs.Prelude.{◌≡◌, ◌*◌, ◌%◌, ◌^◌, ◌<◌, ◌≤◌, length};
+ghost use Rattle.big_numbers.specs.Numbers.{i2osp, os2ip, value};
 
 /// The number that eight octets at most stand for, the highest first (OS2IP, RFC 8017 4.2).
 pub fn word_of(octets: &[u8]) -> u64
@@ -28,7 +28,7 @@ pub(crate) fn read_octets(words: &mut [u64], octets: &[u8])
 }
 
 /// Makes octets those of a number, as far as they go.
-pub(crate) fn write_octets(octets: &mut [u8], words: &[u64])
+fn write_octets(octets: &mut [u8], words: &[u64])
     requires { length octets.old ≤ 8 * length words.now }
     ensures { os2ip octets.new ≡ value words.now % 256 ^ length octets.old }
 {
@@ -36,4 +36,13 @@ pub(crate) fn write_octets(octets: &mut [u8], words: &[u64])
     'octets: for i in 0..count {
         octets[count - 1 - i] = ((words[i / 8] >> (8 * (i % 8))) & 0xff) as u8;
     }
+}
+
+/// Makes octets those of a number that they can state.
+pub(crate) fn write_number(octets: &mut [u8], words: &[u64])
+    requires room { length octets.old ≤ 8 * length words.now }
+    requires fits { value words.now < 256 ^ length octets.old }
+    ensures { octets.new ≡ i2osp (value words.now) (length octets.old) }
+{
+    write_octets(octets, words);
 }

@@ -1,8 +1,9 @@
 use Rattle.std.proofs.Common.{◌≡◌, ℕ, ◌%◌, ◌^◌, ◌<◌, length, take, ap, sym, subst, ◌∙◌, arith}
 use Rattle.std.proofs.lemmas.List.{length-take-le}
 use Rattle.big_numbers.specs.Numbers.{i2osp, os2ip, value}
+use Rattle.big_numbers.specs.Exponents.{exponent_of}
 use Rattle.big_numbers.proofs.ModulusSteps.{number_kept, size_kept}
-use Rattle.big_numbers.proofs.moduli.Modulus.power.Goals as goal
+use Rattle.big_numbers.proofs.moduli.Modulus.raise.Goals as goal
 
 pub write_power-requires-clause-power : goal.write_power-requires-clause-power
 write_power-requires-clause-power c =
@@ -52,5 +53,5 @@ returns-clause-power c = λ t.
     let p : length c.args.power.now ≡ length c.args.self.now =
     omega (arith, c.size-size.ensures.count, c.if-power-size.false) in
     c.write_power.ensures.power t
-    ∙ ap (λ z. i2osp (os2ip c.args.base.now ^ c.args.exponent % z) (length c.args.power.now)) (sym n)
-    ∙ ap (λ k. i2osp (os2ip c.args.base.now ^ c.args.exponent % os2ip c.args.self.now) k) p
+    ∙ ap (λ z. i2osp (os2ip c.args.base.now ^ exponent_of c.args.exponent % z) (length c.args.power.now)) (sym n)
+    ∙ ap (λ k. i2osp (os2ip c.args.base.now ^ exponent_of c.args.exponent % os2ip c.args.self.now) k) p

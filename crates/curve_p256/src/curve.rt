@@ -4,7 +4,7 @@ ghost use Rattle.std.proofs.Common.{rules};
 ghost use Rattle.ecdsa_signatures.specs.Curves.{p256};
 
 use crate::coordinate::Coordinate;
-use crate::numbers::{Four, from_words, is_none, is_same, to_words};
+use crate::numbers::{Four, from_words, is_none, is_same, pushed, to_words};
 use crate::scalar::Scalar;
 use crate::{order_words, prime_words};
 use ecdsa_signatures::Curve;
@@ -88,7 +88,22 @@ impl Curve<4> for P256 {
         is_same(remainder, r.to_words())
     }
 
+    fn zero() -> [u64; 4] {
+        [0; 4]
+    }
+
+    fn pushed(words: &[u64; 4], octet: u8) -> Option<[u64; 4]> {
+        let more = pushed(from_words(words), octet)?;
+        Some(to_words(more))
+    }
+
     ghost same_prime = { Prim.search rules };
 
     ghost same_order = { Prim.search rules };
+
+    ghost same_bits = { Prim.search rules };
+
+    ghost prime_fits = { Prim.search rules };
+
+    ghost order_fits = { Prim.search rules };
 }

@@ -1,7 +1,9 @@
 //! Numbers in four words.
-ghost use Rattle.std.specs.Prelude.{◌≡◌, ◌+◌, ◌*◌, ◌^◌, ◌<◌, ◌↔◌, true, nat_eq};
+ghost use Rattle.std.specs.Prelude.{◌≡◌, ◌+◌, ◌*◌, ◌^◌, ◌<◌, ◌≤◌, ◌↔◌, true, nat_eq, IfSome, None};
 ghost use Rattle.curve_points.specs.Words.{number};
 ghost use Rattle.curve_p256.specs.Numbers.{four_words};
+
+use curve_words::multiply_add;
 
 /// Four words, the least first.
 #[derive(Clone, Copy)]
@@ -87,4 +89,25 @@ pub(crate) fn is_same(a: Four, b: Four) -> bool
         return false;
     }
     a.w3 == b.w3
+}
+
+/// The number with one octet more at its end, if it has no more words.
+pub(crate) fn pushed(a: Four, octet: u8) -> Option<Four>
+    ensures found { IfSome result (λ more. four_words more.w0 more.w1 more.w2 more.w3
+        ≡ (four_words a.w0 a.w1 a.w2 a.w3) * 256 + octet) }
+    ensures none { result ≡ None → 256 ^ 32 ≤ (four_words a.w0 a.w1 a.w2 a.w3) * 256 + octet }
+{
+    let p0 = multiply_add(a.w0, 256, u64::from(octet), 0);
+    let p1 = multiply_add(a.w1, 256, p0.high, 0);
+    let p2 = multiply_add(a.w2, 256, p1.high, 0);
+    let p3 = multiply_add(a.w3, 256, p2.high, 0);
+    if p3.high != 0 {
+        return None;
+    }
+    Some(Four {
+        w0: p0.low,
+        w1: p1.low,
+        w2: p2.low,
+        w3: p3.low,
+    })
 }

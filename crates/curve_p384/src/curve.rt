@@ -4,7 +4,7 @@ ghost use Rattle.std.proofs.Common.{rules};
 ghost use Rattle.ecdsa_signatures.specs.Curves.{p384};
 
 use crate::coordinate::Coordinate;
-use crate::numbers::{Six, from_words, is_none, is_same, to_words};
+use crate::numbers::{Six, from_words, is_none, is_same, pushed, to_words};
 use crate::scalar::Scalar;
 use crate::{order_words, prime_words};
 use ecdsa_signatures::Curve;
@@ -94,7 +94,22 @@ impl Curve<6> for P384 {
         is_same(remainder, r.to_words())
     }
 
+    fn zero() -> [u64; 6] {
+        [0; 6]
+    }
+
+    fn pushed(words: &[u64; 6], octet: u8) -> Option<[u64; 6]> {
+        let more = pushed(from_words(words), octet)?;
+        Some(to_words(more))
+    }
+
     ghost same_prime = { Prim.search rules };
 
     ghost same_order = { Prim.search rules };
+
+    ghost same_bits = { Prim.search rules };
+
+    ghost prime_fits = { Prim.search rules };
+
+    ghost order_fits = { Prim.search rules };
 }

@@ -1,7 +1,9 @@
 //! Numbers in six words.
-ghost use Rattle.std.specs.Prelude.{◌≡◌, ◌+◌, ◌*◌, ◌^◌, ◌<◌, ◌↔◌, true, nat_eq};
+ghost use Rattle.std.specs.Prelude.{◌≡◌, ◌+◌, ◌*◌, ◌^◌, ◌<◌, ◌≤◌, ◌↔◌, true, nat_eq, IfSome, None};
 ghost use Rattle.curve_points.specs.Words.{number};
 ghost use Rattle.curve_p384.specs.Numbers.{six_words};
+
+use curve_words::multiply_add;
 
 /// Six words, the least first.
 #[derive(Clone, Copy)]
@@ -107,4 +109,29 @@ pub(crate) fn is_same(a: Six, b: Six) -> bool
         return false;
     }
     a.w5 == b.w5
+}
+
+/// The number with one octet more at its end, if it has no more words.
+pub(crate) fn pushed(a: Six, octet: u8) -> Option<Six>
+    ensures found { IfSome result (λ more. six_words more.w0 more.w1 more.w2 more.w3 more.w4 more.w5
+        ≡ (six_words a.w0 a.w1 a.w2 a.w3 a.w4 a.w5) * 256 + octet) }
+    ensures none { result ≡ None → 256 ^ 48 ≤ (six_words a.w0 a.w1 a.w2 a.w3 a.w4 a.w5) * 256 + octet }
+{
+    let p0 = multiply_add(a.w0, 256, u64::from(octet), 0);
+    let p1 = multiply_add(a.w1, 256, p0.high, 0);
+    let p2 = multiply_add(a.w2, 256, p1.high, 0);
+    let p3 = multiply_add(a.w3, 256, p2.high, 0);
+    let p4 = multiply_add(a.w4, 256, p3.high, 0);
+    let p5 = multiply_add(a.w5, 256, p4.high, 0);
+    if p5.high != 0 {
+        return None;
+    }
+    Some(Six {
+        w0: p0.low,
+        w1: p1.low,
+        w2: p2.low,
+        w3: p3.low,
+        w4: p4.low,
+        w5: p5.low,
+    })
 }

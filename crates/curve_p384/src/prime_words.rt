@@ -30,7 +30,8 @@ fn take_word(t: Sum, a: u64, b: Six) -> Step
     requires reduced { six_words b.w0 b.w1 b.w2 b.w3 b.w4 b.w5 < prime }
     ensures value { 2 ^ 64
         * seven_words result.sum.t0 result.sum.t1 result.sum.t2 result.sum.t3 result.sum.t4 result.sum.t5 result.sum.t6
-        ≡ seven_words t.t0 t.t1 t.t2 t.t3 t.t4 t.t5 t.t6 + a * six_words b.w0 b.w1 b.w2 b.w3 b.w4 b.w5 + result.times * prime }
+        ≡ seven_words t.t0 t.t1 t.t2 t.t3 t.t4 t.t5 t.t6 + a * six_words b.w0 b.w1 b.w2 b.w3 b.w4 b.w5
+        + result.times * prime }
     ensures small { seven_words result.sum.t0 result.sum.t1 result.sum.t2 result.sum.t3 result.sum.t4 result.sum.t5
         result.sum.t6 < 2 * prime }
 {
@@ -70,7 +71,8 @@ pub(crate) fn reduced(t: Sum) -> Six
     ensures reduced { six_words result.w0 result.w1 result.w2 result.w3 result.w4 result.w5 < prime }
     ensures value { (seven_words t.t0 t.t1 t.t2 t.t3 t.t4 t.t5 t.t6
         ≡ six_words result.w0 result.w1 result.w2 result.w3 result.w4 result.w5)
-        ⊎ (seven_words t.t0 t.t1 t.t2 t.t3 t.t4 t.t5 t.t6 ≡ six_words result.w0 result.w1 result.w2 result.w3 result.w4 result.w5 + prime) }
+        ⊎ (seven_words t.t0 t.t1 t.t2 t.t3 t.t4 t.t5 t.t6
+        ≡ six_words result.w0 result.w1 result.w2 result.w3 result.w4 result.w5 + prime) }
 {
     let s0 = add_carry(t.t0, 0xffff_ffff_0000_0001, 0);
     let s1 = add_carry(t.t1, 0xffff_ffff, s0.high);

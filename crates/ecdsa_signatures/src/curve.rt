@@ -1,5 +1,5 @@
 //! What a curve's own crate gives.
-ghost use Rattle.std.specs.Prelude.{◌≡◌, ℕ, ◌*◌, ◌%◌, ◌^◌, ◌<◌, ◌≤◌, IfSome, None, length, true, false, nat_eq};
+ghost use Rattle.std.specs.Prelude.{◌≡◌, ℕ, ◌+◌, ◌*◌, ◌%◌, ◌^◌, ◌<◌, ◌≤◌, IfSome, None, length, true, false, nat_eq};
 ghost use Rattle.curve_points.specs.Residues.{Congruent};
 ghost use Rattle.curve_points.specs.Words.{number};
 ghost use Rattle.ecdsa_signatures.specs.Signatures.{Parameters, is_scalar};
@@ -56,7 +56,22 @@ pub trait Curve<const WORDS: usize> {
     fn is_remainder(x: &Self::Coordinate, r: &Self::Scalar) -> bool
         ensures { result ≡ nat_eq (Self.Coordinate.value x.now % parameters.n) (Self.Scalar.value r.now) };
 
+    /// 0.
+    fn zero() -> [u64; WORDS]
+        ensures { number result ≡ 0 };
+
+    /// The number with one octet more at its end, if these words hold it.
+    fn pushed(words: &[u64; WORDS], octet: u8) -> Option<[u64; WORDS]>
+        ensures found { IfSome result (λ more. number more ≡ number words.now * 256 + octet) }
+        ensures none { result ≡ None → 256 ^ (8 * WORDS) ≤ number words.now * 256 + octet };
+
     ghost same_prime: { Self.Coordinate.modulus ≡ parameters.p };
 
     ghost same_order: { Self.Scalar.modulus ≡ parameters.n };
+
+    ghost same_bits: { 64 * WORDS ≡ parameters.bits };
+
+    ghost prime_fits: { parameters.p ≤ 256 ^ (8 * WORDS) };
+
+    ghost order_fits: { parameters.n ≤ 256 ^ (8 * WORDS) };
 }

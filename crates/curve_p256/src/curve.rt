@@ -103,6 +103,8 @@ impl Curve<4> for P256 {
 
     ghost same_bits = { Prim.search rules };
 
+    ghost few = { Prim.search rules };
+
     ghost prime_fits = { Prim.search rules };
 
     ghost order_fits = { Prim.search rules };

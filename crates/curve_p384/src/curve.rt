@@ -109,6 +109,8 @@ impl Curve<6> for P384 {
 
     ghost same_bits = { Prim.search rules };
 
+    ghost few = { Prim.search rules };
+
     ghost prime_fits = { Prim.search rules };
 
     ghost order_fits = { Prim.search rules };

@@ -71,6 +71,8 @@ pub trait Curve<const WORDS: usize> {
 
     ghost same_bits: { 64 * WORDS ≡ parameters.bits };
 
+    ghost few: { WORDS < 2 ^ 16 };
+
     ghost prime_fits: { parameters.p ≤ 256 ^ (8 * WORDS) };
 
     ghost order_fits: { parameters.n ≤ 256 ^ (8 * WORDS) };

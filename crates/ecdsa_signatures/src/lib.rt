@@ -5,7 +5,9 @@
 #![tactic(auto)]
 
 mod curve;
+mod laws;
 mod verifying;
 
 pub use curve::Curve;
+pub use laws::signature_rows_hold;
 pub use verifying::is_signature;

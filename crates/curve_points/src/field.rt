@@ -17,7 +17,9 @@ pub trait Residue: Drop {
 
     /// The product.
     fn times(&self, other: &Self) -> Self
+        // It is the product.
         ensures product { Congruent modulus (value result) (value self.now * value other.now) }
+        // It stands for a number below the modulus.
         ensures reduced { value result < modulus };
 
     /// Whether both are one number.

@@ -34,7 +34,9 @@ pub fn add_carry(a: u64, b: u64, c: u64) -> Wide
 /// a - b - c, of which c is a borrow: `low`, less 2^64 if `high` is 1.
 pub fn subtract_borrow(a: u64, b: u64, c: u64) -> Wide
     requires { c ≤ 1 }
+    // The difference, and 2^64 if there is a borrow.
     ensures value { result.low + b + c ≡ a + 2 ^ 64 * result.high }
+    // The upper word is a borrow.
     ensures borrow { result.high ≤ 1 }
 {
     let rest = 0x1_0000_0000_0000_0000 + u128::from(a) - u128::from(b) - u128::from(c);

@@ -54,7 +54,9 @@ pub fn is_signature_in_octets<const WORDS: usize, C: Curve<WORDS>>(
 
 /// The same on P-256.
 pub fn is_p256_signature(x: &[u8], y: &[u8], digest: &[u8], signature: &[u8]) -> Option<bool>
+    // It says what the definition does.
     ensures found { IfSome result (λ b. b ≡ is_signed_in_octets p256 x.now y.now digest.now signature.now) }
+    // If it says nothing, a number shows that p or n is no prime.
     ensures none { result ≡ None → HasWitness p256.p ⊎ HasWitness p256.n }
 {
     is_signature_in_octets::<4, P256>(x, y, digest, signature)
@@ -62,7 +64,9 @@ pub fn is_p256_signature(x: &[u8], y: &[u8], digest: &[u8], signature: &[u8]) ->
 
 /// The same on P-384.
 pub fn is_p384_signature(x: &[u8], y: &[u8], digest: &[u8], signature: &[u8]) -> Option<bool>
+    // It says what the definition does.
     ensures found { IfSome result (λ b. b ≡ is_signed_in_octets p384 x.now y.now digest.now signature.now) }
+    // If it says nothing, a number shows that p or n is no prime.
     ensures none { result ≡ None → HasWitness p384.p ⊎ HasWitness p384.n }
 {
     is_signature_in_octets::<6, P384>(x, y, digest, signature)

@@ -51,7 +51,8 @@ returns-in_default-clause-found g c =
     (fields_value c.in-Ok.value) c.in-Ok.ensures.exact
     (sym (ap is_natural c.bytes.ensures.octets) ∙ sym c.is_natural.ensures ∙ c.if-not-is_natural.false)
     (sym (ap is_natural c.bytes-2.ensures.octets) ∙ sym c.is_natural-2.ensures ∙ c.if-not-is_natural-2.false)
-    (256 ^ (8 * g.row.WORDS)) g.met.C.Curve.order_fits (subst (λ k. 256 ^ (8 * g.row.WORDS) ≤ number_of k) c.bytes-3.ensures.octets many)
+    (256 ^ (8 * g.row.WORDS)) g.met.C.Curve.order_fits
+    (subst (λ k. 256 ^ (8 * g.row.WORDS) ≤ number_of k) c.bytes-3.ensures.octets many)
 
 pub returns-in_default-number_of-clause-found : goal.returns-in_default-number_of-clause-found
 returns-in_default-number_of-clause-found g c =
@@ -60,7 +61,8 @@ returns-in_default-number_of-clause-found g c =
     (fields_value c.in-Ok.value) c.in-Ok.ensures.exact
     (sym (ap is_natural c.bytes.ensures.octets) ∙ sym c.is_natural.ensures ∙ c.if-not-is_natural.false)
     (sym (ap is_natural c.bytes-2.ensures.octets) ∙ sym c.is_natural-2.ensures ∙ c.if-not-is_natural-2.false)
-    (256 ^ (8 * g.row.WORDS)) g.met.C.Curve.order_fits (subst (λ k. 256 ^ (8 * g.row.WORDS) ≤ number_of k) c.bytes-4.ensures.octets many)
+    (256 ^ (8 * g.row.WORDS)) g.met.C.Curve.order_fits
+    (subst (λ k. 256 ^ (8 * g.row.WORDS) ≤ number_of k) c.bytes-4.ensures.octets many)
 
 pub returns-in_default-number_of-2-clause-found : goal.returns-in_default-number_of-2-clause-found
 returns-in_default-number_of-2-clause-found g c =

@@ -2,11 +2,11 @@
 use Rattle.std.proofs.Common.{refl}
 use Rattle.curve_points.specs.Residues.{minus, found_below, inverse}
 use Rattle.curve_points.specs.Points.{third_x, third_y, chord_slope, tangent_slope, double, sum, multiple}
-use Rattle.ecdsa_signatures.specs.Signatures.{compared_point, is_signed}
+use Rattle.ecdsa_signatures.specs.Signatures.{found_point, is_signed}
 use Rattle.ecdsa_signatures.specs.Rows.{SignatureRows}
 
 pub signature_rows : SignatureRows
-unfolding is_signed compared_point multiple sum double chord_slope tangent_slope third_x third_y inverse found_below minus
+unfolding is_signed found_point multiple sum double chord_slope tangent_slope third_x third_y inverse found_below minus
 signature_rows = record {
   good = refl;
   other_number = refl;

@@ -7,7 +7,7 @@ use Rattle.curve_points.specs.Residues.{Congruent, inverse, HasWitness}
 use Rattle.curve_points.specs.Points.{affine, is_on_curve, sum, multiple}
 use Rattle.curve_points.proofs.Congruence.{turned, chained, summed, multiplied, scaled, combined}
 use Rattle.curve_points.proofs.Units.{inverse_only, none_left}
-use Rattle.ecdsa_signatures.specs.Signatures.{Parameters, is_scalar, leaves, compared_point, is_signed}
+use Rattle.ecdsa_signatures.specs.Signatures.{Parameters, is_scalar, leaves, found_point, is_signed}
 
 no_first : (a b : Bool) → a ≡ false → false ≡ (a && b)
 no_first true b h = cc
@@ -36,7 +36,7 @@ bad_s c x y e r s h k l =
 
 -- the last test decides
 pub last_is : (c : Parameters) (x y e r s : ℕ) (b : Bool) → is_on_curve c.p c.b x y ≡ true → is_scalar c.n r ≡ true
-    → is_scalar c.n s ≡ true → b ≡ leaves c.n r (compared_point c x y e r s) → b ≡ is_signed c x y e r s
+    → is_scalar c.n s ≡ true → b ≡ leaves c.n r (found_point c x y e r s) → b ≡ is_signed c x y e r s
 unfolding is_signed
 last_is c x y e r s b h k l m =
     m ∙ of_first (is_scalar c.n s) _ l ∙ of_first (is_scalar c.n r) _ k ∙ of_first (is_on_curve c.p c.b x y) _ h
@@ -93,8 +93,8 @@ quotient_is n m a s d i t S u e large f is_inverse is_d is_t is_u =
 -- the point that the code found
 pub compared_is : (c : Parameters) (q k l X Y G H u v x y e r s : ℕ) → q ≡ c.p → k ≡ c.bits → l ≡ c.bits
     → G ≡ c.base_x → H ≡ c.base_y → X ≡ x → Y ≡ y → u ≡ (e * inverse c.n s) % c.n → v ≡ (r * inverse c.n s) % c.n
-    → sum q (multiple q (affine G H) k u) (multiple q (affine X Y) l v) ≡ compared_point c x y e r s
-unfolding compared_point
+    → sum q (multiple q (affine G H) k u) (multiple q (affine X Y) l v) ≡ found_point c x y e r s
+unfolding found_point
 compared_is c q k l X Y G H u v x y e r s is_q is_k is_l is_g is_h is_x is_y is_u is_v =
     ap (λ n. sum n (multiple n (affine G H) k u) (multiple n (affine X Y) l v)) is_q
     ∙ ap (λ n. sum c.p (multiple c.p (affine G H) n u) (multiple c.p (affine X Y) l v)) is_k

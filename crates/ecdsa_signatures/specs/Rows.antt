@@ -1,7 +1,7 @@
 -- Worked rows: signatures on two small curves, made and verified by a program in Python that inverts by `pow`.
 use Rattle.std.specs.Prelude.{◌≡◌, true, false}
 use Rattle.curve_points.specs.Points.{infinity, affine}
-use Rattle.ecdsa_signatures.specs.Signatures.{Parameters, leaves, compared_point, is_signed}
+use Rattle.ecdsa_signatures.specs.Signatures.{Parameters, leaves, found_point, is_signed}
 
 -- y^2 = x^3 - 3 x + 15 modulo 103, with 113 points, and a key of it: (61, 25), which is 41 times the base point
 abbrev pub small : Parameters
@@ -29,10 +29,10 @@ pub record SignatureRows : Type 0 where
   pub x_above : is_signed small 164 25 77 98 70 ≡ false
   pub y_above : is_signed small 61 128 77 98 70 ≡ false
   -- the point is infinity, which leaves no remainder, not even 0
-  pub infinite : compared_point small 61 25 50 98 70 ≡ infinity
+  pub infinite : found_point small 61 25 50 98 70 ≡ infinity
   pub infinite_leaves_none : leaves 113 0 infinity ≡ false
   pub refused_infinite : is_signed small 61 25 50 98 70 ≡ false
   -- the point's first coordinate is 98, which is 1 modulo 97
-  pub above_order : compared_point fewer 54 13 50 1 94 ≡ affine 98 55
+  pub above_order : found_point fewer 54 13 50 1 94 ≡ affine 98 55
   pub modulo_order : is_signed fewer 54 13 50 1 94 ≡ true
   pub not_modulo_order : is_signed fewer 54 13 50 98 94 ≡ false

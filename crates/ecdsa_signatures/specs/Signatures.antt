@@ -23,8 +23,8 @@ leaves n r infinity = false
 leaves n r (affine x y) = nat_eq (x % n) r
 
 -- The point that r is compared with: (e / s) G + (r / s) Q, with Q at (x, y).
-unfoldable pub compared_point : Parameters → (x y e r s : ℕ) → Point
-compared_point c x y e r s =
+unfoldable pub found_point : Parameters → (x y e r s : ℕ) → Point
+found_point c x y e r s =
     sum c.p
     (multiple c.p (affine c.base_x c.base_y) c.bits ((e * inverse c.n s) % c.n))
     (multiple c.p (affine x y) c.bits ((r * inverse c.n s) % c.n))
@@ -32,4 +32,4 @@ compared_point c x y e r s =
 -- Whether (x, y) is a key, a point of the curve other than infinity, and (r, s) a signature of the number e under it.
 unfoldable pub is_signed : Parameters → (x y e r s : ℕ) → Bool
 is_signed c x y e r s =
-    is_on_curve c.p c.b x y && (is_scalar c.n r && (is_scalar c.n s && leaves c.n r (compared_point c x y e r s)))
+    is_on_curve c.p c.b x y && (is_scalar c.n r && (is_scalar c.n s && leaves c.n r (found_point c x y e r s)))

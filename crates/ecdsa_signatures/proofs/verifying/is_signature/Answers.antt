@@ -3,7 +3,7 @@ use Rattle.curve_points.specs.Words.{number}
 use Rattle.curve_points.specs.Points.{affine, infinity}
 use Rattle.curve_points.specs.Standing.{point_of}
 use Rattle.curve_points.proofs.Congruence.{equal}
-use Rattle.ecdsa_signatures.specs.Signatures.{is_scalar, leaves, compared_point}
+use Rattle.ecdsa_signatures.specs.Signatures.{is_scalar, leaves, found_point}
 use Rattle.ecdsa_signatures.proofs.Verdicts.{bad_key, bad_x, bad_y, bad_r, bad_s, key_is, last_is, not_none, witness_at}
 use Rattle.ecdsa_signatures.proofs.Verdicts.{quotient_is, compared_is}
 use Rattle.ecdsa_signatures.proofs.verifying.is_signature.Goals as goal
@@ -82,7 +82,7 @@ returns-in-Infinity-clause-found g c =
     let found = c.in_ok-to_affine.ensures.found _
     (c.added.ensures _ _ (c.multiple-first.ensures _ c.at.ensures) (c.multiple-second.ensures _ c.at-2.ensures)) in
     let is_infinity :
-    compared_point g.C.Curve.parameters (number c.args.x.now) (number c.args.y.now) (number c.args.e.now)
+    found_point g.C.Curve.parameters (number c.args.x.now) (number c.args.y.now) (number c.args.e.now)
     (number c.args.r.now) (number c.args.s.now) ≡ infinity =
     sym is_point ∙ found ∙ ap (point_of g.C.Coordinate.Residue.value) c.in-Infinity.is in
     last_is g.C.Curve.parameters (number c.args.x.now) (number c.args.y.now) (number c.args.e.now)
@@ -110,7 +110,7 @@ returns-clause-found g c =
     c.in-Some.ensures.found.0 c.in-Some-coordinate.ensures.found.0 first second in
     let found = c.in_ok-to_affine.ensures.found _
     (c.added.ensures _ _ (c.multiple-first.ensures _ c.at.ensures) (c.multiple-second.ensures _ c.at-2.ensures)) in
-    let is_pair : compared_point g.C.Curve.parameters (number c.args.x.now) (number c.args.y.now) (number c.args.e.now)
+    let is_pair : found_point g.C.Curve.parameters (number c.args.x.now) (number c.args.y.now) (number c.args.e.now)
     (number c.args.r.now) (number c.args.s.now)
     ≡ affine (g.C.Coordinate.Residue.value c.in-At.found) (g.C.Coordinate.Residue.value c.in-At.field-1) =
     sym is_point ∙ found ∙ ap (point_of g.C.Coordinate.Residue.value) c.in-At.is in

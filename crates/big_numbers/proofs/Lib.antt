@@ -1,0 +1,14 @@
+pub mod Values
+pub mod RowSteps
+pub mod DifferenceSteps
+pub mod Congruences
+pub mod ProductSteps
+pub mod InverseSteps
+pub mod Forms
+pub mod DoublingSteps
+pub mod PowerSteps
+pub mod OctetSteps
+pub mod WriteSteps
+pub mod OctetLaws
+pub mod ModulusSteps
+pub mod WorkedRows

@@ -1,0 +1,5 @@
+pub mod Numbers
+pub mod Montgomery
+pub mod RowParts
+pub mod Exponents
+pub mod NumberRows

@@ -1,0 +1,18 @@
+use Rattle.std.proofs.Common.{◌≡◌, ◌^◌}
+use Rattle.curve_points.proofs.Congruence.{equal, chained, summed}
+use Rattle.curve_words.specs.Forms.{meant}
+use Rattle.curve_words.proofs.Meaning.{of_sum}
+use Rattle.curve_p256.specs.Numbers.{four_words, prime, unscale}
+use Rattle.curve_p256.proofs.Forms.{prime_form}
+use Rattle.curve_p256.proofs.coordinate.CoordinateField.plus.Goals as goal
+
+pub returns : goal.returns
+returns c =
+    let here : meant prime unscale (four_words c.self.inside.words.w0 c.self.inside.words.w1 c.self.inside.words.w2
+    c.self.inside.words.w3) ≡ c.args.self.now =
+    c.self.view_is in
+    let there : meant prime unscale (four_words c.other.inside.words.w0 c.other.inside.words.w1 c.other.inside.words.w2
+    c.other.inside.words.w3) ≡ c.args.other.now =
+    c.other.view_is in
+    chained (of_sum prime unscale (2 ^ 256) prime_form _ _ _ c.sum-words.ensures.value)
+    (summed (equal prime _ _ here) (equal prime _ _ there))

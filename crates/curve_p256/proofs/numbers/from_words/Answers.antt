@@ -1,0 +1,5 @@
+use Rattle.curve_p256.proofs.WordSteps.{read_words}
+use Rattle.curve_p256.proofs.numbers.from_words.Goals as goal
+
+pub returns : goal.returns
+returns c = read_words c.args.words.now c.told-words

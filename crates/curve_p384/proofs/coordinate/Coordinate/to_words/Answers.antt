@@ -1,0 +1,20 @@
+use Rattle.std.proofs.Common.{◌≡◌, ◌^◌, ◌<◌, ◌∙◌, subst}
+use Rattle.curve_words.specs.Forms.{meant}
+use Rattle.curve_words.proofs.Meaning.{of_words, below}
+use Rattle.curve_p384.specs.Numbers.{six_words, prime, unscale}
+use Rattle.curve_p384.proofs.Forms.{prime_form}
+use Rattle.curve_p384.proofs.coordinate.Coordinate.to_words.Goals as goal
+
+pub returns-clause-value : goal.returns-clause-value
+returns-clause-value c =
+    let here : meant prime unscale (six_words c.self.inside.words.w0 c.self.inside.words.w1 c.self.inside.words.w2
+    c.self.inside.words.w3 c.self.inside.words.w4 c.self.inside.words.w5) ≡ c.args.self.now =
+    c.self.view_is in
+    of_words prime unscale (2 ^ 384) prime_form _ _ c.product.ensures.reduced c.product.ensures.value ∙ here
+
+pub returns-clause-reduced : goal.returns-clause-reduced
+returns-clause-reduced c =
+    let here : meant prime unscale (six_words c.self.inside.words.w0 c.self.inside.words.w1 c.self.inside.words.w2
+    c.self.inside.words.w3 c.self.inside.words.w4 c.self.inside.words.w5) ≡ c.args.self.now =
+    c.self.view_is in
+    subst (λ k. k < prime) here (below prime unscale (2 ^ 384) prime_form _)

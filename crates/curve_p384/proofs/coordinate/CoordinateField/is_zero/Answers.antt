@@ -1,0 +1,17 @@
+use Rattle.std.proofs.Common.{◌≡◌, ◌^◌}
+use Rattle.curve_points.proofs.Congruence.{equal, turned, chained}
+use Rattle.curve_words.specs.Forms.{meant}
+use Rattle.curve_words.proofs.Meaning.{is_zero}
+use Rattle.curve_p384.specs.Numbers.{six_words, prime, unscale}
+use Rattle.curve_p384.proofs.Forms.{prime_form}
+use Rattle.curve_p384.proofs.coordinate.CoordinateField.is_zero.Goals as goal
+
+pub returns : goal.returns
+returns c =
+    let here : meant prime unscale (six_words c.self.inside.words.w0 c.self.inside.words.w1 c.self.inside.words.w2
+    c.self.inside.words.w3 c.self.inside.words.w4 c.self.inside.words.w5) ≡ c.args.self.now =
+    c.self.view_is in
+    let both = is_zero prime unscale (2 ^ 384) prime_form _ _ c.self.invariant c.is_none.ensures in (
+      (λ h. chained (turned (equal prime _ _ here)) (both.0 h)),
+      (λ h. both.1 (chained (equal prime _ _ here) h)),
+    )

@@ -1,0 +1,19 @@
+use Rattle.std.proofs.Common.{◌≡◌, ◌^◌, refl}
+use Rattle.curve_points.proofs.Congruence.{equal, turned, chained, summed}
+use Rattle.curve_words.specs.Forms.{meant}
+use Rattle.curve_words.proofs.Meaning.{of_difference}
+use Rattle.curve_p384.specs.Numbers.{six_words, prime, unscale}
+use Rattle.curve_p384.proofs.Forms.{prime_form}
+use Rattle.curve_p384.proofs.coordinate.CoordinateField.minus.Goals as goal
+
+pub returns : goal.returns
+returns c =
+    let here : meant prime unscale (six_words c.self.inside.words.w0 c.self.inside.words.w1 c.self.inside.words.w2
+    c.self.inside.words.w3 c.self.inside.words.w4 c.self.inside.words.w5) ≡ c.args.self.now =
+    c.self.view_is in
+    let there : meant prime unscale (six_words c.other.inside.words.w0 c.other.inside.words.w1 c.other.inside.words.w2
+    c.other.inside.words.w3 c.other.inside.words.w4 c.other.inside.words.w5) ≡ c.args.other.now =
+    c.other.view_is in
+    chained (summed (equal prime _ _ refl) (turned (equal prime _ _ there)))
+    (chained (of_difference prime unscale (2 ^ 384) prime_form _ _ _ c.difference-words.ensures.value)
+    (equal prime _ _ here))

@@ -1,0 +1,7 @@
+use Rattle.std.proofs.Common.{refl}
+use Rattle.curve_points.specs.Words.{number}
+use Rattle.curve_p384.proofs.curve.P384Curve6.zero.Goals as goal
+
+pub returns : goal.returns
+unfolding number
+returns c = refl

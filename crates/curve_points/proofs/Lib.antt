@@ -1,0 +1,10 @@
+pub mod Congruence
+pub mod Units
+pub mod PowerSteps
+pub mod BitSteps
+pub mod Tangent
+pub mod Chord
+pub mod SumSteps
+pub mod StandingSteps
+pub mod MultipleSteps
+pub mod Rows

@@ -1,0 +1,3 @@
+pub mod ValueReaders
+pub mod NumberSteps
+pub mod Verdicts

@@ -1,0 +1,4 @@
+pub mod SignatureValue
+pub mod SignatureReading
+pub mod Fields
+pub mod Octets

@@ -1,0 +1,9 @@
+pub mod Bytes
+pub mod KeyReaders
+pub mod ParameterReaders
+pub mod ParameterLaws
+pub mod Signs
+pub mod Sizes
+pub mod Judging
+pub mod KeyLaws
+pub mod WorkedRows

@@ -1,0 +1,3 @@
+pub mod Pkcs1
+pub mod Pss
+pub mod SignatureRows
